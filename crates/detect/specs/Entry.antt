@@ -1,0 +1,38 @@
+-- What `find_extrema` answers and leaves in the lent words. Definitions only.
+use Prim.Native.Nat.{ℕ, _*_}
+use mathlib.Core.Bool.{not}
+use mathlib.Core.List.{List, [], _∷_}
+use lib.ListN.{length}
+use lib.Ieee.{Float}
+use Rattle.params.specs.Table.{line, firstFault, shapeWrong, layersWrong, lengthWrong, settingsWrong, allGood}
+use Rattle.params.specs.Answers.{answerOf, landed}
+use Rattle.params.specs.declared.Settings.{Settings}
+use Rattle.params.specs.declared.Answer.{Answer}
+use Rattle.refine.specs.declared.RawKeypoint.{RawKeypoint}
+use Rattle.detect.specs.Neighbours.{tied}
+use Rattle.detect.specs.Scan.{keypoints, keypointWords, words}
+
+-- the checks in the order of the table; 5 has no argument here
+unfoldable pub faultOf : List Float → ℕ → ℕ → ℕ → ℕ → ℕ → Settings → ℕ
+faultOf d w h planes layer octave s =
+    firstFault
+    (line 1 (shapeWrong w h)
+    ∷ line 2 (layersWrong planes layer (s .layers))
+    ∷ line 3 (lengthWrong (length d) (planes * h * w))
+    ∷ line 4 (settingsWrong s octave)
+    ∷ line 6 (not (allGood d))
+    ∷ [])
+
+-- the list that the source's rule gives
+abbrev pub listOf : List Float → ℕ → ℕ → ℕ → ℕ → Settings → List RawKeypoint
+listOf d w h layer octave s = keypoints tied d w h s octave layer
+
+-- the answer, at `room` words lent: 7 counts keypoints
+unfoldable pub extremaAnswer : List Float → ℕ → ℕ → ℕ → ℕ → ℕ → Settings → ℕ → Answer
+extremaAnswer d w h planes layer octave s room =
+    answerOf (faultOf d w h planes layer octave s) (length (listOf d w h layer octave s)) (keypointWords * length (listOf d w h layer octave s)) room
+
+-- the lent words afterwards
+unfoldable pub extremaOut : List Float → ℕ → ℕ → ℕ → ℕ → ℕ → Settings → List ℕ → List ℕ
+extremaOut d w h planes layer octave s out =
+    landed (extremaAnswer d w h planes layer octave s (length out)) (words (listOf d w h layer octave s)) out

@@ -1,0 +1,3 @@
+pub mod Neighbours
+pub mod Scan
+pub mod Entry

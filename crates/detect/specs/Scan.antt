@@ -1,0 +1,45 @@
+-- The keypoints of one layer, row by row, and the words that they go out as. Definitions only.
+use Prim.Native.Nat.{ℕ, _+_, _-_, _*_}
+use mathlib.Core.Bool.{cond}
+use mathlib.Core.List.{List, [], _∷_, _++_}
+use lib.Ieee.{Float}
+use Rattle.ieee.specs.F32.{bitsOf}
+use Rattle.lists.specs.Ranges.{joined}
+use Rattle.params.specs.Limits.{border}
+use Rattle.params.specs.Threshold.{thresholdOf}
+use Rattle.params.specs.declared.Settings.{Settings}
+use Rattle.refine.specs.Keypoint.{refineOf}
+use Rattle.refine.specs.declared.RawKeypoint.{RawKeypoint}
+use Rattle.refine.specs.declared.Refined.{Refined}
+use Rattle.refine.specs.declared.Refined.the-variants.{Dropped, At}
+use Rattle.detect.specs.Neighbours.{Rule, candidate}
+
+abbrev pub kept : Refined → List RawKeypoint
+kept Dropped = []
+kept (At k) = k ∷ []
+
+-- what the cell (p, r, c) gives: nothing, or the keypoint that it is refined to
+unfoldable pub found : Rule → List Float → ℕ → ℕ → Settings → ℕ → ℕ → ℕ → ℕ → List RawKeypoint
+found rule d w h s octave p r c =
+    cond (candidate rule (thresholdOf (s .contrast) (s .layers)) d w h p r c) (kept (refineOf d w h s octave p r c)) []
+
+-- the cells of a row that are at least the border from both edges, from left to right
+unfoldable pub rowOf : Rule → List Float → ℕ → ℕ → Settings → ℕ → ℕ → ℕ → List RawKeypoint
+rowOf rule d w h s octave p r = joined border (w - border) (λ c. found rule d w h s octave p r c)
+
+-- the rows that are at least the border from both edges, from top to bottom
+unfoldable pub keypoints : Rule → List Float → ℕ → ℕ → Settings → ℕ → ℕ → List RawKeypoint
+keypoints rule d w h s octave p = joined border (h - border) (λ r. rowOf rule d w h s octave p r)
+
+-- a keypoint goes out as so many words
+abbrev pub keypointWords : ℕ
+keypointWords = 10
+
+-- x, y, size, response, octave, layer, xi, cc, rr and the moves
+abbrev pub wordsOf : RawKeypoint → List ℕ
+wordsOf k =
+    bitsOf (k .x) ∷ bitsOf (k .y) ∷ bitsOf (k .size) ∷ bitsOf (k .response) ∷ k .octave ∷ k .layer ∷ bitsOf (k .xi) ∷ k .cc ∷ k .rr ∷ k .moves ∷ []
+
+unfoldable pub words : List RawKeypoint → List ℕ
+words [] = []
+words (k ∷ ks) = wordsOf k ++ words ks

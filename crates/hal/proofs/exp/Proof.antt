@@ -1,0 +1,20 @@
+use Rattle.hal.specs.Powers.{powers}
+use mathlib.Core.Path.{refl}
+use borrow.Author.Needs.{needs}
+use Rattle.hal.proofs.exp.Statement.{statement}
+use Rattle.hal.proofs.exp.Tie as tie
+use Rattle.hal.proofs.exp.Reads as reads
+use Rattle.hal.proofs.exp.Lts as lts
+use Rattle.hal.proofs.exp_with.Reads as exp-with-reads
+
+-- src/lib.rt:357:5
+exp-with-requires : tie.Need-exp-with-requires
+unfolding powers
+exp-with-requires c κs = refl
+
+-- src/lib.rt:354:1
+returns : tie.Need-returns
+returns c = search needs
+
+pub exp-spec : {M : Type 1} → statement M
+exp-spec = tie.close (tie.spec exp-with-requires returns)

@@ -1,0 +1,20 @@
+use Rattle.hal.specs.Powers.{powers}
+use mathlib.Core.Path.{refl}
+use borrow.Author.Needs.{needs}
+use Rattle.hal.proofs.exp2.Statement.{statement}
+use Rattle.hal.proofs.exp2.Tie as tie
+use Rattle.hal.proofs.exp2.Reads as reads
+use Rattle.hal.proofs.exp2.Lts as lts
+use Rattle.hal.proofs.exp2_with.Reads as exp2-with-reads
+
+-- src/lib.rt:351:5
+exp2-with-requires : tie.Need-exp2-with-requires
+unfolding powers
+exp2-with-requires c κs = refl
+
+-- src/lib.rt:348:1
+returns : tie.Need-returns
+returns c = search needs
+
+pub exp2-spec : {M : Type 1} → statement M
+exp2-spec = tie.close (tie.spec exp2-with-requires returns)

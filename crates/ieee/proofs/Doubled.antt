@@ -1,0 +1,264 @@
+-- a * b + c of f32s in binary64, and the f32 of a pattern of binary64. Assumes nothing.
+use mathlib.Core.Path.{_≡_, refl, sym, ap, ap₂, _∙_, subst}
+use mathlib.Core.Logic.{_⊎_, inl, inr}
+use Prim.Native.Nat.{ℕ, zero, suc, _+_, _-_, _*_, _/_, _%_, _^_, _≤_, _<_}
+use native.Mathlib.Nat.{le-refl, le-trans, le-of-eq, le-of-lt, lt-of-lt-of-le, lt-of-le-of-lt, mul-comm, mul-assoc, mul-left-comm, mul-pos, mul-le-mul, mod-lt, mod-eq-of-lt, zero-add, lt-irrefl}
+use native.Mathlib.Omega.{arith}
+use mathlib.Core.Bool.{Bool, true, false, not, cond, true≢false, false≢true}
+use lib.Dec.{T, leb, eqb, not-T, eqb→eq, lit<, lit≤}
+use lib.Arith.{lt→nleb}
+use lib.Pow.{pow-add, pow-pos, pow-mono, shl-lt}
+use lib.IntN.{ℤ, pos}
+use lib.Ieee.{Float, nan, inf, fin, Format, binary32, binary64, prec, emax, low, hid, ones, top, up, down, unlike, odd, units, round, sum, add, mul, fits, isNan, toBits, ofBits, ofFields}
+use lib.Ieee.Fits.{round-is, down-pos, add-fits}
+use lib.Ieee.Bits.{is-false, ofBits-toBits}
+use lib.Ieee.Exact.{HasValue, units-val, odd-sign, round-exact}
+use lib.Ieee.Order.{drop, kept}
+use lib.Ieee.Scale.{finite, grid, overflow, round-same}
+use lib.Ieee.Nearest.{closest}
+use Rattle.ieee.specs.Fused.{fma, convert}
+use Rattle.ieee.specs.Parts.{Splits, Clear}
+use Rattle.ieee.proofs.Size.{le-or-lt}
+use Rattle.ieee.proofs.Fields.{ofBits-is, normal-is, value-low, value-normal, field-ne}
+use Rattle.ieee.proofs.Plain.{value-no-nan}
+use Rattle.ieee.proofs.Product.{fma-parts, powers, later}
+use Rattle.ieee.proofs.Sums.{sum-same}
+use Rattle.ieee.proofs.Cases.{normal-case}
+use Rattle.ieee.proofs.Twice.{half-up, sum-twice, sum-rounds, units-over}
+
+ruleset ac = (mul-assoc, mul-comm, mul-left-comm)
+
+-- ---- the parts of a finite f32
+pub record Split (v : Float) : Type 0 where
+  pub s : Bool
+  pub m : ℕ
+  pub x : ℕ
+  pub parts : Splits 149 24 253 v s m x
+
+pub split32 : (v : Float) → T (fits binary32 v) → finite v ≡ true → Split v
+split32 v h n = elim (le-or-lt (toBits binary32 v % 2 ^ 31 / 2 ^ 23) 0) [
+  | inl z ↦ record { s = leb (top binary32) (toBits binary32 v); m = toBits binary32 v % 2 ^ 23; x = 0; parts = record { value = value-low binary32 v h n (omega arith); digits = omega (arith, mod-lt (toBits binary32 v) (pow-pos 23)); place = omega arith } }
+  | inr z ↦
+      (let b = toBits binary32 v in
+      let e = b % 2 ^ 31 / 2 ^ 23 in
+      let up : e ≡ suc (e - 1) = omega arith in
+      let ne : suc (e - 1) ≡ 255 → ⊥ = field-ne binary32 v h n (e - 1) up in
+      record { s = leb (top binary32) b; m = 2 ^ 23 + b % 2 ^ 23; x = e - 1; parts = record { value = value-normal binary32 v h n (e - 1) up; digits = omega (arith, mod-lt b (pow-pos 23)); place = omega (arith, mod-lt b (pow-pos 31), ne) } })
+]
+
+-- ---- what a finite result tells of the operands
+pub add-finite : (f : Format) (x y : Float) → finite (add f x y) ≡ true → (finite x ≡ true) × (finite y ≡ true)
+unfolding add
+add-finite f nan y h = absurd (false≢true h)
+add-finite f (inf s) nan h = absurd (false≢true h)
+add-finite f (inf true) (inf true) h = absurd (false≢true h)
+add-finite f (inf true) (inf false) h = absurd (false≢true h)
+add-finite f (inf false) (inf true) h = absurd (false≢true h)
+add-finite f (inf false) (inf false) h = absurd (false≢true h)
+add-finite f (inf s) (fin t n d) h = absurd (false≢true h)
+add-finite f (fin s m e) nan h = absurd (false≢true h)
+add-finite f (fin s m e) (inf t) h = absurd (false≢true h)
+add-finite f (fin s m e) (fin t n d) h = (refl, refl)
+
+pick : (b : Bool) (s : Bool) → finite (cond b nan (inf s)) ≡ true → ⊥
+pick true s h = false≢true h
+pick false s h = false≢true h
+
+pub mul-finite : (f : Format) (x y : Float) → finite (mul f x y) ≡ true → (finite x ≡ true) × (finite y ≡ true)
+unfolding mul
+mul-finite f nan y h = absurd (false≢true h)
+mul-finite f (inf s) nan h = absurd (false≢true h)
+mul-finite f (inf s) (inf t) h = absurd (false≢true h)
+mul-finite f (inf s) (fin t n d) h = absurd (pick (eqb n 0) (unlike s t) h)
+mul-finite f (fin s m e) nan h = absurd (false≢true h)
+mul-finite f (fin s m e) (inf t) h = absurd (pick (eqb m 0) (unlike s t) h)
+mul-finite f (fin s m e) (fin t n d) h = (refl, refl)
+
+-- ---- a rounded fraction is no NaN
+inf-no-nan : (s : Bool) → T (not (isNan (inf s)))
+unfolding isNan
+inf-no-nan s = tt
+
+pub round-no-nan : (f : Format) (s : Bool) (a c : ℕ) → T (not (isNan (round f s a c)))
+round-no-nan f s a c = subst (λ (r : Float). T (not (isNan r))) (sym (round-is f s a c)) (elim (le-or-lt (overflow f) (grid f a c)) [
+  | inl g ↦ subst (λ (r : Float). T (not (isNan r))) (sym (units-over f s (kept (prec f) (a * 2 ^ low f) c) (drop (prec f) (a * 2 ^ low f) c) g)) (inf-no-nan s)
+  | inr g ↦ value-no-nan (units f s (kept (prec f) (a * 2 ^ low f) c) (drop (prec f) (a * 2 ^ low f) c)) s (grid f a c) (2 ^ low f) (units-val f s (kept (prec f) (a * 2 ^ low f) c) (drop (prec f) (a * 2 ^ low f) c) g)
+])
+
+-- ---- product and sum by the operands' values
+pair : (X Y De Dd A B L : ℕ) → X * L ≡ A * De → Y * L ≡ B * Dd → X * Y * (L * L) ≡ A * B * (De * Dd)
+pair X Y De Dd A B L p q = regroup ∙ ap₂ (λ (a b : ℕ). a * b) p q ∙ simp ac
+  where
+    regroup : X * Y * (L * L) ≡ X * L * (Y * L)
+    regroup = simp ac
+
+mul-parts : (f : Format) (x y : Float) (s t : Bool) (A B L : ℕ) → 0 < L → HasValue x s A L → HasValue y t B L → mul f x y ≡ round f (unlike s t) (A * B) (L * L)
+unfolding mul
+mul-parts f nan y s t A B L P X Y = absurd X
+mul-parts f (inf _) y s t A B L P X Y = absurd X
+mul-parts f (fin s' M e) nan s t A B L P X Y = absurd Y
+mul-parts f (fin s' M e) (inf _) s t A B L P X Y = absurd Y
+mul-parts f (fin s' M e) (fin t' N d) s t A B L P X Y =
+    ap (λ (u : Bool). round f u (M * up e * (N * up d)) (down e * down d)) (ap₂ unlike (X .0) (Y .0))
+    ∙ round-same f (unlike s t) (M * up e * (N * up d)) (down e * down d) (A * B) (L * L) (mul-pos (down-pos e) (down-pos d)) (mul-pos P P) (pair (M * up e) (N * up d) (down e) (down d) A B L (X .1) (Y .1))
+
+first : (X Dd De A L : ℕ) → X * L ≡ A * De → X * Dd * L ≡ A * (De * Dd)
+first X Dd De A L p = regroup ∙ ap (λ (a : ℕ). a * Dd) p ∙ mul-assoc A De Dd
+  where
+    regroup : X * Dd * L ≡ X * L * Dd
+    regroup = simp ac
+
+second : (Y Dd De B L : ℕ) → Y * L ≡ B * Dd → Y * De * (L * L) ≡ B * L * (De * Dd)
+second Y Dd De B L p = regroup ∙ ap (λ (a : ℕ). a * De * L) p ∙ simp ac
+  where
+    regroup : Y * De * (L * L) ≡ Y * L * De * L
+    regroup = simp ac
+
+add-parts : (f : Format) (x y : Float) (s t : Bool) (A B L : ℕ) → 0 < L → HasValue x s A (L * L) → HasValue y t B L → add f x y ≡ sum f s A t (B * L) (L * L)
+unfolding add
+add-parts f nan y s t A B L P X Y = absurd X
+add-parts f (inf _) y s t A B L P X Y = absurd X
+add-parts f (fin s' M e) nan s t A B L P X Y = absurd Y
+add-parts f (fin s' M e) (inf _) s t A B L P X Y = absurd Y
+add-parts f (fin s' M e) (fin t' N d) s t A B L P X Y =
+    ap₂ (λ (a b : Bool). sum f a (M * up e * down d) b (N * up d * down e) (down e * down d)) (X .0) (Y .0)
+    ∙ sum-same f s (M * up e * down d) t (N * up d * down e) (down e * down d) A (B * L) (L * L) (mul-pos (down-pos e) (down-pos d)) (mul-pos P P) (first (M * up e) (down d) (down e) A (L * L) (X .1)) (second (N * up d) (down d) (down e) B L (Y .1))
+
+product-lt : (m n : ℕ) → m < 2 ^ 24 → n < 2 ^ 24 → m * n < 2 ^ 48
+product-lt m n a b =
+    let h : m ≤ 2 ^ 24 - 1 = omega arith in
+    let k : n ≤ 2 ^ 24 - 1 = omega arith in
+    lt-of-le-of-lt (mul-le-mul h k) (lit< tt)
+
+-- the product of two f32s is exact
+exact-product : (s : Bool) (m n i j : ℕ) → m < 2 ^ 24 → n < 2 ^ 24 → i ≤ 253 → j ≤ 253 → HasValue (round binary64 s (m * 2 ^ i * (n * 2 ^ j)) (2 ^ 149 * 2 ^ 149)) s (m * 2 ^ i * (n * 2 ^ j)) (2 ^ 149 * 2 ^ 149)
+exact-product s m n i j a b c d =
+    round-exact binary64 s (m * 2 ^ i * (n * 2 ^ j)) (2 ^ 149 * 2 ^ 149) (m * n) (i + j + 776) (mul-pos (pow-pos 149) (pow-pos 149)) (lt-of-lt-of-le (product-lt m n a b) (lit≤ tt))
+    (lt-of-lt-of-le (shl-lt 48 (i + j + 776) (product-lt m n a b)) (pow-mono {i = 48 + (i + j + 776)} {j = 2098} (omega arith)))
+    (ap (λ (z : ℕ). z * 2 ^ 1074) (powers m n i j) ∙ sym (mul-assoc (m * n * 2 ^ (i + j)) (2 ^ 776) (2 ^ 149 * 2 ^ 149)) ∙ ap (λ (z : ℕ). z * (2 ^ 149 * 2 ^ 149)) (later (m * n) (i + j) 776))
+
+module _ (a b c : Float) (A : Split a) (B : Split b) (C : Split c) where
+  abbrev S : Bool
+  S = unlike (A .s) (B .s)
+
+  abbrev P : ℕ
+  P = A .m * B .m * 2 ^ (A .x + B .x)
+
+  abbrev Q : ℕ
+  Q = C .m * 2 ^ (C .x + 149)
+
+  fma-is : (f : Format) → fma f a b c ≡ sum f S P (C .s) Q (2 ^ 149 * 2 ^ 149)
+  fma-is f = fma-parts f a b c (A .s) (B .s) (C .s) (A .m) (B .m) (C .m) (A .x) (B .x) (C .x) 149 (A .parts .value) (B .parts .value) (C .parts .value)
+
+  pub wide-is : add binary64 (mul binary64 a b) c ≡ fma binary64 a b c
+  wide-is =
+      add-parts binary64 (mul binary64 a b) c S (C .s) (A .m * 2 ^ A .x * (B .m * 2 ^ B .x)) (C .m * 2 ^ C .x) (2 ^ 149) (pow-pos 149)
+      (subst (λ (r : Float). HasValue r S (A .m * 2 ^ A .x * (B .m * 2 ^ B .x)) (2 ^ 149 * 2 ^ 149)) (sym (mul-parts binary64 a b (A .s) (B .s) (A .m * 2 ^ A .x) (B .m * 2 ^ B .x) (2 ^ 149) (pow-pos 149) (A .parts .value) (B .parts .value)))
+      (exact-product S (A .m) (B .m) (A .x) (B .x) (A .parts .digits) (B .parts .digits) (A .parts .place) (B .parts .place)))
+      (C .parts .value)
+      ∙ ap₂ (λ (p q : ℕ). sum binary64 S p (C .s) q (2 ^ 149 * 2 ^ 149)) (powers (A .m) (B .m) (A .x) (B .x)) (later (C .m) (C .x) 149)
+      ∙ sym (fma-is binary64)
+
+  pub wide-no-nan : T (not (isNan (fma binary64 a b c)))
+  wide-no-nan =
+      let w = sum-rounds S P (C .s) Q (2 ^ 149 * 2 ^ 149) in
+      subst (λ (r : Float). T (not (isNan r))) (sym (fma-is binary64 ∙ w .2 binary64)) (round-no-nan binary64 (w .0) (w .1) (2 ^ 149 * 2 ^ 149))
+
+-- ---- the value of a pattern that is clear
+pub converted : (v : Float) (s : Bool) (a l : ℕ) → HasValue v s a (2 ^ l) → convert binary32 v ≡ round binary32 s a (2 ^ l)
+unfolding convert
+converted nan s a l h = absurd h
+converted (inf t) s a l h = absurd h
+converted (fin t m e) s a l h = ap (λ (u : Bool). round binary32 u (m * up e) (down e)) (h .0) ∙ round-same binary32 s (m * up e) (down e) a (2 ^ l) (down-pos e) (pow-pos l) (h .1)
+
+module _ (n : ℕ) (k : Clear n) where
+  abbrev x : ℕ
+  x = n % 2 ^ 63 / 2 ^ 52 - 1
+
+  abbrev m : ℕ
+  m = 2 ^ 52 + n % 2 ^ 52
+
+  abbrev sign : Bool
+  sign = leb (top binary64) n
+
+  x-ge : 896 ≤ x
+  x-ge = omega (arith, k .low)
+
+  x-le : x ≤ 1149
+  x-le = omega (arith, k .high)
+
+  off : m % 2 ^ 29 ≡ 2 ^ 28 → ⊥
+  off e = k .off (omega arith)
+
+  field : n % 2 ^ 63 / 2 ^ 52 ≡ suc x
+  field = omega (arith, k .low)
+
+  clear-value : HasValue (ofBits binary64 n) sign (m * 2 ^ x) (2 ^ 1074)
+  clear-value =
+      subst (λ (v : Float). HasValue v sign (m * 2 ^ x) (2 ^ 1074))
+      (sym (ofBits-is binary64 n ∙ ap (λ (z : ℕ). ofFields binary64 sign z (n % 2 ^ 52)) field ∙ normal-is binary64 sign x (n % 2 ^ 52) (is-false (eqb (suc x) 2047) (not-T (eqb (suc x) 2047) (λ t. top-field (eqb→eq (suc x) 2047 t))))))
+      (odd-sign 53 sign m x 1074)
+    where
+      top-field : suc x ≡ 2047 → ⊥
+      top-field e = omega (arith, x-le)
+
+  pattern : (n % 2 ^ 63 - 4035225266123964416 + 268435456) / 536870912 ≡ (x - 896) * 2 ^ 23 + suc (m / 2 ^ 28) / 2
+  pattern = omega (arith, k .low)
+
+  pub close-is : ofBits binary32 (cond sign (top binary32) 0 + (n % 2 ^ 63 - 4035225266123964416 + 268435456) / 536870912) ≡ convert binary32 (ofBits binary64 n)
+  close-is =
+      ap (λ (z : ℕ). ofBits binary32 (cond sign (top binary32) 0 + z)) (pattern ∙ ap (λ (z : ℕ). (x - 896) * 2 ^ 23 + z) (sym (half-up m off)))
+      ∙ normal-case m x 11 52 (omega arith) (omega (arith, mod-lt n (pow-pos 52))) refl sign (x - 896) (omega (arith, x-ge)) (omega (arith, x-le))
+      ∙ sym (converted (ofBits binary64 n) sign (m * 2 ^ x) 1074 clear-value)
+
+  pub close-le : (n % 2 ^ 63 - 4035225266123964416 + 268435456) / 536870912 ≤ 2139095040
+  close-le = omega (arith, k .high)
+
+  pub clear-finite : finite (ofBits binary64 n) ≡ true
+  clear-finite = at (ofBits binary64 n) clear-value
+    where
+      at : (v : Float) → HasValue v sign (m * 2 ^ x) (2 ^ 1074) → finite v ≡ true
+      at nan h = absurd h
+      at (inf s) h = absurd h
+      at (fin s m e) h = refl
+
+  pub fma-close : (a b c : Float) → Split a → Split b → Split c → ofBits binary64 n ≡ fma binary64 a b c → convert binary32 (ofBits binary64 n) ≡ fma binary32 a b c
+  fma-close a b c A B C e =
+      converted (ofBits binary64 n) sign (m * 2 ^ x) 1074 clear-value
+      ∙ sym (fma-is a b c A B C binary32
+      ∙ sum-twice (unlike (A .s) (B .s)) (A .m * B .m * 2 ^ (A .x + B .x)) (C .s) (C .m * 2 ^ (C .x + 149)) (2 ^ 149 * 2 ^ 149) sign m x (mul-pos (pow-pos 149) (pow-pos 149)) (omega arith) (omega (arith, mod-lt n (pow-pos 52))) x-ge x-le off
+      (subst (λ (v : Float). HasValue v sign (m * 2 ^ x) (2 ^ 1074)) (e ∙ fma-is a b c A B C binary64) clear-value))
+
+-- ---- such a pattern with no sign, below the largest f32
+module _ (n : ℕ) (lo : 4039728865751334912 ≤ n) (hi : n < 5183643170566569984) (far : n % 2 ^ 29 ≡ 2 ^ 28 → ⊥) where
+  plain-mod : n % 2 ^ 63 ≡ n
+  plain-mod = mod-eq-of-lt (lt-of-lt-of-le hi (lit≤ tt))
+
+  pub clear-plain : Clear n
+  clear-plain = record { low = subst (λ (z : ℕ). 4039728865751334912 ≤ z) (sym plain-mod) lo; high = subst (λ (z : ℕ). z < 5183643171103440896) (sym plain-mod) (lt-of-lt-of-le hi (lit≤ tt)); off = far }
+
+  pub close-plain : ofBits binary32 ((n - 4035225266123964416 + 268435456) / 536870912) ≡ convert binary32 (ofBits binary64 n)
+  close-plain =
+      ap (λ (z : ℕ). ofBits binary32 ((z - 4035225266123964416 + 268435456) / 536870912)) (sym plain-mod)
+      ∙ ap (ofBits binary32) (sym (zero-add ((n % 2 ^ 63 - 4035225266123964416 + 268435456) / 536870912)))
+      ∙ subst (λ (b : Bool). ofBits binary32 (cond b (top binary32) 0 + (n % 2 ^ 63 - 4035225266123964416 + 268435456) / 536870912) ≡ convert binary32 (ofBits binary64 n)) (is-false (leb (2 ^ 63) n) (lt→nleb (2 ^ 63) n (lt-of-lt-of-le hi (lit≤ tt)))) (close-is n clear-plain)
+
+-- ---- X * X + Q of f32s whose plain sum is finite
+module _ (X Q : Float) (hx : T (fits binary32 X)) (hq : T (fits binary32 Q)) (f : finite (add binary32 (mul binary32 X X) Q) ≡ true) where
+  pub square-finite : (finite X ≡ true) × (finite X ≡ true) × (finite Q ≡ true)
+  square-finite =
+      let p = add-finite binary32 (mul binary32 X X) Q f in
+      let q = mul-finite binary32 X X (p .0) in
+      (q .0, q .1, p .1)
+
+  module _ (w : Float) (e : w ≡ fma binary64 X X Q) where
+    pub square-no-nan : T (not (isNan w))
+    square-no-nan = let A = split32 X hx (square-finite .0) in subst (λ (v : Float). T (not (isNan v))) (sym e) (wide-no-nan X X Q A A (split32 Q hq (square-finite .2)))
+
+    pub square-close : 4039728865751334912 ≤ toBits binary64 w → toBits binary64 w < 5183643170566569984 → (toBits binary64 w % 2 ^ 29 ≡ 2 ^ 28 → ⊥)
+        → ofBits binary32 ((toBits binary64 w - 4035225266123964416 + 268435456) / 536870912) ≡ fma binary32 X X Q
+    square-close lo hi far =
+        let A = split32 X hx (square-finite .0) in
+        let C = split32 Q hq (square-finite .2) in
+        let b : ofBits binary64 (toBits binary64 w) ≡ w = ofBits-toBits binary64 w (subst (λ (v : Float). T (fits binary64 v)) (wide-is X X Q A A C ∙ sym e) (add-fits binary64 (mul binary64 X X) Q)) in
+        close-plain (toBits binary64 w) lo hi far ∙ fma-close (toBits binary64 w) (clear-plain (toBits binary64 w) lo hi far) X X Q A A C (b ∙ e)

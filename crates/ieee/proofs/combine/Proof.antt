@@ -1,0 +1,106 @@
+use borrow.Author.Needs.{needs}
+use mathlib.Core.Path.{_≡_, refl, sym, ap, _∙_, subst}
+use mathlib.Core.Bool.{Bool, true, false, Bool·beq}
+use mathlib.Core.Logic.{inl, inr}
+use Prim.Native.Nat.{ℕ, suc, _+_, _-_, _*_, _/_, _%_, _^_, _≤_, _<_}
+use native.Mathlib.Nat.{le-trans, le-of-eq, lt-of-le-of-lt, mul-one, mul-le-mul-left, mul-lt-mul-of-pos-right}
+use native.Mathlib.Omega.{arith}
+use lib.Pow.{pow-pos}
+use lib.IntN.{pos}
+use lib.Ieee.{Float, fin, binary32, round, sum, ofBits}
+use Rattle.ieee.specs.Parts.{Jammed, Aligned}
+use Rattle.ieee.proofs.Cases.{at-zero}
+use Rattle.ieee.proofs.Sums.{sum-like, sum-more, sum-less, sum-none, diff-mul}
+use Rattle.ieee.proofs.Aligned.{jam-moved, plus, less, take, exact}
+use Rattle.ieee.proofs.combine.Statement.{statement}
+use Rattle.ieee.proofs.combine.Tie as tie
+use Rattle.ieee.proofs.combine.Reads as reads
+use Rattle.ieee.proofs.combine.Lts as lts
+use Rattle.ieee.proofs.jam.Reads as jam-reads
+use Rattle.ieee.proofs.pack.Reads as pack-reads
+
+jam-le : (b d r : ℕ) → b < 2 ^ 62 → Jammed b d r → r < 2 ^ 62
+jam-le b d r h (inl e) = lt-of-le-of-lt (le-trans (le-of-eq (sym (mul-one r))) (mul-le-mul-left r (pow-pos d))) (subst (λ (x : ℕ). x < 2 ^ 62) (sym e) h)
+jam-le b d r h (inr (i, o, lo, hi, l)) = omega arith
+
+module _ (s : Bool) (a : ℕ) (t : Bool) (b d e r : ℕ) (w : Aligned a b d e) (j : Jammed b d r) where
+  abbrev B : ℕ
+  B = b * 2 ^ (e - d)
+
+  j' : Jammed (b * 2 ^ (e - d)) e r
+  j' = jam-moved b d e r (w .down) j
+
+  like : Bool·beq s t ≡ true → round binary32 s ((a + r) * 2 ^ e) (2 ^ 1074) ≡ sum binary32 s (a * 2 ^ e) t (b * 2 ^ (e - d)) (2 ^ 1074)
+  like h = sym (sum-like binary32 s (a * 2 ^ e) t B (2 ^ 1074) h ∙ plus s a B r e 1074 (w .full) (w .even) j')
+
+  more : Bool·beq s t ≡ false → r < a → round binary32 s ((a - r) * 2 ^ e) (2 ^ 1074) ≡ sum binary32 s (a * 2 ^ e) t (b * 2 ^ (e - d)) (2 ^ 1074)
+  more h l = sym (sum-more binary32 s (a * 2 ^ e) t B (2 ^ 1074) h (less s a B r e 1074 (w .full) (w .even) l j') ∙ take s a B r e 1074 (w .full) (w .even) l j')
+
+  same : a ≤ r → r * 2 ^ e ≡ B
+  same l = exact s a B r e 1074 (w .full) (w .even) l j'
+
+  fewer : Bool·beq s t ≡ false → a < r → round binary32 t ((r - a) * 2 ^ e) (2 ^ 1074) ≡ sum binary32 s (a * 2 ^ e) t (b * 2 ^ (e - d)) (2 ^ 1074)
+  fewer h l =
+      let q : r * 2 ^ e ≡ B = same (omega arith) in
+      sym (sum-less binary32 s (a * 2 ^ e) t B (2 ^ 1074) h (subst (λ (x : ℕ). a * 2 ^ e < x) q (mul-lt-mul-of-pos-right l (pow-pos e)))
+      ∙ ap (λ (x : ℕ). round binary32 t x (2 ^ 1074)) (ap (λ (x : ℕ). x - a * 2 ^ e) (sym q) ∙ sym (diff-mul r a (2 ^ e))))
+
+  none : Bool·beq s t ≡ false → a ≡ r → fin false 0 (pos 0) ≡ sum binary32 s (a * 2 ^ e) t (b * 2 ^ (e - d)) (2 ^ 1074)
+  none h l =
+      sym (sum-none binary32 s (a * 2 ^ e) t B (2 ^ 1074) h (ap (λ (x : ℕ). x * 2 ^ e) l ∙ same (omega arith)) ∙ at-zero false)
+
+-- src/lib.rt:151:9
+jam-requires : tie.Need-jam-requires
+jam-requires c κs = search needs
+
+-- src/lib.rt:153:17
+add-pack : tie.Need-add-pack
+add-pack c = let a = c .before .before in omega (arith, jam-le (a .args .b) (a .args .d) (c .before .jam .result) (a .pre .b-in) (c .before .jam .ensures), a .pre .a-in)
+
+-- src/lib.rt:153:9
+pack-requires : tie.Need-pack-requires
+pack-requires c κs = search needs
+
+-- src/lib.rt:155:17
+sub-pack : tie.Need-sub-pack
+sub-pack c = search needs
+
+-- src/lib.rt:155:9
+pack-requires-2 : tie.Need-pack-requires-2
+pack-requires-2 c κs = search needs
+
+-- src/lib.rt:157:9
+pack-requires-3 : tie.Need-pack-requires-3
+pack-requires-3 c κs = search needs
+
+-- src/lib.rt:147:1
+returns : tie.Need-returns
+returns c = c .pack .ensures ∙ (let a = c .before .before .before in like (a .args .s) (a .args .a) (a .args .t) (a .args .b) (a .args .d) (a .args .e) (c .before .before .jam .result) (a .pre) (c .before .before .jam .ensures) (c .before .if1 .taken))
+
+-- src/lib.rt:147:1
+returns-2 : tie.Need-returns-2
+returns-2 c = c .pack2 .ensures ∙ (let a = c .before .before .before .before in more (a .args .s) (a .args .a) (a .args .t) (a .args .b) (a .args .d) (a .args .e) (c .before .before .before .jam .result) (a .pre) (c .before .before .before .jam .ensures) (c .before .before .if1 .left) (c .before .if2 .taken))
+
+-- src/lib.rt:147:1
+returns-3 : tie.Need-returns-3
+returns-3 c = c .pack3 .ensures ∙ (let a = c .before .before .before .before .before in fewer (a .args .s) (a .args .a) (a .args .t) (a .args .b) (a .args .d) (a .args .e) (c .before .before .before .before .jam .result) (a .pre) (c .before .before .before .before .jam .ensures) (c .before .before .before .if1 .left) (c .before .if3 .taken))
+
+-- src/lib.rt:147:1
+returns-4 : tie.Need-returns-4
+unfolding ofBits
+returns-4 c = let a = c .before .before .before .before in none (a .args .s) (a .args .a) (a .args .t) (a .args .b) (a .args .d) (a .args .e) (c .before .before .before .jam .result) (a .pre) (c .before .before .before .jam .ensures) (c .before .before .if1 .left) (omega arith)
+
+pub combine-spec : {M : Type 1} → statement M
+combine-spec =
+    tie.close
+    (tie.spec
+    jam-requires
+    add-pack
+    pack-requires
+    sub-pack
+    pack-requires-2
+    pack-requires-3
+    returns
+    returns-2
+    returns-3
+    returns-4)

@@ -1,0 +1,96 @@
+use borrow.Author.Needs.{needs}
+use mathlib.Core.Path.{_≡_, sym, ap, _∙_}
+use Prim.Native.Nat.{ℕ, suc, _+_, _-_, _*_, _/_, _%_, _^_, _≤_, _<_}
+use native.Mathlib.Nat.{pow-suc, div-add-mod', mod-lt, mod-eq-of-lt, lt-of-le-of-lt, div-mul-le-self, div-le-self, eq-zero-or-pos}
+use native.Mathlib.Numerals.{add-one}
+use native.Mathlib.Omega.{arith}
+use mathlib.Core.Logic.{inl, inr}
+use lib.Pow.{pow-pos}
+use lib.Ieee.Nearest.{closest}
+use Rattle.ieee.proofs.Half.{closest-even, closest-tie, closest-up}
+use Rattle.ieee.proofs.half_even.Statement.{statement}
+use Rattle.ieee.proofs.half_even.Tie as tie
+use Rattle.ieee.proofs.half_even.Reads as reads
+use Rattle.ieee.proofs.half_even.Lts as lts
+
+-- n is h * p + r, with p half of 2 ^ sh
+module _ (n sh : ℕ) (one : 1 ≤ sh) (fits : n < 2 ^ 64) where
+  half : 2 ^ sh ≡ 2 ^ (sh - 1) * 2
+  half =
+      let e : suc (sh - 1) ≡ sh = omega arith in
+      ap (λ (x : ℕ). 2 ^ x) (sym e) ∙ pow-suc 2 (sh - 1)
+
+  cut : n ≡ n / 2 ^ (sh - 1) * 2 ^ (sh - 1) + n % 2 ^ (sh - 1)
+  cut = sym (div-add-mod' n (2 ^ (sh - 1)))
+
+  less : n % 2 ^ (sh - 1) < 2 ^ (sh - 1)
+  less = mod-lt n (pow-pos (sh - 1))
+
+  kept : n / 2 ^ (sh - 1) * 2 ^ (sh - 1) % 2 ^ 64 ≡ n / 2 ^ (sh - 1) * 2 ^ (sh - 1)
+  kept = mod-eq-of-lt (lt-of-le-of-lt (div-mul-le-self n (2 ^ (sh - 1))) fits)
+
+  even : n / 2 ^ (sh - 1) % 2 ≡ 0 → n / 2 ^ (sh - 1) / 2 ≡ closest n (2 ^ sh)
+  even z = sym (closest-even n (2 ^ sh) (n / 2 ^ (sh - 1)) (2 ^ (sh - 1)) (n % 2 ^ (sh - 1)) half cut less z)
+
+  halfway : (n / 2 ^ (sh - 1) % 2 ≡ 0 → ⊥) → n / 2 ^ (sh - 1) * 2 ^ (sh - 1) % 2 ^ 64 ≡ n → n / 2 ^ (sh - 1) / 2 + n / 2 ^ (sh - 1) / 2 % 2 ≡ closest n (2 ^ sh)
+  halfway z e =
+      sym (closest-tie n (2 ^ sh) (n / 2 ^ (sh - 1)) (2 ^ (sh - 1)) (n % 2 ^ (sh - 1)) half cut less (omega arith) (omega (arith, kept, cut)))
+
+  above : (n / 2 ^ (sh - 1) % 2 ≡ 0 → ⊥) → (n / 2 ^ (sh - 1) * 2 ^ (sh - 1) % 2 ^ 64 ≡ n → ⊥) → n / 2 ^ (sh - 1) / 2 + 1 ≡ closest n (2 ^ sh)
+  above z e =
+      add-one (n / 2 ^ (sh - 1) / 2) ∙ sym (closest-up n (2 ^ sh) (n / 2 ^ (sh - 1)) (2 ^ (sh - 1)) (n % 2 ^ (sh - 1)) half cut less (omega arith) (omega (arith, kept, cut)))
+
+-- src/lib.rt:13:13
+sub-s : tie.Need-sub-s
+sub-s c = search needs
+
+-- src/lib.rt:14:18
+cast-h : tie.Need-cast-h
+cast-h c = search needs
+
+-- src/lib.rt:14:13
+shr-h : tie.Need-shr-h
+shr-h c = search needs
+
+-- src/lib.rt:18:20
+cast-if2 : tie.Need-cast-if2
+cast-if2 c = search needs
+
+-- src/lib.rt:18:15
+shl-if2 : tie.Need-shl-if2
+shl-if2 c = search needs
+
+-- src/lib.rt:19:9
+add-result : tie.Need-add-result
+add-result c = omega (arith, div-le-self (c .before .before .args .n) (2 ^ (c .before .before .args .sh - 1)))
+
+-- src/lib.rt:21:9
+add-result-2 : tie.Need-add-result-2
+add-result-2 c = omega (arith, div-le-self (c .before .before .args .n) (2 ^ (c .before .before .args .sh - 1)))
+
+-- src/lib.rt:9:1
+returns : tie.Need-returns
+returns c = let a = c .before in even (a .args .n) (a .args .sh) (a .pre .0) (a .fits .n .fits) (c .if1 .taken)
+
+-- src/lib.rt:9:1
+returns-2 : tie.Need-returns-2
+returns-2 c = let a = c .before .before in halfway (a .args .n) (a .args .sh) (a .pre .0) (a .fits .n .fits) (c .before .if1 .left) (c .if2 .taken)
+
+-- src/lib.rt:9:1
+returns-3 : tie.Need-returns-3
+returns-3 c = let a = c .before .before in above (a .args .n) (a .args .sh) (a .pre .0) (a .fits .n .fits) (c .before .if1 .left) (c .if2 .left)
+
+pub half-even-spec : {M : Type 1} → statement M
+half-even-spec =
+    tie.close
+    (tie.spec
+    sub-s
+    cast-h
+    shr-h
+    cast-if2
+    shl-if2
+    add-result
+    add-result-2
+    returns
+    returns-2
+    returns-3)

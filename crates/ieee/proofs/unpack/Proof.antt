@@ -1,0 +1,61 @@
+use borrow.Author.Needs.{needs}
+use mathlib.Core.Path.{_≡_, sym, subst}
+use Prim.Native.Nat.{ℕ, suc, _+_, _-_, _*_, _/_, _%_, _^_, _≤_, _<_}
+use native.Mathlib.Nat.{mod-lt}
+use native.Mathlib.Omega.{arith}
+use lib.Dec.{T}
+use lib.Pow.{pow-pos}
+use lib.Ieee.{Float, binary32, fits, toBits}
+use Rattle.ieee.proofs.Fields.{value-low, value-normal, field-ne, finite-no-nan}
+use Rattle.ieee.proofs.unpack.Statement.{statement}
+use Rattle.ieee.proofs.unpack.Tie as tie
+use Rattle.ieee.proofs.unpack.Reads as reads
+use Rattle.ieee.proofs.unpack.Lts as lts
+
+-- src/lib.rt:92:13
+-- what owning a float tells: the format holds it
+held : (c : tie.Start) → T (fits binary32 (c .args .v))
+held c = subst T (sym (c .good .0 .1)) tt
+
+float-to-bits-b : tie.Need-float-to-bits-b
+float-to-bits-b c = finite-no-nan (c .args .v) (c .pre)
+
+-- src/lib.rt:97:26
+cast-t9 : tie.Need-cast-t9
+cast-t9 c = search needs
+
+-- src/lib.rt:99:27
+add-t10 : tie.Need-add-t10
+add-t10 c = search needs
+
+-- src/lib.rt:99:26
+cast-t11 : tie.Need-cast-t11
+cast-t11 c = search needs
+
+-- src/lib.rt:99:53
+sub-t12 : tie.Need-sub-t12
+sub-t12 c = search needs
+
+-- src/lib.rt:88:1
+returns : tie.Need-returns
+returns c =
+    let a = c .before in
+    record { value = value-low binary32 (a .args .v) (held a) (a .pre) (c .if1 .taken); digits = omega (arith, mod-lt (toBits binary32 (a .args .v)) (pow-pos 23)); place = omega arith }
+
+-- src/lib.rt:88:1
+returns-2 : tie.Need-returns-2
+returns-2 c =
+    let a = c .before in
+    let b = toBits binary32 (a .args .v) in
+    let e = b % 2 ^ 31 / 2 ^ 23 in
+    let up : e ≡ suc (e - 1) = omega (arith, c .if1 .left) in
+    let ne : suc (e - 1) ≡ 255 → ⊥ = field-ne binary32 (a .args .v) (held a) (a .pre) (e - 1) up in
+    record {
+      value = value-normal binary32 (a .args .v) (held a) (a .pre) (e - 1) up;
+      digits = omega (arith, mod-lt b (pow-pos 23));
+      place = omega (arith, mod-lt b (pow-pos 31), ne);
+    }
+
+pub unpack-spec : {M : Type 1} → statement M
+unpack-spec =
+    tie.close (tie.spec float-to-bits-b cast-t9 add-t10 cast-t11 sub-t12 returns returns-2)

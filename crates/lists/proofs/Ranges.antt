@@ -1,0 +1,63 @@
+-- Laws of joined lists and of runs of stores. Assumes nothing.
+use Prim.Native.Nat.{ℕ, zero, suc, _+_, _-_, _*_, _<_, _≤_}
+use mathlib.Core.Path.{_≡_, refl, sym, ap, subst, _∙_}
+use mathlib.Core.Bool.{Bool, true, false, cond}
+use mathlib.Core.Logic.{_⊎_, ⊎-elim}
+use mathlib.Core.List.{List, [], _∷_, _++_, append-assoc, append-nil}
+use native.Mathlib.Nat.{eq-or-lt-of-le, le-of-suc-le-suc, add-zero}
+use native.Mathlib.Numerals.{add-one}
+use native.Mathlib.Omega.{arith}
+use borrow.Author.Tests.{le-leb, lt-leb}
+use lib.ListN.{length, take, drop, set, length-append, length-set}
+use lib.Seq.{sets, sets-eq, length-sets}
+use Rattle.lists.specs.Ranges.{joined}
+
+cond-same : {A : Type 0} (b : Bool) (x : A) → cond b x x ≡ x
+cond-same true x = refl
+cond-same false x = refl
+
+module _ {A : Type 0} where
+  pub joined-none : (lo hi : ℕ) (f : ℕ → List A) → hi ≤ lo → joined lo hi f ≡ []
+  unfolding joined
+  joined-none lo zero f h = refl
+  joined-none lo (suc hi) f h = rw (lt-leb lo hi h)
+
+  pub joined-start : (lo : ℕ) (f : ℕ → List A) → joined lo lo f ≡ []
+  joined-start lo f = joined-none lo lo f (omega arith)
+
+  pub joined-more : (lo hi : ℕ) (f : ℕ → List A) → lo ≤ hi → joined lo (hi + 1) f ≡ joined lo hi f ++ f hi
+  unfolding joined
+  joined-more lo hi f h = rw (add-one, le-leb lo hi h)
+
+  -- where each part is empty the whole is
+  pub joined-empty : (lo hi : ℕ) (f : ℕ → List A) → ((i : ℕ) → f i ≡ []) → joined lo hi f ≡ []
+  unfolding joined
+  joined-empty lo zero f e = refl
+  joined-empty lo (suc hi) f e = rw (joined-empty lo hi f e, e hi, cond-same)
+
+  joined-length : (lo hi : ℕ) (f : ℕ → List A) → lo ≤ hi → length (joined lo (suc hi) f) ≡ length (joined lo hi f) + length (f hi)
+  unfolding joined
+  joined-length lo hi f h = rw (le-leb lo hi h, length-append)
+
+  -- what is joined up to a part, with that part, is no longer than the whole
+  pub joined-room : (lo hi top : ℕ) (f : ℕ → List A) → lo ≤ hi → hi < top → length (joined lo hi f) + length (f hi) ≤ length (joined lo top f)
+  joined-room lo hi zero f a b = absurd (omega arith)
+  joined-room lo hi (suc top) f a b =
+      ⊎-elim
+      (λ q. let t : lo ≤ top = omega arith in rw q (omega (arith, joined-length lo top f t)))
+      (λ l. let t : lo ≤ top = omega arith in omega (arith, joined-room lo hi top f a l, joined-length lo top f t))
+      (eq-or-lt-of-le (le-of-suc-le-suc b))
+
+  -- one more part counted
+  pub counted : (lo hi : ℕ) (f : ℕ → List A) (k k' : ℕ) (v : List A) → lo ≤ hi → f hi ≡ v → k ≡ length (joined lo hi f) → k' ≡ k + length v → k' ≡ length (joined lo (hi + 1) f)
+  counted lo hi f k k' v h e p q = rw (joined-more lo hi f h, length-append, e) (omega arith)
+
+pub sets-append : {A : Type 0} (a b l : List A) (i : ℕ) → sets (sets l i a) (i + length a) b ≡ sets l i (a ++ b)
+sets-append [] b l i = rw add-zero
+sets-append (x ∷ a) b l i =
+    let e : i + suc (length a) ≡ suc i + length a = omega arith in
+    rw (e, sets-append a b (set l i x) (suc i))
+
+-- stores at the front: the words, then what was not reached
+pub sets-front : {A : Type 0} (l vs : List A) → length vs ≤ length l → sets l 0 vs ≡ vs ++ drop (length vs) l
+sets-front l vs h = let z : 0 + length vs ≡ length vs = omega arith in sets-eq vs l 0 (rw z h) ∙ rw z

@@ -1,0 +1,1 @@
+// Definitions and laws over lists, for contracts and loops: nothing to run.

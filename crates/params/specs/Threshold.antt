@@ -1,0 +1,27 @@
+-- The threshold of detection. Definitions only.
+use Prim.Native.Nat.{ℕ}
+use mathlib.Core.Bool.{Bool, _||_, not}
+use mathlib.Core.List.{[], _∷_}
+use lib.Dec.{leb, ltb, eqb}
+use lib.IntN.{pos}
+use lib.Ieee.{Float, binary64, ofBits, ofInt, mul, div}
+use Rattle.ieee.specs.F32.{narrowed}
+use Rattle.ieee.specs.Whole.{floor}
+use Rattle.params.specs.Limits.{maxLayers}
+use Rattle.params.specs.Table.{line, firstFault, contrastWrong}
+
+-- 0.5 and 255, as f64s
+abbrev pub half64 : Float
+half64 = ofBits binary64 0x3fe0_0000_0000_0000
+
+abbrev pub full64 : Float
+full64 = ofBits binary64 0x406f_e000_0000_0000
+
+-- 0.5 × contrast / layers × 255 in f64, in that order, floor, as f32
+unfoldable pub thresholdOf : Float → ℕ → Float
+thresholdOf contrast layers =
+    narrowed (floor binary64 (mul binary64 (div binary64 (mul binary64 half64 contrast) (ofInt binary64 (pos layers))) full64))
+
+-- the threshold's own refusals: layers 0 or above 15 is 2, contrast not in 0 to 1 is 4
+unfoldable pub thresholdFault : Float → ℕ → ℕ
+thresholdFault contrast layers = firstFault (line 2 (eqb layers 0 || ltb maxLayers layers) ∷ line 4 (contrastWrong contrast) ∷ [])

@@ -3,3 +3,4 @@ pub mod Parts
 pub mod Root
 pub mod Whole
 pub mod F32
+pub mod Sign

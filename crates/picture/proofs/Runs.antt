@@ -1,0 +1,70 @@
+-- Good samples, one more at a time and one run more at a time. Assumes nothing.
+use Prim.Native.Nat.{ℕ, suc, _+_, _<_, _≤_}
+use mathlib.Core.Path.{_≡_, refl, sym, ap, _∙_}
+use mathlib.Core.Bool.{Bool, true, false, _&&_}
+use mathlib.Core.List.{List, [], _∷_, _++_}
+use native.Mathlib.Numerals.{add-one}
+use native.Mathlib.Omega.{arith}
+use lib.ListN.{length, getD, take, drop, take-append-drop, drop-of-length-le, length-take}
+use lib.Seq.{drop-cons, drop-append-le, length-take-le, getD-take}
+use lib.Ieee.{Float, nan}
+use Rattle.params.specs.Table.{goodSample, allGood}
+use Rattle.picture.specs.Samples.{goodFrom}
+
+and-assoc : (a b c : Bool) → ((a && b) && c) ≡ (a && (b && c))
+and-assoc true b c = refl
+and-assoc false b c = refl
+
+and-true : (a : Bool) → (a && true) ≡ a
+and-true true = refl
+and-true false = refl
+
+good-cons : (x : Float) (xs : List Float) → allGood (x ∷ xs) ≡ (goodSample x && allGood xs)
+unfolding allGood
+good-cons x xs = refl
+
+good-append : (xs ys : List Float) → allGood (xs ++ ys) ≡ (allGood xs && allGood ys)
+unfolding allGood
+good-append [] ys = refl
+good-append (x ∷ xs) ys =
+    ap (λ (b : Bool). goodSample x && b) (good-append xs ys) ∙ sym (and-assoc (goodSample x) (allGood xs) (allGood ys))
+
+-- the run that starts one later
+pub good-next : (d : List Float) (i to : ℕ) → i < to → to ≤ length d → goodFrom i to d ≡ (goodSample (getD d i nan) && goodFrom (i + 1) to d)
+unfolding goodFrom
+good-next d i to a b =
+    let h : i < length (take to d) = rw (length-take-le to d b) a in
+    rw (drop-cons (take to d) i nan h, add-one, getD-take to d i nan a, good-cons)
+
+pub good-none : (d : List Float) (to : ℕ) → goodFrom to to d ≡ true
+unfolding goodFrom allGood
+good-none d to =
+    let h : length (take to d) ≤ to = rw length-take (omega arith) in
+    rw (drop-of-length-le (take to d) h)
+
+-- a tested sample more
+pub good-more : (d : List Float) (i to : ℕ) (ok b all : Bool) → i < to → to ≤ length d → b ≡ goodSample (getD d i nan)
+    → (ok && goodFrom i to d) ≡ all → ((ok && b) && goodFrom (i + 1) to d) ≡ all
+good-more d i to ok b all p q e k = rw (e, and-assoc ok _ (goodFrom (i + 1) to d), ← good-next d i to p q) k
+
+pub good-over : (d : List Float) (to : ℕ) (ok all : Bool) → (ok && goodFrom to to d) ≡ all → ok ≡ all
+good-over d to ok all k = sym (and-true ok) ∙ rw (good-none d to) at k
+
+-- a tested run more
+good-run : (d : List Float) (i to : ℕ) → i ≤ to → to ≤ length d → allGood (drop i d) ≡ (goodFrom i to d && allGood (drop to d))
+unfolding goodFrom
+good-run d i to a b =
+    let h : i ≤ length (take to d) = rw (length-take-le to d b) a in
+    let e : drop i d ≡ drop i (take to d) ++ drop to d = ap (λ (l : List Float). drop i l) (sym (take-append-drop to d)) ∙ drop-append-le i (take to d) (drop to d) h in
+    ap allGood e ∙ good-append (drop i (take to d)) (drop to d)
+
+pub good-end : (d : List Float) (i : ℕ) → length d ≤ i → allGood (drop i d) ≡ true
+unfolding allGood
+good-end d i h = rw (drop-of-length-le d h)
+
+module _ (d : List Float) (i to : ℕ) (b : Bool) (order : i ≤ to) (inside : to ≤ length d) (is : b ≡ goodFrom i to d) where
+  pub run-bad : b ≡ false → allGood d ≡ allGood (drop i d) → false ≡ allGood d
+  run-bad e k = sym (k ∙ good-run d i to order inside ∙ rw (← is, e))
+
+  pub run-good : b ≡ true → allGood d ≡ allGood (drop i d) → allGood d ≡ allGood (drop to d)
+  run-good e k = k ∙ good-run d i to order inside ∙ rw (← is, e)

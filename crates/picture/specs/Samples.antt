@@ -1,0 +1,11 @@
+-- A run of samples in range. Definitions only.
+use Prim.Native.Nat.{ℕ}
+use mathlib.Core.Bool.{Bool}
+use mathlib.Core.List.{List}
+use lib.ListN.{take, drop}
+use lib.Ieee.{Float}
+use Rattle.params.specs.Table.{allGood}
+
+-- the samples from place `from` to below place `to` are good
+unfoldable pub goodFrom : ℕ → ℕ → List Float → Bool
+goodFrom from to d = allGood (drop from (take to d))

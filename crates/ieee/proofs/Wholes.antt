@@ -14,7 +14,7 @@ use lib.Ieee.Exact.{HasValue}
 use lib.Ieee.Nearest.{closest, closest-same, closest-mono, div-same}
 use lib.Ieee.Scale.{round-same, finite}
 use Rattle.ieee.proofs.Half.{closest-is}
-use Rattle.ieee.specs.Whole.{floorSize, floor, roundEven, saturate, floorTo, roundTo}
+use Rattle.ieee.specs.Whole.{floorSize, floor, roundEven, saturate}
 
 -- (a + (b - 1)) / b is at most t exactly where a is at most t * b
 pub ceil-le : (a b t : ℕ) → 0 < b → a ≤ t * b → (a + (b - 1)) / b ≤ t
@@ -41,7 +41,7 @@ module _ (m x : ℕ) where
   down-cross : x ≤ 149 → m * 2 ^ x * 2 ^ (149 - x) ≡ m * 2 ^ 149
   down-cross h = mul-assoc m (2 ^ x) (2 ^ (149 - x)) ∙ ap (λ (y : ℕ). m * y) (mul-comm (2 ^ x) (2 ^ (149 - x)) ∙ sym (pow-add 2 (149 - x) x) ∙ ap (λ (y : ℕ). 2 ^ y) (back 149 x h))
 
-  up-cross : 149 ≤ x → m * 2 ^ x * 1 ≡ m * 2 ^ (x - 149) * 2 ^ 149
+  pub up-cross : 149 ≤ x → m * 2 ^ x * 1 ≡ m * 2 ^ (x - 149) * 2 ^ 149
   up-cross h = mul-one (m * 2 ^ x) ∙ sym (mul-assoc m (2 ^ (x - 149)) (2 ^ 149) ∙ ap (λ (y : ℕ). m * y) (sym (pow-add 2 (x - 149) 149) ∙ ap (λ (y : ℕ). 2 ^ y) (back x 149 h)))
 
   pub floor-down : (s : Bool) → x ≤ 149 → floorSize s (m * 2 ^ x) (2 ^ 149) ≡ floorSize s m (2 ^ (149 - x))
@@ -50,7 +50,7 @@ module _ (m x : ℕ) where
   pub near-down : x ≤ 149 → closest (m * 2 ^ x) (2 ^ 149) ≡ closest m (2 ^ (149 - x))
   near-down h = closest-same (m * 2 ^ x) (2 ^ 149) m (2 ^ (149 - x)) (pow-pos 149) (pow-pos (149 - x)) (down-cross h)
 
-  whole : (s : Bool) (a : ℕ) → floorSize s a 1 ≡ a
+  pub whole : (s : Bool) (a : ℕ) → floorSize s a 1 ≡ a
   whole true a = ap (λ (y : ℕ). y / 1) (add-zero a) ∙ div-one a
   whole false a = div-one a
 
@@ -92,24 +92,6 @@ module _ (v : Float) (s : Bool) (a : ℕ) where
       go nan h = absurd h
       go (inf t) h = absurd h
       go (fin t m e) h = ap (λ (u : Bool). round binary32 u (closest (m * up e) (down e)) 1) (h .0) ∙ ap (λ (k : ℕ). round binary32 s k 1) (closest-same (m * up e) (down e) a (2 ^ 149) (down-pos e) (pow-pos 149) (h .1))
-
-  pub floor-to : (h : ℕ) → HasValue v s a (2 ^ 149) → floorTo h v ≡ saturate h s (floorSize s a (2 ^ 149))
-  unfolding floorTo
-  floor-to w = go v
-    where
-      go : (v : Float) → HasValue v s a (2 ^ 149) → floorTo w v ≡ saturate w s (floorSize s a (2 ^ 149))
-      go nan h = absurd h
-      go (inf t) h = absurd h
-      go (fin t m e) h = ap (λ (u : Bool). saturate w u (floorSize u (m * up e) (down e))) (h .0) ∙ ap (λ (k : ℕ). saturate w s k) (floor-same s (m * up e) (down e) a (2 ^ 149) (down-pos e) (pow-pos 149) (h .1))
-
-  pub even-to : (h : ℕ) → HasValue v s a (2 ^ 149) → roundTo h v ≡ saturate h s (closest a (2 ^ 149))
-  unfolding roundTo
-  even-to w = go v
-    where
-      go : (v : Float) → HasValue v s a (2 ^ 149) → roundTo w v ≡ saturate w s (closest a (2 ^ 149))
-      go nan h = absurd h
-      go (inf t) h = absurd h
-      go (fin t m e) h = ap (λ (u : Bool). saturate w u (closest (m * up e) (down e))) (h .0) ∙ ap (λ (k : ℕ). saturate w s k) (closest-same (m * up e) (down e) a (2 ^ 149) (down-pos e) (pow-pos 149) (h .1))
 
 pub floor-other : (v : Float) → finite v ≡ false → v ≡ floor binary32 v
 unfolding floor

@@ -2,13 +2,14 @@
 ghost use mathlib.Core.Path.{_≡_};
 ghost use mathlib.Core.Bool.{Bool, true, false, cond};
 ghost use Prim.Native.Nat.{ℕ, _+_, _-_, _*_, _%_, _^_, _<_, _≤_, min};
-ghost use lib.Ieee.{Float, binary32, binary64, round, sum, mul, ofBits, top};
+ghost use lib.Ieee.{Float, binary32, binary64, round, sum, mul, ofBits, toBits, toSigned, top};
 ghost use lib.Ieee.Nearest.{closest};
 ghost use lib.Dec.{T};
 ghost use lib.Ieee.Scale.{finite};
 ghost use lib.Ieee.Positive.{positive};
 ghost use Rattle.ieee.specs.Root.{sqrt, IsSqrt, Tried};
-ghost use Rattle.ieee.specs.Whole.{floorSize, floor, roundEven, saturate, floorTo, roundTo};
+ghost use Rattle.ieee.specs.Whole.{floorSize, floor, roundEven, saturate};
+ghost use Rattle.ieee.specs.F32.{absOf};
 ghost use Rattle.ieee.specs.Fused.{fma, convert};
 ghost use Rattle.ieee.specs.Parts.{Splits, Jammed, Aligned, Raised, Clear};
 
@@ -77,7 +78,8 @@ struct Parts {
     x: u32,
 }
 
-fn is_finite(v: f32) -> bool
+// Neither an infinity nor a NaN.
+pub fn is_finite(v: f32) -> bool
     ensures { λ r. ⌜ r ≡ finite v ⌝ }
 {
     if v < 1.0 / 0.0 { v > -1.0 / 0.0 } else { false }
@@ -592,7 +594,7 @@ fn grow(m: u64, d: u32) -> u64
 // The end of an i32's range on x's side, for an infinity, and 0 for a NaN.
 fn extreme(x: f32) -> i32
     requires { ⌜ finite x ≡ false ⌝ }
-    ensures { λ r. ⌜ (r ≡ floorTo 31 x) × (r ≡ roundTo 31 x) ⌝ }
+    ensures { λ r. ⌜ r ≡ toSigned 31 x ⌝ }
 {
     if x > 0.0 {
         i32::MAX
@@ -603,9 +605,28 @@ fn extreme(x: f32) -> i32
     }
 }
 
-// x as an i32, toward minus infinity: stopped at the ends of the range, and 0 for a NaN.
+// Rust's `x as i32`: toward zero, stopped at the ends of the range, and 0 for a NaN.
+pub fn to_i32(x: f32) -> i32
+    ensures { λ r. ⌜ r ≡ toSigned 31 x ⌝ }
+{
+    if is_finite(x) {
+        let p = unpack(x);
+        let s = p.s;
+        let m = p.m;
+        let e = p.x;
+        if e >= 149 {
+            signed(s, grow(m, e - 149))
+        } else {
+            small_signed(s, floor_size(false, m, 149 - e))
+        }
+    } else {
+        extreme(x)
+    }
+}
+
+// `to_i32(floor(x))`.
 pub fn floor_to_i32(x: f32) -> i32
-    ensures { λ r. ⌜ r ≡ floorTo 31 x ⌝ }
+    ensures { λ r. ⌜ r ≡ toSigned 31 (floor binary32 x) ⌝ }
 {
     if is_finite(x) {
         let p = unpack(x);
@@ -622,9 +643,9 @@ pub fn floor_to_i32(x: f32) -> i32
     }
 }
 
-// x as an i32, to the nearest, a tie to the even one: stopped at the ends of the range, and 0 for a NaN.
+// `to_i32(round_ties_even(x))`.
 pub fn round_to_i32(x: f32) -> i32
-    ensures { λ r. ⌜ r ≡ roundTo 31 x ⌝ }
+    ensures { λ r. ⌜ r ≡ toSigned 31 (roundEven binary32 x) ⌝ }
 {
     if is_finite(x) {
         let p = unpack(x);
@@ -638,5 +659,45 @@ pub fn round_to_i32(x: f32) -> i32
         }
     } else {
         extreme(x)
+    }
+}
+
+// The bits of a float, made total: 2143289344 for a NaN.
+pub fn bits_of(x: f32) -> u32
+    ensures { λ r. ⌜ r ≡ toBits binary32 x ⌝ }
+{
+    if x != x { 2143289344 } else { f32::to_bits(x) }
+}
+
+// The float of a bit pattern, a NaN's too.
+pub fn of_bits(b: u32) -> f32
+    ensures { λ r. ⌜ r ≡ ofBits binary32 b ⌝ }
+{
+    if b % 0x8000_0000 > 0x7f80_0000 {
+        0.0 / 0.0
+    } else {
+        f32::from_bits(b)
+    }
+}
+
+// The same for an f64.
+pub fn of_bits64(b: u64) -> f64
+    ensures { λ r. ⌜ r ≡ ofBits binary64 b ⌝ }
+{
+    if b % 0x8000_0000_0000_0000 > 0x7ff0_0000_0000_0000 {
+        0.0 / 0.0
+    } else {
+        f64::from_bits(b)
+    }
+}
+
+// The absolute value: the sign bit cleared, a zero's too.
+pub fn abs(x: f32) -> f32
+    ensures { λ r. ⌜ r ≡ absOf x ⌝ }
+{
+    if x != x {
+        x
+    } else {
+        f32::from_bits(f32::to_bits(x) % 0x8000_0000)
     }
 }

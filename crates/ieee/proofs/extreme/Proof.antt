@@ -1,34 +1,30 @@
 use mathlib.Core.Path.{_≡_, refl}
 use mathlib.Core.Bool.{Bool, true, false, true≢false, false≢true}
 use lib.IntN.{ℤ, pos, negsuc}
-use lib.Ieee.{Float, nan, inf, fin, lt, ofBits}
+use lib.Ieee.{Float, nan, inf, fin, lt, ofBits, toSigned}
 use lib.Ieee.Scale.{finite}
-use Rattle.ieee.specs.Whole.{floorTo, roundTo}
 use Rattle.ieee.proofs.extreme.Statement.{statement}
 use Rattle.ieee.proofs.extreme.Tie as tie
 use Rattle.ieee.proofs.extreme.Reads as reads
 use Rattle.ieee.proofs.extreme.Lts as lts
 
-abbrev Both : Float → ℤ → Type 0
-Both x z = (z ≡ floorTo 31 x) × (z ≡ roundTo 31 x)
-
-above : (v : Float) → finite v ≡ false → lt (fin false 0 (pos 0)) v ≡ true → Both v (pos 2147483647)
-unfolding lt floorTo roundTo
+above : (v : Float) → finite v ≡ false → lt (fin false 0 (pos 0)) v ≡ true → pos 2147483647 ≡ toSigned 31 v
+unfolding lt toSigned
 above nan n h = absurd (false≢true h)
 above (inf true) n h = absurd (false≢true h)
-above (inf false) n h = (refl, refl)
+above (inf false) n h = refl
 above (fin s m e) n h = absurd (true≢false n)
 
-below : (v : Float) → finite v ≡ false → lt v (fin false 0 (pos 0)) ≡ true → Both v (negsuc 2147483647)
-unfolding lt floorTo roundTo
+below : (v : Float) → finite v ≡ false → lt v (fin false 0 (pos 0)) ≡ true → negsuc 2147483647 ≡ toSigned 31 v
+unfolding lt toSigned
 below nan n h = absurd (false≢true h)
-below (inf true) n h = (refl, refl)
+below (inf true) n h = refl
 below (inf false) n h = absurd (false≢true h)
 below (fin s m e) n h = absurd (true≢false n)
 
-neither : (v : Float) → finite v ≡ false → lt (fin false 0 (pos 0)) v ≡ false → lt v (fin false 0 (pos 0)) ≡ false → Both v (pos 0)
-unfolding lt floorTo roundTo
-neither nan n g h = (refl, refl)
+neither : (v : Float) → finite v ≡ false → lt (fin false 0 (pos 0)) v ≡ false → lt v (fin false 0 (pos 0)) ≡ false → pos 0 ≡ toSigned 31 v
+unfolding lt toSigned
+neither nan n g h = refl
 neither (inf true) n g h = absurd (true≢false h)
 neither (inf false) n g h = absurd (true≢false g)
 neither (fin s m e) n g h = absurd (true≢false n)

@@ -1,88 +1,66 @@
+-- `round_to_i32` meets its contract: the whole part of m * 2 ^ x / 2 ^ 149 to the nearest is a shift of m. Assumes nothing.
 use borrow.Author.Needs.{needs}
-use mathlib.Core.Path.{_≡_, refl, sym, ap, _∙_, subst}
-use mathlib.Core.Bool.{Bool, true, false}
-use Prim.Native.Nat.{ℕ, suc, _+_, _-_, _*_, _/_, _%_, _^_, _≤_, _<_}
-use native.Mathlib.Nat.{le-of-lt}
+use mathlib.Core.Path.{_≡_, sym, ap, _∙_, subst}
+use Prim.Native.Nat.{ℕ, _-_, _*_, _^_, _≤_, _<_}
+use native.Mathlib.Nat.{le-of-lt, lt-of-le-of-lt}
+use lib.Dec.{lit<}
+use mathlib.Core.Bool.{false}
 use mir.Syntax.{w32}
 use mir.ValLaws.{toZ-ofZ}
-use lib.Ieee.{Float, binary32, round}
+use lib.Ieee.{toSigned}
 use Rattle.ieee.specs.Whole.{saturate}
-use Rattle.ieee.proofs.Wholes.{even-to, near-up, near-down, saturate-same}
-use native.Mathlib.Nat.{lt-of-le-of-lt}
-use lib.Dec.{lit<}
-use Rattle.ieee.proofs.Flat.{floor-le, near-le}
+use Rattle.ieee.proofs.Wholes.{saturate-same, even-other}
+use Rattle.ieee.proofs.Flat.{near-le}
+use Rattle.ieee.proofs.Casts.{even-large, even-small}
 use Rattle.ieee.proofs.round_to_i32.Statement.{statement}
 use Rattle.ieee.proofs.round_to_i32.Tie as tie
-use Rattle.ieee.proofs.round_to_i32.Reads as reads
-use Rattle.ieee.proofs.round_to_i32.Lts as lts
-use Rattle.ieee.proofs.extreme.Reads as extreme-reads
-use Rattle.ieee.proofs.grow.Reads as grow-reads
-use Rattle.ieee.proofs.is_finite.Reads as is-finite-reads
-use Rattle.ieee.proofs.near_size.Reads as near-size-reads
-use Rattle.ieee.proofs.signed.Reads as signed-reads
-use Rattle.ieee.proofs.small_signed.Reads as small-signed-reads
-use Rattle.ieee.proofs.unpack.Reads as unpack-reads
 
--- src/lib.rt:584:8
 is-finite-requires : tie.Need-is-finite-requires
 is-finite-requires c κs = search needs
 
--- src/lib.rt:585:13
 unpack-requires : tie.Need-unpack-requires
 unpack-requires c κs = search needs
 
--- src/lib.rt:590:23
 grow-requires : tie.Need-grow-requires
 grow-requires c κs = search needs
 
--- src/lib.rt:590:13
 signed-requires : tie.Need-signed-requires
 signed-requires c κs = search needs
 
--- src/lib.rt:592:42
 sub-near-size : tie.Need-sub-near-size
 sub-near-size c = search needs
 
--- src/lib.rt:592:29
 near-size-requires : tie.Need-near-size-requires
 near-size-requires c κs = search needs
 
--- src/lib.rt:592:13
 small-signed-requires : tie.Need-small-signed-requires
 small-signed-requires c κs = let u = c .before .before .unpack in lt-of-le-of-lt (subst (λ (x : ℕ). x ≤ 2 ^ 24) (sym (c .near-size .ensures)) (near-le (u .result .m) (149 - u .result .x) (u .ensures .digits))) (lit< tt)
 
--- src/lib.rt:595:9
 extreme-requires : tie.Need-extreme-requires
 extreme-requires c κs = search needs
 
--- src/lib.rt:581:1
 returns : tie.Need-returns
 returns c =
     let z = c .before in
     let d = z .before .before in
     let u = d .unpack in
-    let x = d .before .before .before in
     toZ-ofZ w32 (c .signed .result) (record { sfits = c .signed .ok })
     ∙ c .signed .ensures
     ∙ saturate-same (u .result .s) (z .grow .result) (u .result .m * 2 ^ (u .result .x - 149)) (z .grow .ensures)
-    ∙ ap (λ (k : ℕ). saturate 31 (u .result .s) k) (sym (near-up (u .result .m) (u .result .x) (z .before .if2 .taken)))
-    ∙ sym (even-to (x .args .x) (u .result .s) (u .result .m * 2 ^ u .result .x) 31 (u .ensures .value))
+    ∙ sym (even-large 31 (d .before .before .before .args .x) (u .result .s) (u .result .m) (u .result .x) (u .ensures) (z .before .if2 .taken))
 
--- src/lib.rt:581:1
 returns-2 : tie.Need-returns-2
 returns-2 c =
     let z = c .before in
     let d = z .before .before in
     let u = d .unpack in
-    let x = d .before .before .before in
     toZ-ofZ w32 (c .small-signed .result) (record { sfits = c .small-signed .ok })
     ∙ c .small-signed .ensures
-    ∙ ap (λ (k : ℕ). saturate 31 (u .result .s) k) (z .near-size .ensures ∙ sym (near-down (u .result .m) (u .result .x) (le-of-lt (z .before .if2 .left))))
-    ∙ sym (even-to (x .args .x) (u .result .s) (u .result .m * 2 ^ u .result .x) 31 (u .ensures .value))
+    ∙ ap (λ (k : ℕ). saturate 31 (u .result .s) k) (z .near-size .ensures)
+    ∙ sym (even-small 31 (d .before .before .before .args .x) (u .result .s) (u .result .m) (u .result .x) (u .ensures) (le-of-lt (z .before .if2 .left)))
 
--- src/lib.rt:581:1
 returns-3 : tie.Need-returns-3
-returns-3 c = search needs
+returns-3 c = toZ-ofZ w32 (c .extreme .result) (record { sfits = c .extreme .ok }) ∙ c .extreme .ensures ∙ ap (toSigned 31) (even-other (c .before .before .before .args .x) (sym (c .before .before .is-finite .ensures) ∙ c .before .if1 .left))
 
 pub round-to-i32-spec : {M : Type 1} → statement M
 round-to-i32-spec =

@@ -15,7 +15,7 @@ use lib.Ieee.Bits.{ofBits-toBits}
 use Rattle.ieee.specs.Sign.{Signs, turned, nought, Turned, of-nan, of-inf, of-fin, Opp, Same}
 use Rattle.ieee.specs.Fused.{fma, convert}
 use Rattle.ieee.specs.Root.{sqrt}
-use Rattle.ieee.specs.Whole.{floorSize, floor, roundEven, saturate, floorTo, roundTo}
+use Rattle.ieee.specs.Whole.{floorSize, floor, roundEven, saturate}
 use Rattle.ieee.specs.F32.{f32, absOf}
 use Rattle.ieee.proofs.Turned.{round-zero, round-turned, signs-of, sum-turned, zero-of, cond-turned, add-turned, mul-turned, product, nonzero, zero-left, zero-right, level-zero}
 
@@ -108,7 +108,7 @@ roundEven-turned f (of-fin {s = s} {t = t} {m = m} {e = e} p) =
 zero-div : (a b : ℕ) → 0 < b → a ≡ 0 → a / b ≡ 0
 zero-div a b h e = rw e (div-eq-of-lt h)
 
-floorSize-zero : (s : Bool) (a b : ℕ) → 0 < b → a ≡ 0 → floorSize s a b ≡ 0
+pub floorSize-zero : (s : Bool) (a b : ℕ) → 0 < b → a ≡ 0 → floorSize s a b ≡ 0
 floorSize-zero true a b h e = div-eq-of-lt (omega arith)
 floorSize-zero false a b h e = zero-div a b h e
 
@@ -153,25 +153,6 @@ toSigned-same h (of-fin (turned p)) = rw p
 toSigned-same h (of-fin {s = s} {t = t} {m = m} {e = e} (nought p)) =
     let z : m * up e / down e ≡ 0 = zero-div (m * up e) (down e) (down-pos e) (rw (p, zero-mul)) in
     saturate-zero h t (m * up e / down e) z ∙ sym (saturate-zero h s (m * up e / down e) z)
-
-pub roundTo-same : (h : ℕ) {x y : Float} → Same x y → roundTo h y ≡ roundTo h x
-unfolding roundTo
-roundTo-same h of-nan = refl
-roundTo-same h (of-inf e) = rw e
-roundTo-same h (of-fin (turned p)) = rw p
-roundTo-same h (of-fin {s = s} {t = t} {m = m} {e = e} (nought p)) =
-    let z : closest (m * up e) (down e) ≡ 0 = closest-zero (m * up e) (down e) (down-pos e) (rw (p, zero-mul)) in
-    saturate-zero h t (closest (m * up e) (down e)) z ∙ sym (saturate-zero h s (closest (m * up e) (down e)) z)
-
-pub floorTo-same : (h : ℕ) {x y : Float} → Same x y → floorTo h y ≡ floorTo h x
-unfolding floorTo
-floorTo-same h of-nan = refl
-floorTo-same h (of-inf e) = rw e
-floorTo-same h (of-fin (turned p)) = rw p
-floorTo-same h (of-fin {s = s} {t = t} {m = m} {e = e} (nought p)) =
-    let z : m * up e ≡ 0 = rw (p, zero-mul) in
-    saturate-zero h t (floorSize t (m * up e) (down e)) (floorSize-zero t (m * up e) (down e) (down-pos e) z)
-    ∙ sym (saturate-zero h s (floorSize s (m * up e) (down e)) (floorSize-zero s (m * up e) (down e) (down-pos e) z))
 
 -- ---- as bits: the same pattern, but for the zeros', and read back the same number
 

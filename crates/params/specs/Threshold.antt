@@ -1,14 +1,17 @@
 -- The threshold of detection. Definitions only.
 use Prim.Native.Nat.{ℕ}
-use mathlib.Core.Bool.{Bool, _||_, not}
+use mathlib.Core.Bool.{Bool, false, _||_, not}
 use mathlib.Core.List.{[], _∷_}
 use lib.Dec.{leb, ltb, eqb}
 use lib.IntN.{pos}
-use lib.Ieee.{Float, binary64, ofBits, ofInt, mul, div}
+use lib.Ieee.{Float, fin, binary64, ofBits, ofInt, mul, div}
 use Rattle.ieee.specs.F32.{narrowed}
 use Rattle.ieee.specs.Whole.{floor}
 use Rattle.params.specs.Limits.{maxLayers}
 use Rattle.params.specs.Table.{line, firstFault, contrastWrong}
+use Rattle.params.specs.Answers.{onFault}
+use Rattle.params.specs.declared.Threshold.{Threshold}
+use Rattle.params.specs.declared.Threshold.the-variants.{Given, Refused}
 
 -- 0.5 and 255, as f64s
 abbrev pub half64 : Float
@@ -25,3 +28,15 @@ thresholdOf contrast layers =
 -- the threshold's own refusals: layers 0 or above 15 is 2, contrast not in 0 to 1 is 4
 unfoldable pub thresholdFault : Float → ℕ → ℕ
 thresholdFault contrast layers = firstFault (line 2 (eqb layers 0 || ltb maxLayers layers) ∷ line 4 (contrastWrong contrast) ∷ [])
+
+-- what the entry answers, what that says in document 01's numbers, and the value beside the number: +0 on a refusal
+unfoldable pub thresholdAnswer : Float → ℕ → Threshold
+thresholdAnswer contrast layers = onFault (thresholdFault contrast layers) (Given (thresholdOf contrast layers)) (Refused (thresholdFault contrast layers))
+
+abbrev pub thresholdNumber : Threshold → ℕ
+thresholdNumber (Given x) = 0
+thresholdNumber (Refused k) = k
+
+abbrev pub thresholdValue : Threshold → Float
+thresholdValue (Given x) = x
+thresholdValue (Refused k) = fin false 0 (pos 0)

@@ -1,0 +1,90 @@
+// The C library: one thin exported function for each entry, and nothing else. `include/bargeclover.h` says the same in C's words.
+// Where a parameter or an answer stands for a float and is a u32 (or a u64), it is the float's bits, and every pattern is taken;
+// a not-a-number answered has the bits 2143289344.
+ghost use mathlib.Core.Path.{_≡_};
+ghost use lib.Ieee.{ofBits, binary64};
+ghost use Rattle.ieee.specs.F32.{f32, bitsOf, fused, rootOf, narrowed, floorOf, rounded, toI32};
+ghost use Rattle.hal.specs.Exp.{exp2Of, expOf};
+ghost use Rattle.hal.specs.Turn.{sinOf, cosOf};
+ghost use Rattle.hal.specs.Angle.{angleOf};
+
+// ---- routines
+
+#[no_mangle]
+pub extern "C" fn bargeclover_exp2(x: u32) -> u32
+    ensures { λ r. ⌜ r ≡ bitsOf (exp2Of (f32 x)) ⌝ }
+{
+    ieee::bits_of(hal::exp2(ieee::of_bits(x)))
+}
+
+#[no_mangle]
+pub extern "C" fn bargeclover_exp(x: u32) -> u32
+    ensures { λ r. ⌜ r ≡ bitsOf (expOf (f32 x)) ⌝ }
+{
+    ieee::bits_of(hal::exp(ieee::of_bits(x)))
+}
+
+#[no_mangle]
+pub extern "C" fn bargeclover_sin(degrees: u32) -> u32
+    ensures { λ r. ⌜ r ≡ bitsOf (sinOf (f32 degrees)) ⌝ }
+{
+    ieee::bits_of(hal::sin(ieee::of_bits(degrees)))
+}
+
+#[no_mangle]
+pub extern "C" fn bargeclover_cos(degrees: u32) -> u32
+    ensures { λ r. ⌜ r ≡ bitsOf (cosOf (f32 degrees)) ⌝ }
+{
+    ieee::bits_of(hal::cos(ieee::of_bits(degrees)))
+}
+
+#[no_mangle]
+pub extern "C" fn bargeclover_angle(dx: u32, dy: u32) -> u32
+    ensures { λ r. ⌜ r ≡ bitsOf (angleOf (f32 dx) (f32 dy)) ⌝ }
+{
+    ieee::bits_of(hal::angle(ieee::of_bits(dx), ieee::of_bits(dy)))
+}
+
+// ---- single operations
+
+#[no_mangle]
+pub extern "C" fn bargeclover_fma(a: u32, b: u32, c: u32) -> u32
+    ensures { λ r. ⌜ r ≡ bitsOf (fused (f32 a) (f32 b) (f32 c)) ⌝ }
+{
+    ieee::bits_of(ieee::mul_add(ieee::of_bits(a), ieee::of_bits(b), ieee::of_bits(c)))
+}
+
+#[no_mangle]
+pub extern "C" fn bargeclover_sqrt(x: u32) -> u32
+    ensures { λ r. ⌜ r ≡ bitsOf (rootOf (f32 x)) ⌝ }
+{
+    ieee::bits_of(ieee::sqrt(ieee::of_bits(x)))
+}
+
+#[no_mangle]
+pub extern "C" fn bargeclover_narrow(x: u64) -> u32
+    ensures { λ r. ⌜ r ≡ bitsOf (narrowed (ofBits binary64 x)) ⌝ }
+{
+    ieee::bits_of(ieee::narrow(ieee::of_bits64(x)))
+}
+
+#[no_mangle]
+pub extern "C" fn bargeclover_floor(x: u32) -> u32
+    ensures { λ r. ⌜ r ≡ bitsOf (floorOf (f32 x)) ⌝ }
+{
+    ieee::bits_of(ieee::floor(ieee::of_bits(x)))
+}
+
+#[no_mangle]
+pub extern "C" fn bargeclover_round(x: u32) -> u32
+    ensures { λ r. ⌜ r ≡ bitsOf (rounded (f32 x)) ⌝ }
+{
+    ieee::bits_of(ieee::round_ties_even(ieee::of_bits(x)))
+}
+
+#[no_mangle]
+pub extern "C" fn bargeclover_to_i32(x: u32) -> i32
+    ensures { λ r. ⌜ r ≡ toI32 (f32 x) ⌝ }
+{
+    ieee::to_i32(ieee::of_bits(x))
+}

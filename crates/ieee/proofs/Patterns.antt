@@ -1,15 +1,19 @@
 -- Bit patterns: which are a NaN's, and that the sign's bit is the sign. Over either format. Assumes nothing.
 use mathlib.Core.Path.{_≡_, refl, sym, ap, _∙_, subst}
 use mathlib.Core.Bool.{Bool, true, false, not, cond, true≢false, false≢true}
-use Prim.Native.Nat.{ℕ, zero, suc, _+_, _*_, _%_, _≤_, _<_}
+use Prim.Native.Nat.{ℕ, zero, suc, _+_, _*_, _%_, _^_, _≤_, _<_}
 use native.Mathlib.Nat.{add-mod-left, mod-eq-of-lt, add-assoc, zero-add}
 use native.Mathlib.Omega.{arith}
 use lib.Dec.{T, ltb}
-use borrow.Author.Tests.{lt-ltb, le-ltb}
-use lib.Ieee.{Float, nan, inf, fin, Format, top, hid, ones, ofBits, toBits, nanBits, isNan, ne, fits}
-use lib.Ieee.Bits.{nanBits-is, nanBits-above, ofBits-toBits, toBits-lt}
+use borrow.Author.Tests.{lt-ltb, le-ltb, ltb-false}
+use lib.Ieee.{Float, nan, inf, fin, Format, prec, emax, low, top, hid, ones, odd, units, round, neg, ofBits, toBits, nanBits, isNan, ne, fits}
+use lib.Ieee.Bits.{is-false, nanBits-is, nanBits-above, ofBits-toBits, toBits-lt}
+use lib.Ieee.Fits.{round-is, round-fits}
+use lib.Ieee.Order.{drop, kept}
 use lib.Ieee.Compare.{differs-from-itself, nan-differs}
 use Rattle.ieee.specs.F32.{absOf}
+use Rattle.ieee.proofs.Doubled.{round-no-nan}
+use Rattle.ieee.proofs.Flat.{neg-round}
 
 only-nan : (x : Float) → isNan x ≡ true → nan ≡ x
 unfolding isNan
@@ -76,6 +80,12 @@ below-bits f nan n = absurd n
 below-bits f (inf s) n = ap (λ (a : ℕ). top f + a) (sym (zero-add (ones f * hid f)))
 below-bits f (fin s m e) n = plain (top f) _ _
 
+below-neg : (x : Float) → below (absOf x) ≡ neg (absOf x)
+unfolding absOf below neg
+below-neg nan = refl
+below-neg (inf s) = refl
+below-neg (fin s m e) = refl
+
 half : (t a b : ℕ) → a ≡ t + b → a < 2 * t → b < t
 half t a b e h = omega arith
 
@@ -94,3 +104,39 @@ clear-is f x h n = ap (ofBits f) (clear-sign f x h n) ∙ ofBits-toBits f (absOf
 
 pub clear-number : (f : Format) (x : Float) → T (fits f x) → T (not (isNan x)) → T (not (nanBits f (toBits f x % top f)))
 clear-number f x h n = subst (λ (b : Bool). T (not b)) (sym (nanBits-is f (toBits f x % top f) ∙ ap isNan (clear-is f x h n))) (abs-number x n)
+
+-- ---- a rounded fraction: its pattern without the sign, and the sign before it
+plain-odd : (d q k l : ℕ) → absOf (odd d false q k l) ≡ odd d false q k l
+unfolding absOf odd
+plain-odd d zero k l = refl
+plain-odd d (suc q) k l = refl
+
+plain-units : (f : Format) (q k : ℕ) → absOf (units f false q k) ≡ units f false q k
+unfolding units absOf
+plain-units f q k = go (ltb (q * 2 ^ k) (2 ^ (low f + suc (emax f))))
+  where
+    go : (b : Bool) → absOf (cond b (odd (suc (prec f)) false q k (low f)) (inf false)) ≡ cond b (odd (suc (prec f)) false q k (low f)) (inf false)
+    go true = plain-odd (suc (prec f)) q k (low f)
+    go false = refl
+
+module _ (f : Format) (a c : ℕ) where
+  abbrev v : Float
+  v = round f false a c
+
+  plain-round : absOf v ≡ v
+  plain-round = ap absOf (round-is f false a c) ∙ plain-units f (kept (prec f) (a * 2 ^ low f) c) (drop (prec f) (a * 2 ^ low f) c) ∙ sym (round-is f false a c)
+
+  low-part : toBits f v % top f ≡ toBits f v
+  low-part = clear-sign f v (round-fits f false a c) (round-no-nan f false a c) ∙ ap (toBits f) plain-round
+
+  -- no more than the infinity's
+  pub round-low : toBits f v ≤ ones f * hid f
+  round-low = subst (λ (n : ℕ). n ≤ ones f * hid f) low-part (ltb-false (ones f * hid f) (toBits f v % top f) (sym (nanBits-above f (toBits f v)) ∙ nanBits-is f (toBits f v) ∙ ap isNan (ofBits-toBits f v (round-fits f false a c)) ∙ is-false (isNan v) (round-no-nan f false a c)))
+
+  pub round-signed : (s : Bool) → ofBits f (cond s (top f) 0 + toBits f v) ≡ round f s a c
+  round-signed false = ap (ofBits f) (zero-add (toBits f v)) ∙ ofBits-toBits f v (round-fits f false a c)
+  round-signed true =
+      ap (ofBits f) (sym (below-bits f v (round-no-nan f false a c) ∙ ap (λ (x : Float). top f + toBits f x) plain-round))
+      ∙ ofBits-toBits f (below v) (below-fits f v (round-fits f false a c))
+      ∙ subst (λ (x : Float). below x ≡ neg x) plain-round (below-neg v)
+      ∙ neg-round f a c

@@ -63,16 +63,6 @@ module _ (m x : ℕ) where
       closest-one : (a : ℕ) → closest a 1 ≡ a
       closest-one a = closest-is a 1 a 0 Ordering·lt (sym (add-zero (a * 1) ∙ mul-one a)) (zero-lt-suc 0) refl
 
-  -- as `pack` is asked for it
-  pub up-round : (s : Bool) → 149 ≤ x → round binary32 s (m * 2 ^ (x + 925)) (2 ^ 1074) ≡ round binary32 s (m * 2 ^ (x - 149)) 1
-  up-round s h =
-      let e : x + 925 ≡ x - 149 + 1074 = omega arith in
-      round-same binary32 s (m * 2 ^ (x + 925)) (2 ^ 1074) (m * 2 ^ (x - 149)) 1 (pow-pos 1074) (zero-lt-suc 0)
-      (mul-one (m * 2 ^ (x + 925)) ∙ ap (λ (y : ℕ). m * 2 ^ y) e ∙ ap (λ (y : ℕ). m * y) (pow-add 2 (x - 149) 1074) ∙ sym (mul-assoc m (2 ^ (x - 149)) (2 ^ 1074)))
-
-pub one-round : (s : Bool) (k : ℕ) → round binary32 s (k * 2 ^ 1074) (2 ^ 1074) ≡ round binary32 s k 1
-one-round s k = round-same binary32 s (k * 2 ^ 1074) (2 ^ 1074) k 1 (pow-pos 1074) (zero-lt-suc 0) (mul-one (k * 2 ^ 1074))
-
 -- ---- the operations, by any way to write the value's size
 module _ (v : Float) (s : Bool) (a : ℕ) where
   pub floor-is : HasValue v s a (2 ^ 149) → floor binary32 v ≡ round binary32 s (floorSize s a (2 ^ 149)) 1

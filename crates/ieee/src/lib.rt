@@ -58,17 +58,26 @@ fn magnitude(m: u64, x: u32) -> u32
     }
 }
 
+fn sign_bit(s: bool) -> u32
+    ensures { λ r. ⌜ r ≡ cond s (top binary32) 0 ⌝ }
+{
+    if s { 0x8000_0000 } else { 0 }
+}
+
+// The float with the sign s and the bits b below it. A sum, and no branch on the sign: signs are mixed, and a branch on them mispredicts.
+fn with_sign(s: bool, b: u32) -> f32
+    requires { ⌜ b ≤ 2139095040 ⌝ }
+    ensures { λ r. ⌜ r ≡ ofBits binary32 (cond s (top binary32) 0 + b) ⌝ }
+{
+    f32::from_bits(sign_bit(s) + b)
+}
+
 // m * 2^x / 2^1074 with the sign s, rounded to the nearest f32.
 fn pack(s: bool, m: u64, x: u32) -> f32
     requires { ⌜ x ≤ 4096 ⌝ }
     ensures { λ r. ⌜ r ≡ round binary32 s (m * 2 ^ x) (2 ^ 1074) ⌝ }
 {
-    let b = magnitude(m, x);
-    if s {
-        f32::from_bits(0x8000_0000 + b)
-    } else {
-        f32::from_bits(b)
-    }
+    with_sign(s, magnitude(m, x))
 }
 
 // A finite value: its size is m * 2^x times the format's smallest value.
@@ -154,13 +163,8 @@ fn close(n: u64) -> f32
     requires { ⌜ Clear n ⌝ }
     ensures { λ r. ⌜ r ≡ convert binary32 (ofBits binary64 n) ⌝ }
 {
-    let v = ((n % 0x8000_0000_0000_0000 - 0x3800_0000_0000_0000 + 0x1000_0000)
-        / 0x2000_0000) as u32;
-    if n >= 0x8000_0000_0000_0000 {
-        f32::from_bits(0x8000_0000 + v)
-    } else {
-        f32::from_bits(v)
-    }
+    let v = (n % 0x8000_0000_0000_0000 - 0x3800_0000_0000_0000 + 0x1000_0000) / 0x2000_0000;
+    with_sign(n >= 0x8000_0000_0000_0000, v as u32)
 }
 
 // x as an f32, rounded once.
@@ -512,8 +516,7 @@ fn from_whole(s: bool, k: u64) -> f32
     requires { ⌜ k ≤ 2 ^ 24 ⌝ }
     ensures { λ r. ⌜ r ≡ round binary32 s k 1 ⌝ }
 {
-    let v = k as f32;
-    if s { -v } else { v }
+    with_sign(s, f32::to_bits(k as f32))
 }
 
 // ±k as an i32.
@@ -534,7 +537,7 @@ pub fn floor(x: f32) -> f32
         let m = p.m;
         let e = p.x;
         if e >= 149 {
-            pack(s, m, e + 925)
+            x
         } else {
             from_whole(s, floor_size(s, m, 149 - e))
         }
@@ -553,7 +556,7 @@ pub fn round_ties_even(x: f32) -> f32
         let m = p.m;
         let e = p.x;
         if e >= 149 {
-            pack(s, m, e + 925)
+            x
         } else {
             from_whole(s, near_size(m, 149 - e))
         }

@@ -1,62 +1,41 @@
+-- `floor` meets its contract: the whole part of m * 2 ^ x / 2 ^ 149 downward is a shift of m, and from 2 ^ 23 on there is no other part. Assumes nothing.
 use borrow.Author.Needs.{needs}
-use mathlib.Core.Path.{_≡_, refl, sym, ap, _∙_, subst}
-use mathlib.Core.Bool.{Bool, true, false}
-use Prim.Native.Nat.{ℕ, suc, _+_, _-_, _*_, _/_, _%_, _^_, _≤_, _<_}
+use mathlib.Core.Path.{_≡_, sym, ap, _∙_, subst}
+use Prim.Native.Nat.{ℕ, _-_, _*_, _^_, _≤_}
 use native.Mathlib.Nat.{le-of-lt}
-use native.Mathlib.Omega.{arith}
-use lib.Ieee.{Float, binary32, round}
-use Rattle.ieee.proofs.Wholes.{floor-is, floor-up, floor-down, floor-other, up-round, one-round}
-use Rattle.ieee.proofs.Flat.{floor-le, near-le}
+use lib.Dec.{T}
+use lib.Ieee.{binary32, round, fits}
+use Rattle.ieee.proofs.Wholes.{floor-is, floor-up, floor-down, floor-other}
+use Rattle.ieee.proofs.Flat.{floor-le}
+use Rattle.ieee.proofs.Casts.{itself}
 use Rattle.ieee.proofs.floor.Statement.{statement}
 use Rattle.ieee.proofs.floor.Tie as tie
 use Rattle.ieee.proofs.floor.Reads as reads
 use Rattle.ieee.proofs.floor.Lts as lts
-use Rattle.ieee.proofs.floor_size.Reads as floor-size-reads
-use Rattle.ieee.proofs.from_whole.Reads as from-whole-reads
-use Rattle.ieee.proofs.is_finite.Reads as is-finite-reads
-use Rattle.ieee.proofs.pack.Reads as pack-reads
-use Rattle.ieee.proofs.unpack.Reads as unpack-reads
 
--- src/lib.rt:484:8
 is-finite-requires : tie.Need-is-finite-requires
 is-finite-requires c κs = search needs
 
--- src/lib.rt:485:13
 unpack-requires : tie.Need-unpack-requires
 unpack-requires c κs = search needs
 
--- src/lib.rt:490:24
-add-pack : tie.Need-add-pack
-add-pack c = search needs
-
--- src/lib.rt:490:13
-pack-requires : tie.Need-pack-requires
-pack-requires c κs = search needs
-
--- src/lib.rt:492:44
 sub-floor-size : tie.Need-sub-floor-size
 sub-floor-size c = search needs
 
--- src/lib.rt:492:27
 floor-size-requires : tie.Need-floor-size-requires
 floor-size-requires c κs = search needs
 
--- src/lib.rt:492:13
 from-whole-requires : tie.Need-from-whole-requires
 from-whole-requires c κs = let u = c .before .before .unpack in subst (λ (x : ℕ). x ≤ 2 ^ 24) (sym (c .floor-size .ensures)) (floor-le (u .result .s) (u .result .m) (149 - u .result .x) (u .ensures .digits))
 
--- src/lib.rt:481:1
 returns : tie.Need-returns
 returns c =
-    let d = c .before .before in
-    let u = d .unpack in
-    let x = d .before .before .before in
-    c .pack .ensures
-    ∙ up-round (u .result .m) (u .result .x) (u .result .s) (c .before .if2 .taken)
-    ∙ ap (λ (k : ℕ). round binary32 (u .result .s) k 1) (sym (floor-up (u .result .m) (u .result .x) (u .result .s) (c .before .if2 .taken)))
-    ∙ sym (floor-is (x .args .x) (u .result .s) (u .result .m * 2 ^ u .result .x) (u .ensures .value))
+    let u = c .before .unpack in
+    let z = c .before .before .before .before in
+    sym (floor-is (z .args .x) (u .result .s) (u .result .m * 2 ^ u .result .x) (u .ensures .value)
+    ∙ ap (λ (k : ℕ). round binary32 (u .result .s) k 1) (floor-up (u .result .m) (u .result .x) (u .result .s) (c .if2 .taken))
+    ∙ itself (z .args .x) (u .result .s) (u .result .m) (u .result .x) (u .ensures) (subst T (sym (z .good .0 .1)) tt) (c .if2 .taken))
 
--- src/lib.rt:481:1
 returns-2 : tie.Need-returns-2
 returns-2 c =
     let z = c .before in
@@ -67,7 +46,6 @@ returns-2 c =
     ∙ ap (λ (k : ℕ). round binary32 (u .result .s) k 1) (z .floor-size .ensures ∙ sym (floor-down (u .result .m) (u .result .x) (u .result .s) (le-of-lt (z .before .if2 .left))))
     ∙ sym (floor-is (x .args .x) (u .result .s) (u .result .m * 2 ^ u .result .x) (u .ensures .value))
 
--- src/lib.rt:481:1
 returns-3 : tie.Need-returns-3
 returns-3 c = floor-other (c .before .before .args .x) (sym (c .before .is-finite .ensures) ∙ c .if1 .left)
 
@@ -77,8 +55,6 @@ floor-spec =
     (tie.spec
     is-finite-requires
     unpack-requires
-    add-pack
-    pack-requires
     sub-floor-size
     floor-size-requires
     from-whole-requires

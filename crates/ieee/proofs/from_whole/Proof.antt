@@ -1,17 +1,14 @@
-use Prim.Native.Nat.{ℕ, _+_, _-_, _*_, _/_, _%_, _^_, _≤_, _<_}
-use native.Mathlib.Nat.{le-of-lt, le-trans, lt-of-lt-of-le, lt-of-le-of-lt, mod-lt, mod-eq-of-lt, mul-le-mul}
-use native.Mathlib.Omega.{arith}
+-- `from_whole` meets its contract: a cast, and the sign before its bits. Assumes nothing.
 use mathlib.Core.Path.{_≡_, refl, sym, ap, _∙_, subst}
-use mathlib.Core.Bool.{Bool, true, false, not}
-use lib.Dec.{T, lit<, lit≤}
-use lib.Dec.{le→leb}
+use mathlib.Core.Bool.{Bool, true, false, not, cond}
+use Prim.Native.Nat.{ℕ, _+_, _^_, _≤_}
+use lib.Dec.{T, le→leb}
 use lib.IntN.{pos}
-use lib.Ieee.{Float, binary32, round, ofInt, inFloat, neg}
-use Rattle.ieee.proofs.Flat.{neg-round}
+use lib.Ieee.{Float, binary32, round, ofInt, inFloat, isNan, top, ofBits, toBits}
+use Rattle.ieee.proofs.Doubled.{round-no-nan}
+use Rattle.ieee.proofs.Patterns.{round-low, round-signed}
 use Rattle.ieee.proofs.from_whole.Statement.{statement}
 use Rattle.ieee.proofs.from_whole.Tie as tie
-use Rattle.ieee.proofs.from_whole.Reads as reads
-use Rattle.ieee.proofs.from_whole.Lts as lts
 
 inside : (a : ℕ) → a ≤ 2 ^ 24 → T (inFloat binary32 (pos a))
 unfolding inFloat
@@ -21,17 +18,22 @@ is-round : (k : ℕ) → ofInt binary32 (pos k) ≡ round binary32 false k 1
 unfolding ofInt
 is-round k = refl
 
--- src/lib.rt:468:13
-int-to-float-v : tie.Need-int-to-float-v
-int-to-float-v c = inside (c .before .args .k) (c .before .pre)
+int-to-float-with-sign : tie.Need-int-to-float-with-sign
+int-to-float-with-sign c = inside (c .before .args .k) (c .before .pre)
 
--- src/lib.rt:464:1
+float-to-bits-with-sign : tie.Need-float-to-bits-with-sign
+float-to-bits-with-sign c = subst (λ (v : Float). T (not (isNan v))) (sym (is-round (c .before .args .k))) (round-no-nan binary32 false (c .before .args .k) 1)
+
+with-sign-requires : tie.Need-with-sign-requires
+with-sign-requires c κs = subst (λ (v : Float). toBits binary32 v ≤ 2139095040) (sym (is-round (c .before .args .k))) (round-low binary32 (c .before .args .k) 1)
+
 returns : tie.Need-returns
-returns c = let a = c .before .before in rw (c .if1 .taken) (ap neg (is-round (a .args .k)) ∙ neg-round binary32 (a .args .k) 1)
-
--- src/lib.rt:464:1
-returns-2 : tie.Need-returns-2
-returns-2 c = let a = c .before .before in rw (c .if1 .left) (is-round (a .args .k))
+returns c =
+    let a = c .before .before in
+    c .with-sign .ensures
+    ∙ ap (λ (v : Float). ofBits binary32 (cond (a .args .s) (top binary32) 0 + toBits binary32 v)) (is-round (a .args .k))
+    ∙ round-signed binary32 (a .args .k) 1 (a .args .s)
 
 pub from-whole-spec : {M : Type 1} → statement M
-from-whole-spec = tie.close (tie.spec int-to-float-v returns returns-2)
+from-whole-spec =
+    tie.close (tie.spec int-to-float-with-sign float-to-bits-with-sign with-sign-requires returns)

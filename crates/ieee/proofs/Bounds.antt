@@ -1,19 +1,19 @@
 -- Bounds of a float, and what an operation makes of them: the results at the ends, which a caller computes. For both formats. Assumes nothing.
-use Prim.Native.Nat.{ℕ, zero, suc, _+_, _-_, _*_, _/_, _^_, _<_, _≤_}
-use mathlib.Core.Path.{_≡_, refl, sym, ap, _∙_}
-use mathlib.Core.Bool.{Bool, true, false, not, _&&_, cond, true≢false, false≢true}
+use Prim.Native.Nat.{ℕ, _+_, _-_, _*_, _≤_}
+use mathlib.Core.Path.{_≡_, refl}
+use mathlib.Core.Bool.{Bool, true, false, not, false≢true}
 use native.Mathlib.Nat.{zero-mul, mul-comm}
 use native.Mathlib.Omega.{arith}
 use borrow.Author.Tests.{ltb-true, lt-ltb}
-use lib.Dec.{T, ltb}
-use lib.IntN.{ℤ, pos}
-use lib.Ieee.{Float, nan, inf, fin, Format, binary32, binary64, up, down, unlike, round, neg, add, sub, mul, div, lt, le, isNan, ofBits, ofInt}
+use lib.Dec.{T}
+use lib.IntN.{pos}
+use lib.Ieee.{Float, nan, inf, fin, Format, binary32, binary64, up, down, unlike, neg, add, sub, mul, div, lt, le, isNan, ofBits, ofInt}
 use lib.Ieee.Scale.{finite}
 use Rattle.ieee.specs.Fused.{fma, convert}
 use Rattle.ieee.specs.Whole.{floor, roundEven}
 use Rattle.ieee.specs.F32.{absOf}
-use Rattle.ieee.proofs.Order.{plus, minus, le-fin, fin-le, lt-fin, fin-lt, le-trans-float, le-refl-float, lt-le, le-number, lt-le-trans, neg-le, Marked, endless, ended, round-marked}
-use Rattle.ieee.proofs.Monotone.{nil, neg-finite, add-le, sub-le, mul-le-left, mul-le, mul-swap, unlike-swap, div-le-left, div-le-right, fma-le-addend, fma-le-left, convert-le, roundEven-le, floor-le, ofInt-le}
+use Rattle.ieee.proofs.Order.{fin-le, le-trans-float, lt-le, lt-le-trans, Marked, endless, ended, round-marked}
+use Rattle.ieee.proofs.Monotone.{nil, neg-finite, add-le, sub-le, mul-le-left, mul-le, unlike-swap, div-le-left, div-le-right, fma-le-addend, fma-le-left, convert-le, roundEven-le, floor-le, ofInt-le}
 
 -- x lies from lo to hi, which are finite
 pub record Bounds (lo hi x : Float) : Type 0 where

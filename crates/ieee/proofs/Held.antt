@@ -1,9 +1,9 @@
 -- The result of each operation that this crate adds is a value of its format. Only where an operand can come back unrounded is something asked of it. Assumes nothing.
-use Prim.Native.Nat.{ℕ, zero, suc, _+_, _*_, _/_, _^_}
+use Prim.Native.Nat.{ℕ, zero, suc, _*_, _/_, _^_}
 use mathlib.Core.Path.{sym, subst}
-use mathlib.Core.Bool.{Bool, true, false, cond}
+use mathlib.Core.Bool.{Bool, true, false}
 use lib.Dec.{T}
-use lib.Ieee.{Float, nan, inf, fin, Format, low, up, down, unlike, round, sum, add, mul, fits}
+use lib.Ieee.{Float, nan, inf, fin, Format, low, up, down, unlike, sum, mul, fits}
 use lib.Ieee.Fits.{round-fits, add-fits, nan-fits, inf-fits}
 use lib.Ieee.Nearest.{closest}
 use Rattle.ieee.specs.Fused.{fma, convert}

@@ -1,11 +1,11 @@
 -- The operations keep the order of their operands. For both formats, and for finite operands, whose results may be infinite. Assumes nothing.
-use Prim.Native.Nat.{ℕ, zero, suc, _+_, _-_, _*_, _/_, _^_, _<_, _≤_, min}
-use mathlib.Core.Path.{_≡_, refl, sym, ap, subst, _∙_}
-use mathlib.Core.Bool.{Bool, true, false, not, _&&_, _||_, Bool·beq, cond, true≢false, false≢true}
+use Prim.Native.Nat.{ℕ, suc, _+_, _-_, _*_, _/_, _^_, _<_, _≤_, min}
+use mathlib.Core.Path.{_≡_, refl, sym, ap}
+use mathlib.Core.Bool.{Bool, true, false, not, false≢true}
 use mathlib.Core.Logic.{_⊎_, inl, inr, ⊎-elim}
 use native.Mathlib.Nat.{zero-mul, mul-zero, mul-pos, mul-assoc, mul-comm, mul-left-comm, mul-right-comm, add-mul, le-trans, le-of-eq, mul-le-mul-right, le-of-mul-le-mul-right, div-lt-iff-lt-mul, div-add-mod', mod-lt, suc-mul, le-refl, eq-zero-or-pos}
 use native.Mathlib.Omega.{arith}
-use borrow.Author.Tests.{ltb-true, ltb-false, eqb-true, ne-eqb}
+use borrow.Author.Tests.{ltb-true, ltb-false, ne-eqb}
 use lib.Dec.{T, ltb, eqb}
 use lib.IntN.{ℤ, pos}
 use lib.Ieee.{Float, nan, inf, fin, Format, up, down, unlike, round, sum, neg, add, sub, mul, div, lt, le, isNan, ofInt, toUnsigned}
@@ -14,9 +14,8 @@ use lib.Ieee.Nearest.{closest, closest-mono, div-mono}
 use lib.Ieee.Scale.{finite}
 use Rattle.ieee.specs.Fused.{fma, convert}
 use Rattle.ieee.specs.Whole.{floorSize, floor, roundEven}
-use Rattle.ieee.specs.F32.{absOf}
 use Rattle.ieee.proofs.TurnedOps.{closest-zero, floorSize-zero}
-use Rattle.ieee.proofs.Order.{plus, minus, plus-mul, minus-mul, Leq, Less, le-fin, fin-le, lt-fin, fin-lt, le-trans-float, lt-le, le-number, lt-not-le, lt-le-trans, neg-le, Marked, endless, ended, round-marked, marked-number, round-le}
+use Rattle.ieee.proofs.Order.{plus, minus, plus-mul, minus-mul, Leq, le-fin, fin-le, lt-fin, le-trans-float, lt-le-trans, neg-le, round-marked, marked-number, round-le}
 
 ruleset ac = (mul-assoc, mul-comm, mul-left-comm)
 

@@ -1,20 +1,19 @@
 -- The order of floats: it is that of the fractions that they stand for, with their signs; it is total and transitive but for a not-a-number; and rounding keeps it.
 -- For both formats. Assumes nothing.
-use Prim.Native.Nat.{ℕ, zero, suc, _+_, _-_, _*_, _/_, _^_, _<_, _≤_}
-use mathlib.Core.Path.{_≡_, refl, sym, ap, subst, _∙_}
-use mathlib.Core.Bool.{Bool, true, false, not, _&&_, _||_, Bool·beq, cond, true≢false, false≢true}
+use Prim.Native.Nat.{ℕ, zero, suc, _+_, _-_, _*_, _^_, _<_, _≤_}
+use mathlib.Core.Path.{_≡_, refl, sym, _∙_}
+use mathlib.Core.Bool.{Bool, true, false, not, _&&_, _||_, cond, true≢false, false≢true}
 use mathlib.Core.Logic.{_⊎_, inl, inr, ⊎-elim}
-use native.Mathlib.Nat.{zero-mul, mul-zero, zero-add, add-zero, mul-pos, mul-assoc, mul-comm, mul-left-comm, mul-right-comm, add-mul, mul-add, le-trans, le-of-eq, mul-le-mul-right, le-of-mul-le-mul-right, lt-of-mul-lt-mul-right, mul-lt-mul-of-pos-right, eq-zero-or-pos}
+use native.Mathlib.Nat.{zero-mul, mul-pos, mul-right-comm, add-mul, le-trans, le-of-eq, mul-le-mul-right, le-of-mul-le-mul-right, eq-zero-or-pos}
 use native.Mathlib.Omega.{arith}
-use borrow.Author.Tests.{ltb-true, ltb-false, lt-ltb, le-ltb, eq-eqb, eqb-true, eqb-false, ne-eqb, not-true}
-use lib.Dec.{T, ltb, leb, eqb}
+use borrow.Author.Tests.{ltb-true, ltb-false, lt-ltb, eq-eqb, eqb-true, eqb-false, ne-eqb}
+use lib.Dec.{T, ltb, eqb}
 use lib.IntN.{ℤ, pos}
 use lib.Ieee.{Float, nan, inf, fin, Format, prec, emax, low, up, down, odd, units, round, neg, below, level, lt, eq, le, isNan}
-use lib.Ieee.Fits.{up-pos, down-pos}
+use lib.Ieee.Fits.{down-pos}
 use lib.Ieee.Bits.{is-true}
 use lib.Ieee.Order.{round-mono}
-use lib.Ieee.Scale.{finite}
-use Rattle.ieee.specs.Sign.{Turned, turned, of-nan, of-inf, of-fin}
+use Rattle.ieee.specs.Sign.{turned}
 use Rattle.ieee.proofs.Turned.{round-zero, round-turned, le-turned, lt-turned, neg-opp}
 
 -- ---- the part of ±a above zero and the part below: ±a is plus - minus

@@ -29,7 +29,7 @@ place m l (negsuc a) h =
     let g : suc a ≤ l = pow-le-back (suc a) l h in
     (l - suc a, ap (λ (x : ℕ). x * 2 ^ l) (mul-one m) ∙ ap (λ (x : ℕ). m * x) (ap (λ (x : ℕ). 2 ^ x) (sym (back l (suc a) g)) ∙ pow-add 2 (l - suc a) (suc a)) ∙ sym (mul-assoc m (2 ^ (l - suc a)) (2 ^ suc a)))
 
-in-units : (f : Format) (s : Bool) (m : ℕ) (e : ℤ) → T (fits f (fin s m e)) → (y : ℕ) × (j : ℕ) × (y < 2 ^ prec f) × (m * up e * 2 ^ low f ≡ y * 2 ^ j * down e)
+pub in-units : (f : Format) (s : Bool) (m : ℕ) (e : ℤ) → T (fits f (fin s m e)) → (y : ℕ) × (j : ℕ) × (y < 2 ^ prec f) × (m * up e * 2 ^ low f ≡ y * 2 ^ j * down e)
 unfolding fits
 in-units f s zero e t = (0, 0, pow-pos (prec f), ap (λ (x : ℕ). x * 2 ^ low f) (zero-mul (up e)) ∙ zero-mul (2 ^ low f) ∙ sym (ap (λ (x : ℕ). x * down e) (zero-mul (2 ^ 0)) ∙ zero-mul (down e)))
 in-units f s (suc m) e t =
@@ -40,7 +40,7 @@ in-units f s (suc m) e t =
     let w = place (suc m) (low f) e (leb→le (down e) (2 ^ low f) (and-r (A && B) C (and-l (A && B && C) D t))) in
     (suc m, w .0, ltb→lt (suc m) (2 ^ prec f) (and-r A B (and-l (A && B) C (and-l (A && B && C) D t))), w .1)
 
-top-lt : (f : Format) (s : Bool) (m : ℕ) (e : ℤ) → T (fits f (fin s (suc m) e)) → suc m * up e < 2 ^ suc (emax f) * down e
+pub top-lt : (f : Format) (s : Bool) (m : ℕ) (e : ℤ) → T (fits f (fin s (suc m) e)) → suc m * up e < 2 ^ suc (emax f) * down e
 unfolding fits
 top-lt f s m e t = ltb→lt (suc m * up e) (2 ^ suc (emax f) * down e) (and-r (eqb (suc m % 2) 1 && ltb (suc m) (2 ^ prec f) && leb (down e) (2 ^ low f)) (ltb (suc m * up e) (2 ^ suc (emax f) * down e)) t)
 

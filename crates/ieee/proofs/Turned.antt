@@ -1,13 +1,13 @@
 -- Sign symmetry of the operations of `lib.Ieee`: with operands turned, the result is turned, up to the sign of a zero. For both formats. Assumes nothing.
-use Prim.Native.Nat.{ℕ, zero, suc, _+_, _-_, _*_, _^_, _<_, _≤_}
-use mathlib.Core.Path.{_≡_, refl, sym, ap, subst, _∙_}
+use Prim.Native.Nat.{ℕ, zero, suc, _+_, _-_, _*_, _^_, _<_}
+use mathlib.Core.Path.{_≡_, refl, sym, ap, _∙_}
 use mathlib.Core.Bool.{Bool, true, false, not, _&&_, _||_, Bool·beq, cond}
 use mathlib.Core.Logic.{_⊎_, inl, inr, ⊎-elim}
-use native.Mathlib.Nat.{eq-zero-or-pos, mul-pos, zero-mul, mul-zero, add-zero, zero-add, add-comm, sub-zero}
+use native.Mathlib.Nat.{eq-zero-or-pos, mul-pos, zero-mul, mul-zero, add-zero, zero-add, add-comm}
 use native.Mathlib.Omega.{arith}
-use borrow.Author.Tests.{ltb-true, ltb-false, lt-ltb, le-ltb, eq-eqb, eqb-true, eqb-false, ne-eqb, not-true}
-use lib.Dec.{ltb, leb, eqb}
-use lib.IntN.{ℤ, pos}
+use borrow.Author.Tests.{ltb-true, ltb-false, le-ltb, eq-eqb, eqb-true, eqb-false, ne-eqb, not-true}
+use lib.Dec.{ltb, eqb}
+use lib.IntN.{pos}
 use lib.Ieee.{Float, nan, inf, fin, Format, prec, emax, low, binary32, binary64, up, down, unlike, odd, units, round, neg, sum, add, sub, mul, div}
 use lib.Ieee.{below, level, lt, eq, le}
 use lib.Ieee.Fits.{up-pos, down-pos}

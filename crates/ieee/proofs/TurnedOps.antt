@@ -1,5 +1,5 @@
 -- Sign symmetry of the operations that this crate adds, of casts and of tests against zero. For both formats. Assumes nothing.
-use Prim.Native.Nat.{ℕ, zero, suc, _+_, _-_, _*_, _/_, _^_, _<_, _≤_, min}
+use Prim.Native.Nat.{ℕ, zero, suc, _-_, _*_, _/_, _^_, _<_, min}
 use mathlib.Core.Path.{_≡_, refl, sym, ap, subst, _∙_}
 use mathlib.Core.Bool.{Bool, true, false, not, _&&_, cond}
 use mathlib.Core.Logic.{⊎-elim}
@@ -7,17 +7,17 @@ use native.Mathlib.Nat.{zero-mul, mul-zero, mul-pos, eq-zero-or-pos, div-eq-of-l
 use native.Mathlib.Omega.{arith}
 use borrow.Author.Tests.{lt-ltb, eq-eqb, ne-eqb, eqb-false, not-true}
 use lib.Dec.{T, ltb, eqb}
-use lib.IntN.{ℤ, pos, negℤ}
-use lib.Ieee.{Float, nan, inf, fin, Format, binary32, up, down, unlike, round, sum, add, mul, neg, lt, eq, level, ofBits, toBits, toUnsigned, toSigned, fits}
+use lib.IntN.{ℤ, pos}
+use lib.Ieee.{Float, nan, inf, fin, Format, up, down, unlike, lt, eq, level, ofBits, toBits, toUnsigned, toSigned, fits}
 use lib.Ieee.Fits.{up-pos, down-pos}
 use lib.Ieee.Nearest.{closest, closest-same}
 use lib.Ieee.Bits.{ofBits-toBits}
-use Rattle.ieee.specs.Sign.{Signs, turned, nought, Turned, of-nan, of-inf, of-fin, Opp, Same}
+use Rattle.ieee.specs.Sign.{turned, nought, Turned, of-nan, of-inf, of-fin, Same}
 use Rattle.ieee.specs.Fused.{fma, convert}
 use Rattle.ieee.specs.Root.{sqrt}
 use Rattle.ieee.specs.Whole.{floorSize, floor, roundEven, saturate}
 use Rattle.ieee.specs.F32.{f32, absOf}
-use Rattle.ieee.proofs.Turned.{round-zero, round-turned, signs-of, sum-turned, zero-of, cond-turned, add-turned, mul-turned, product, nonzero, zero-left, zero-right, level-zero}
+use Rattle.ieee.proofs.Turned.{round-turned, signs-of, sum-turned, zero-of, add-turned, mul-turned, product, nonzero, zero-left, zero-right, level-zero}
 
 -- ---- the relation itself
 

@@ -4,3 +4,4 @@ pub mod Root
 pub mod Whole
 pub mod F32
 pub mod Sign
+pub mod Meaning

@@ -1,0 +1,18 @@
+use Rattle.bounds.specs.Bounds.{minOf}
+use Rattle.bounds.proofs.min.Statement.{statement}
+use Rattle.bounds.proofs.min.Tie as tie
+
+returns : tie.Need-returns
+unfolding minOf
+returns c = simp (c .if1 .taken)
+
+returns-2 : tie.Need-returns-2
+unfolding minOf
+returns-2 c = simp (c .before .if1 .left, c .if2 .taken)
+
+returns-3 : tie.Need-returns-3
+unfolding minOf
+returns-3 c = simp (c .before .if1 .left, c .if2 .left)
+
+pub min-spec : {M : Type 1} → statement M
+min-spec = tie.close (tie.spec returns returns-2 returns-3)

@@ -1,0 +1,43 @@
+//! The entries as they are in C, made safe by slices: numbers, counts and words, and nothing allocated. Each answers document
+//! 01's number and what it carries. On a refusal nothing is written and all else is 0, but for the count needed beside a 7.
+
+use crate::{Settings, Stack, ffi};
+
+/// The number, and the threshold by its bits.
+pub fn threshold(contrast: f64, layers: usize) -> (u32, u32) {
+    let mut bits = 0;
+    // SAFETY: the pointer is good for one value.
+    let number = unsafe { ffi::bargeclover_threshold(contrast, layers, &mut bits) };
+    (number, bits)
+}
+
+/// The number, and the count of keypoints; ten words of `out` for each.
+pub fn find_extrema(
+    stack: &Stack,
+    layer: usize,
+    octave: u32,
+    settings: &Settings,
+    out: &mut [u32],
+) -> (u32, usize) {
+    let mut count = 0;
+    // SAFETY: each pointer is good for its length, and what is written is lent to nobody else.
+    let number = unsafe {
+        ffi::bargeclover_find_extrema(
+            stack.samples.as_ptr(),
+            stack.samples.len(),
+            stack.width,
+            stack.height,
+            stack.planes,
+            layer,
+            octave,
+            settings.layers,
+            settings.contrast,
+            settings.edge,
+            settings.sigma,
+            out.as_mut_ptr(),
+            out.len(),
+            &mut count,
+        )
+    };
+    (number, count)
+}

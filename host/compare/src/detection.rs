@@ -1,0 +1,163 @@
+//! Stacks: the library's answer against the published Rust's where the stack is accepted, and against the table where it is not.
+
+use crate::report::Report;
+use bargeclover::entries;
+use cases::detection::{Case, Kind, accepted, damage};
+use cases::fate::{Fate, fates};
+use cases::{Rng, table};
+
+/// What stands in the lent words before a call, so that a word that is written or not shows.
+const BEFORE: u32 = 0xa5a5_a5a5;
+
+fn told(c: &Case) -> String {
+    let head = format!(
+        "{} x {} x {}, layer {}, octave {}, {:?}",
+        c.width, c.height, c.planes, c.layer, c.octave, c.settings
+    );
+    if c.samples.len() > 11 * 11 * 3 {
+        return format!("{head}, {} samples", c.samples.len());
+    }
+    let words: Vec<String> = c
+        .samples
+        .iter()
+        .map(|x| format!("{:x}", x.to_bits()))
+        .collect();
+    format!("{head}, samples {}", words.join(" "))
+}
+
+/// The answer that is right, for so many words lent: the number, the count, and all the lent words afterwards.
+fn expected(c: &Case, room: usize) -> (u32, usize, Vec<u32>) {
+    let mut out = vec![BEFORE; room];
+    let fault = table::detection(c);
+    if fault != 0 {
+        return (fault, 0, out);
+    }
+    let found = oracle::find_extrema(&c.stack(), c.layer, c.octave, &c.settings);
+    let words = found.as_flattened();
+    if words.len() > room {
+        return (7, found.len(), out);
+    }
+    out[..words.len()].copy_from_slice(words);
+    (0, found.len(), out)
+}
+
+fn answer(c: &Case, room: usize) -> (u32, usize, Vec<u32>) {
+    let mut out = vec![BEFORE; room];
+    let (number, count) =
+        entries::find_extrema(&c.stack(), c.layer, c.octave, &c.settings, &mut out);
+    (number, count, out)
+}
+
+fn hold(r: &mut Report, c: &Case, room: usize) -> (u32, usize, Vec<u32>) {
+    let (ours, theirs) = (answer(c, room), expected(c, room));
+    r.same("find_extrema", &ours, &theirs, || told(c));
+    r.tried(format!("find_extrema answered {}", theirs.0));
+    ours
+}
+
+/// A keypoint's fields as numbers: zeros of both signs are one.
+fn numbers(w: &[u32; 10]) -> [f64; 10] {
+    let mut n = w.map(f64::from);
+    for k in [0, 1, 2, 3, 6] {
+        n[k] = f64::from(f32::from_bits(w[k]));
+    }
+    n
+}
+
+/// Demand 3: the stack and the turned stack have equally many keypoints in the same order, each field equal as a number.
+fn turned_alike(r: &mut Report, c: &Case, a: &(u32, usize, Vec<u32>), b: &(u32, usize, Vec<u32>)) {
+    let list = |(_, count, out): &(u32, usize, Vec<u32>)| -> Vec<[f64; 10]> {
+        let (keypoints, _) = out.as_chunks();
+        keypoints[..*count].iter().map(numbers).collect()
+    };
+    r.same("numbers of both signs", &a.0, &b.0, || told(c));
+    if a.0 == 0 && b.0 == 0 {
+        r.same("keypoints of both signs", &list(a), &list(b), || told(c));
+    }
+}
+
+/// An accepted stack and its turned twin, with room, with room to spare or with too little.
+fn stack(rng: &mut Rng, r: &mut Report, kind: Kind) {
+    let c = accepted(rng, kind);
+    let found = oracle::find_extrema(&c.stack(), c.layer, c.octave, &c.settings);
+    let need = found.len() * 10;
+    let told_fates = fates(&c.stack(), c.layer, &c.settings);
+    for f in &told_fates {
+        r.tried(format!("candidate: {f:?}"));
+    }
+    // The teller of fates is held to the Rust too: the kept ones, by their moves.
+    let kept = told_fates.iter().filter_map(|f| match f {
+        Fate::Kept(moves) => Some(*moves),
+        _ => None,
+    });
+    let moves: Vec<u32> = found.iter().map(|k| k[9]).collect();
+    r.same("fates", &kept.collect(), &moves, || told(&c));
+    r.add("keypoints of accepted stacks", found.len() as u64);
+    r.tried(format!("stack: {kind:?}"));
+    let turned = c.turned();
+    let spare = rng.below(25);
+    let (a, b) = (hold(r, &c, need + spare), hold(r, &turned, need + spare));
+    turned_alike(r, &c, &a, &b);
+    if need > 0 && rng.one_in(4) {
+        let short = rng.pick(&[0, 1, need / 2, need - 1, need - need.min(10)]);
+        hold(r, &c, short);
+    }
+}
+
+fn damaged(rng: &mut Rng, r: &mut Report, kind: Kind) {
+    let mut c = accepted(rng, kind);
+    damage(rng, &mut c);
+    if rng.one_in(3) {
+        damage(rng, &mut c);
+    }
+    // Room is made for what the Rust finds only where the table lets it run.
+    let room = rng.pick(&[0, 7, 40, 4096]);
+    hold(r, &c, room);
+    r.tried("damaged stack");
+}
+
+/// `many` accepted stacks, each with its turned twin, and half as many damaged ones.
+pub fn stacks(rng: &mut Rng, many: u64, r: &mut Report) {
+    for k in 0..many {
+        let kind = Kind::ALL[(k % Kind::ALL.len() as u64) as usize];
+        stack(rng, r, kind);
+        if k % 2 == 0 {
+            damaged(rng, r, kind);
+        }
+    }
+}
+
+pub fn thresholds(rng: &mut Rng, many: u64, r: &mut Report) {
+    for _ in 0..many {
+        let layers = match rng.below(4) {
+            0 => rng.pick(&[0, 16, 17, usize::MAX, 1 << 32]),
+            _ => rng.from_to(1, 15),
+        };
+        let contrast = match rng.below(4) {
+            0 => f64::from_bits(rng.word()),
+            1 => rng.pick(&[
+                0.0,
+                -0.0,
+                1.0,
+                1.0f64.next_up(),
+                -f64::MIN_POSITIVE,
+                f64::NAN,
+            ]),
+            // about a contrast where the floor steps
+            2 => {
+                let step = rng.below(128) as f64 / 255.0 * 2.0 * layers as f64;
+                [step, step.next_up(), step.next_down()][rng.below(3)]
+            }
+            _ => rng.unit(),
+        };
+        let theirs = match table::threshold(contrast, layers) {
+            0 => (0, oracle::threshold(contrast, layers).to_bits()),
+            fault => (fault, 0),
+        };
+        let ours = entries::threshold(contrast, layers);
+        r.same("threshold", &ours, &theirs, || {
+            format!("of {contrast} and {layers}")
+        });
+    }
+    r.add("threshold", many);
+}

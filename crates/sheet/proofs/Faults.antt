@@ -1,0 +1,87 @@
+-- What no fault of the writer's says, for every layout, and what gives no fault. Assumes nothing.
+use mathlib.Core.Path.{_≡_, refl}
+use mathlib.Core.Bool.{Bool, true, false, _||_, not}
+use mathlib.Core.List.{List, [], _∷_}
+use Prim.Native.Nat.{ℕ, _%_, _^_, _≤_}
+use native.Mathlib.Omega.{arith}
+use borrow.Author.Tests.{ltb-false, le-ltb, eqb-true, eqb-false, eq-eqb, ne-eqb, not-false}
+use lib.Dec.{ltb, eqb}
+use lib.ListN.{length}
+use Rattle.params.specs.Limits.{maxSide, maxLayers}
+use Rattle.params.specs.Table.{line, firstFault, sideWrong, shapeWrong}
+use Rattle.sheet.specs.Layout.{Layout, Frame, maxCount}
+use Rattle.sheet.specs.Sheet.{allPass, recordRight}
+use Rattle.sheet.specs.Words.{takenWords, filled}
+use Rattle.sheet.specs.Writes.{countIn, recordsOf, sidesWrong, layerRight, layersWrong, wordsWrong, writeFault}
+
+neither : (a b : Bool) → (a || b) ≡ false → (a ≡ false) × (b ≡ false)
+neither false false e = (refl, refl)
+neither false true e = absurd (let z : _≡_ {A = ℕ} 0 1 = cc in omega arith)
+neither true b e = absurd (let z : _≡_ {A = ℕ} 0 1 = cc in omega arith)
+
+-- no line of the writer's table is given
+none-given : (a b c : Bool) → firstFault (line 1 a ∷ line 2 b ∷ line 5 c ∷ []) ≡ 0 → (a ≡ false) × (b ≡ false) × (c ≡ false)
+unfolding firstFault
+none-given false false false h = (refl, refl, refl)
+none-given true b c h = absurd (omega arith)
+none-given false true c h = absurd (omega arith)
+none-given false false true h = absurd (omega arith)
+
+not-zero : (n : ℕ) → (n ≡ 0 → ⊥) → 1 ≤ n
+not-zero n h = omega arith
+
+module _ (l : Layout) (f : Frame) (ws : List ℕ) where
+  pub record Sound : Type 0 where
+    pub width-low : 1 ≤ f .width
+    pub width-high : f .width ≤ 2 ^ l .side
+    pub height-low : 1 ≤ f .height
+    pub height-high : f .height ≤ 2 ^ l .side
+    pub layers-low : 1 ≤ f .layers
+    pub layers-high : f .layers ≤ maxLayers
+    pub whole : length ws % takenWords l ≡ 0
+    pub count : countIn l ws ≤ maxCount
+    pub records : allPass (λ w. recordRight l f (filled w)) (recordsOf l ws) ≡ true
+
+  pub sound-of : writeFault l f ws ≡ 0 → Sound
+  unfolding writeFault sidesWrong shapeWrong layersWrong wordsWrong
+  sound-of h =
+      let k = none-given (sidesWrong l f) (layersWrong l f ws) (wordsWrong l f ws) h in
+      let s = neither (shapeWrong (f .width) (f .height)) (ltb (2 ^ l .side) (f .width) || ltb (2 ^ l .side) (f .height)) (k .0) in
+      let a = neither (sideWrong (f .width)) (sideWrong (f .height)) (s .0) in
+      let w = neither (eqb (f .width) 0) (ltb maxSide (f .width)) (a .0) in
+      let v = neither (eqb (f .height) 0) (ltb maxSide (f .height)) (a .1) in
+      let t = neither (ltb (2 ^ l .side) (f .width)) (ltb (2 ^ l .side) (f .height)) (s .1) in
+      let b = neither (eqb (f .layers) 0 || ltb maxLayers (f .layers)) (not (allPass (layerRight (f .layers)) (recordsOf l ws))) (k .1) in
+      let y = neither (eqb (f .layers) 0) (ltb maxLayers (f .layers)) (b .0) in
+      let c = neither (not (eqb (length ws % takenWords l) 0)) (ltb maxCount (countIn l ws) || not (allPass (λ w. recordRight l f (filled w)) (recordsOf l ws))) (k .2) in
+      let d = neither (ltb maxCount (countIn l ws)) (not (allPass (λ w. recordRight l f (filled w)) (recordsOf l ws))) (c .1) in
+      record {
+        width-low = not-zero _ (eqb-false _ _ (w .0));
+        width-high = ltb-false _ _ (t .0);
+        height-low = not-zero _ (eqb-false _ _ (v .0));
+        height-high = ltb-false _ _ (t .1);
+        layers-low = not-zero _ (eqb-false _ _ (y .0));
+        layers-high = ltb-false _ _ (y .1);
+        whole = eqb-true _ _ (not-false _ (c .0));
+        count = ltb-false _ _ (d .0);
+        records = not-false _ (d .1);
+      }
+
+  -- and the other way round, where the layout's sides are within the limit
+  pub fault-none : Sound → f .width ≤ maxSide → f .height ≤ maxSide → allPass (layerRight (f .layers)) (recordsOf l ws) ≡ true → writeFault l f ws ≡ 0
+  unfolding writeFault firstFault sidesWrong shapeWrong layersWrong wordsWrong
+  fault-none s w h p =
+      rw (
+        ne-eqb (f .width) 0 (λ z. omega (arith, s .width-low)),
+        le-ltb maxSide (f .width) w,
+        ne-eqb (f .height) 0 (λ z. omega (arith, s .height-low)),
+        le-ltb maxSide (f .height) h,
+        le-ltb (2 ^ l .side) (f .width) (s .width-high),
+        le-ltb (2 ^ l .side) (f .height) (s .height-high),
+        ne-eqb (f .layers) 0 (λ z. omega (arith, s .layers-low)),
+        le-ltb maxLayers (f .layers) (s .layers-high),
+        p,
+        eq-eqb (length ws % takenWords l) 0 (s .whole),
+        le-ltb maxCount (countIn l ws) (s .count),
+        s .records,
+      )

@@ -1,0 +1,14 @@
+pub mod Packed
+pub mod Cut
+pub mod Lawful
+pub mod Parts
+pub mod Trip
+pub mod Back
+pub mod Words
+pub mod Faults
+pub mod Return
+pub mod Answered
+pub mod Public
+pub mod Steps
+pub mod Runs
+pub mod Alike

@@ -1,0 +1,42 @@
+use mathlib.Core.Bool.{_&&_, and-true}
+use lib.Dec.{leb}
+use borrow.Author.Needs.{needs}
+use Rattle.sheet.specs.Pack.{sound}
+use Rattle.sheet.specs.Layout.{largestAngle}
+use Rattle.sheet.proofs.floats_right.Statement.{statement}
+use Rattle.sheet.proofs.floats_right.Tie as tie
+use Rattle.sheet.proofs.floats_right.Reads as reads
+use Rattle.sheet.proofs.floats_right.Lts as lts
+use Rattle.sheet.proofs.between.Reads as between-reads
+
+between-requires : tie.Need-between-requires
+between-requires c κs = search needs
+
+between-requires-2 : tie.Need-between-requires-2
+between-requires-2 c κs = search needs
+
+between-requires-3 : tie.Need-between-requires-3
+between-requires-3 c κs = search needs
+
+between-requires-4 : tie.Need-between-requires-4
+between-requires-4 c κs = search needs
+
+between-requires-5 : tie.Need-between-requires-5
+between-requires-5 c κs = search needs
+
+returns : tie.Need-returns
+unfolding sound
+returns c =
+    let v = c .before .before .before .before .before .args .f .angle in
+    cc (and-true (leb 0 v && leb v largestAngle))
+
+pub floats-right-spec : {M : Type 1} → statement M
+floats-right-spec =
+    tie.close
+    (tie.spec
+    between-requires
+    between-requires-2
+    between-requires-3
+    between-requires-4
+    between-requires-5
+    returns)

@@ -1,0 +1,63 @@
+-- What the writer refuses, answers and leaves in the lent bytes. Definitions only.
+use mathlib.Core.Bool.{Bool, _&&_, _||_, not}
+use mathlib.Core.List.{List, [], _∷_, map}
+use Prim.Native.Nat.{ℕ, _+_, _*_, _/_, _%_, _^_}
+use lib.Dec.{leb, ltb, eqb}
+use lib.ListN.{length, getD}
+use Rattle.params.specs.Limits.{maxLayers}
+use Rattle.params.specs.Table.{line, firstFault, shapeWrong}
+use Rattle.params.specs.Answers.{answerOf, landed}
+use Rattle.params.specs.declared.Answer.{Answer}
+use Rattle.sheet.specs.Layout.{Layout, Frame, headerSize, recordSize, maxCount}
+use Rattle.sheet.specs.Sheet.{parts, allPass, Sheet, recordRight, sheetBytes}
+use Rattle.sheet.specs.Words.{takenWords, layerPlace, filled}
+
+-- the frame of a sheet with no rule bit
+abbrev pub frameOf : ℕ → ℕ → ℕ → Frame
+frameOf width height layers = record { width = width; height = height; layers = layers; rule = 0 }
+
+-- the whole records among the words, and how many
+abbrev pub countIn : Layout → List ℕ → ℕ
+countIn l ws = length ws / takenWords l
+
+unfoldable pub recordsOf : Layout → List ℕ → List (List ℕ)
+recordsOf l ws = parts (takenWords l) (countIn l ws) ws
+
+unfoldable pub sheetOf : Layout → Frame → List ℕ → Sheet
+sheetOf l f ws = record { frame = f; records = map filled (recordsOf l ws) }
+
+-- 1: width or height is 0 or above the limit, or above what the layout has bits for
+unfoldable pub sidesWrong : Layout → Frame → Bool
+sidesWrong l f = shapeWrong (f .width) (f .height) || (ltb (2 ^ l .side) (f .width) || ltb (2 ^ l .side) (f .height))
+
+-- 2: "layers 0 or above 15, or a whole record's layer outside 1 to layers"
+abbrev pub layerRight : ℕ → List ℕ → Bool
+layerRight layers w = leb 1 (getD w layerPlace 0) && leb (getD w layerPlace 0) layers
+
+unfoldable pub layersWrong : Layout → Frame → List ℕ → Bool
+layersWrong l f ws = (eqb (f .layers) 0 || ltb maxLayers (f .layers)) || not (allPass (layerRight (f .layers)) (recordsOf l ws))
+
+-- 5: "any other bad record word, octave included, a part of a record, or a count above 1,048,575"
+unfoldable pub wordsWrong : Layout → Frame → List ℕ → Bool
+wordsWrong l f ws =
+    not (eqb (length ws % takenWords l) 0)
+    || (ltb maxCount (countIn l ws) || not (allPass (λ w. recordRight l f (filled w)) (recordsOf l ws)))
+
+-- the number of the first fault, 0 for none
+unfoldable pub writeFault : Layout → Frame → List ℕ → ℕ
+writeFault l f ws = firstFault (line 1 (sidesWrong l f) ∷ line 2 (layersWrong l f ws) ∷ line 5 (wordsWrong l f ws) ∷ [])
+
+-- the bytes that the words make, and how many
+unfoldable pub written : Layout → Frame → List ℕ → List ℕ
+written l f ws = sheetBytes l (sheetOf l f ws)
+
+abbrev pub writeSize : Layout → List ℕ → ℕ
+writeSize l ws = headerSize + recordSize l * countIn l ws
+
+-- the answer, at `room` bytes lent: 0 and 7 count bytes
+unfoldable pub writeAnswer : Layout → Frame → List ℕ → ℕ → Answer
+writeAnswer l f ws room = answerOf (writeFault l f ws) (writeSize l ws) (writeSize l ws) room
+
+-- the lent bytes afterwards
+unfoldable pub writeOut : Layout → Frame → List ℕ → List ℕ → List ℕ
+writeOut l f ws out = landed (writeAnswer l f ws (length out)) (written l f ws) out

@@ -12,7 +12,7 @@ use Rattle.params.specs.Table.{line, firstFault, sideWrong, shapeWrong}
 use Rattle.sheet.specs.Layout.{Layout, Frame, maxCount}
 use Rattle.sheet.specs.Sheet.{allPass, recordRight}
 use Rattle.sheet.specs.Words.{takenWords, filled}
-use Rattle.sheet.specs.Writes.{countIn, recordsOf, sidesWrong, layerRight, layersWrong, wordsWrong, writeFault}
+use Rattle.sheet.specs.Writes.{countIn, recordsOf, sidesWrong, layerRight, layerWrong, wordsWrong, writeFault}
 
 neither : (a b : Bool) → (a || b) ≡ false → (a ≡ false) × (b ≡ false)
 neither false false e = (refl, refl)
@@ -43,9 +43,9 @@ module _ (l : Layout) (f : Frame) (ws : List ℕ) where
     pub records : allPass (λ w. recordRight l f (filled w)) (recordsOf l ws) ≡ true
 
   pub sound-of : writeFault l f ws ≡ 0 → Sound
-  unfolding writeFault sidesWrong shapeWrong layersWrong wordsWrong
+  unfolding writeFault sidesWrong shapeWrong layerWrong wordsWrong
   sound-of h =
-      let k = none-given (sidesWrong l f) (layersWrong l f ws) (wordsWrong l f ws) h in
+      let k = none-given (sidesWrong l f) (layerWrong l f ws) (wordsWrong l f ws) h in
       let s = neither (shapeWrong (f .width) (f .height)) (ltb (2 ^ l .side) (f .width) || ltb (2 ^ l .side) (f .height)) (k .0) in
       let a = neither (sideWrong (f .width)) (sideWrong (f .height)) (s .0) in
       let w = neither (eqb (f .width) 0) (ltb maxSide (f .width)) (a .0) in
@@ -69,7 +69,7 @@ module _ (l : Layout) (f : Frame) (ws : List ℕ) where
 
   -- and the other way round, where the layout's sides are within the limit
   pub fault-none : Sound → f .width ≤ maxSide → f .height ≤ maxSide → allPass (layerRight (f .layers)) (recordsOf l ws) ≡ true → writeFault l f ws ≡ 0
-  unfolding writeFault firstFault sidesWrong shapeWrong layersWrong wordsWrong
+  unfolding writeFault firstFault sidesWrong shapeWrong layerWrong wordsWrong
   fault-none s w h p =
       rw (
         ne-eqb (f .width) 0 (λ z. omega (arith, s .width-low)),

@@ -34,8 +34,8 @@ sidesWrong l f = shapeWrong (f .width) (f .height) || (ltb (2 ^ l .side) (f .wid
 abbrev pub layerRight : ℕ → List ℕ → Bool
 layerRight layers w = leb 1 (getD w layerPlace 0) && leb (getD w layerPlace 0) layers
 
-unfoldable pub layersWrong : Layout → Frame → List ℕ → Bool
-layersWrong l f ws = (eqb (f .layers) 0 || ltb maxLayers (f .layers)) || not (allPass (layerRight (f .layers)) (recordsOf l ws))
+unfoldable pub layerWrong : Layout → Frame → List ℕ → Bool
+layerWrong l f ws = (eqb (f .layers) 0 || ltb maxLayers (f .layers)) || not (allPass (layerRight (f .layers)) (recordsOf l ws))
 
 -- 5: "any other bad record word, octave included, a part of a record, or a count above 1,048,575"
 unfoldable pub wordsWrong : Layout → Frame → List ℕ → Bool
@@ -45,7 +45,7 @@ wordsWrong l f ws =
 
 -- the number of the first fault, 0 for none
 unfoldable pub writeFault : Layout → Frame → List ℕ → ℕ
-writeFault l f ws = firstFault (line 1 (sidesWrong l f) ∷ line 2 (layersWrong l f ws) ∷ line 5 (wordsWrong l f ws) ∷ [])
+writeFault l f ws = firstFault (line 1 (sidesWrong l f) ∷ line 2 (layerWrong l f ws) ∷ line 5 (wordsWrong l f ws) ∷ [])
 
 -- the bytes that the words make, and how many
 unfoldable pub written : Layout → Frame → List ℕ → List ℕ

@@ -36,6 +36,13 @@ pub struct Floats {
     pub angle: u64,
 }
 
+// A word, as a number to reckon with.
+pub fn wide(x: u32) -> u64
+    ensures { λ r. ⌜ r ≡ x ⌝ }
+{
+    x as u64
+}
+
 // Whether v lies from low to high.
 pub fn between(low: u64, high: u64, v: u64) -> bool
     ensures { λ r. ⌜ r ≡ (leb low v && leb v high) ⌝ }

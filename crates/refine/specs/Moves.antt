@@ -1,11 +1,11 @@
 -- One step of the refinement: the cell is lost, stays, or moves by the rounded offsets. Definitions only.
-use Prim.Native.Nat.{ℕ, _+_, _-_}
+use Prim.Native.Nat.{ℕ, _+_, _-_, _<_, _≤_}
 use mathlib.Core.Bool.{Bool, _&&_, _||_, cond}
 use lib.Dec.{leb, ltb}
 use lib.IntN.{ℤ, pos, negsuc, _+ℤ_}
 use lib.Ieee.{Float}
 use Rattle.ieee.specs.F32.{f32, _<ᶠ_, _=ᶠ_, absOf, rounded, toI32}
-use Rattle.params.specs.Limits.{border}
+use Rattle.params.specs.Limits.{border, maxSide, maxLayers}
 use Rattle.refine.specs.Fit.{slopeOf, bendOf, detOf, offsetOf}
 use Rattle.refine.specs.declared.Patch.{Patch}
 use Rattle.refine.specs.declared.Offset.{Offset}
@@ -59,3 +59,12 @@ unfoldable pub stepOf : ℕ → ℕ → ℕ → ℕ → ℕ → ℕ → Patch �
 stepOf w h layers p r c t =
     let det = detOf (bendOf t) in
     cond (det =ᶠ nought) Lost (walk w h layers p r c (offsetOf (slopeOf t) (bendOf t) det))
+
+-- (p, r, c) is a layer and a cell of a frame within the limits, at least the border from the edges
+pub record Spot (w h layers p r c : ℕ) : Type 0 where
+  pub wide : w ≤ maxSide
+  pub high : h ≤ maxSide
+  pub many : layers ≤ maxLayers
+  pub last : p < layers + 1
+  pub bottom : r < h - border
+  pub end : c < w - border

@@ -1,0 +1,5 @@
+pub mod Places
+pub mod Counts
+pub mod Codes
+pub mod Steps
+pub mod Settled

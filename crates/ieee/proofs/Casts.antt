@@ -12,7 +12,7 @@ use lib.Ieee.Exact.{HasValue, round-exact}
 use lib.Ieee.Back.{round-whole, whole-unique}
 use lib.Ieee.Nearest.{closest, div-same}
 use Rattle.ieee.specs.Whole.{floorSize, floor, roundEven, saturate}
-use Rattle.ieee.specs.Parts.{Splits}
+use Rattle.packing.specs.Parts.{Splits}
 use Rattle.ieee.proofs.Wholes.{floor-is, floor-up, floor-down, even-is, near-up, near-down, up-cross}
 use Rattle.ieee.proofs.Flat.{floor-le, near-le}
 

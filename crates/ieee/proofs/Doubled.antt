@@ -17,13 +17,14 @@ use lib.Ieee.Order.{drop, kept}
 use lib.Ieee.Scale.{finite, grid, overflow, round-same}
 use lib.Ieee.Nearest.{closest}
 use Rattle.ieee.specs.Fused.{fma, convert}
-use Rattle.ieee.specs.Parts.{Splits, Clear}
-use Rattle.ieee.proofs.Size.{le-or-lt}
-use Rattle.ieee.proofs.Fields.{ofBits-is, normal-is, value-low, value-normal, field-ne}
-use Rattle.ieee.proofs.Plain.{value-no-nan}
+use Rattle.packing.specs.Parts.{Splits}
+use Rattle.ieee.specs.Parts.{Clear}
+use Rattle.packing.proofs.Size.{le-or-lt}
+use Rattle.packing.proofs.Fields.{ofBits-is, normal-is, value-low, value-normal, field-ne}
+use Rattle.packing.proofs.Plain.{value-no-nan}
 use Rattle.ieee.proofs.Product.{fma-parts, powers, later}
-use Rattle.ieee.proofs.Sums.{sum-same}
-use Rattle.ieee.proofs.Cases.{normal-case}
+use Rattle.packing.proofs.Sums.{sum-same}
+use Rattle.packing.proofs.Cases.{normal-case}
 use Rattle.ieee.proofs.Twice.{half-up, sum-twice, sum-rounds, units-over}
 
 ruleset ac = (mul-assoc, mul-comm, mul-left-comm)

@@ -10,10 +10,10 @@ use lib.Pow.{pow-add, pow-pos, pow-mono}
 use lib.Ieee.{Float, binary32, round, ofBits}
 use lib.Ieee.Nearest.{closest, closest-same}
 use Rattle.ieee.specs.Root.{halves}
-use Rattle.ieee.proofs.Size.{le-or-lt}
-use Rattle.ieee.proofs.Half.{closest-is, cmp-lt, cmp-gt}
-use Rattle.ieee.proofs.Cases.{normal-case}
-use Rattle.ieee.proofs.Sums.{order}
+use Rattle.packing.proofs.Size.{le-or-lt}
+use Rattle.packing.proofs.Half.{closest-is, cmp-lt, cmp-gt}
+use Rattle.packing.proofs.Cases.{normal-case}
+use Rattle.packing.proofs.Sums.{order}
 use Rattle.ieee.proofs.Roots.{twice-square, square-le, exact-case, open-case}
 
 -- quarters, with a quarter at most beside a whole number

@@ -14,8 +14,8 @@ use lib.Ieee.Fits.{round-is}
 use lib.Ieee.Order.{drop, kept}
 use lib.Ieee.Nearest.{closest, closest-mono}
 use Rattle.ieee.specs.Whole.{floorSize}
-use Rattle.ieee.proofs.Size.{le-or-lt}
-use Rattle.ieee.proofs.Half.{closest-is, cmp-lt, cmp-eq, cmp-gt}
+use Rattle.packing.proofs.Size.{le-or-lt}
+use Rattle.packing.proofs.Half.{closest-is, cmp-lt, cmp-eq, cmp-gt}
 use Rattle.ieee.proofs.Nearby.{even-or-odd}
 use Rattle.ieee.proofs.Wholes.{floor-none, near-none, ceil-one, ceil-zero, ceil-le}
 

@@ -9,8 +9,8 @@ use lib.Ieee.{size}
 use lib.Ieee.Digits.{size-reaches, back}
 use lib.Ieee.Nearest.{closest, nearest-ge}
 use lib.Ieee.Order.{drop, kept}
-use Rattle.ieee.proofs.Size.{le-or-lt}
-use Rattle.ieee.proofs.Half.{cmp-lt, cmp-eq, cmp-gt, closest-is}
+use Rattle.packing.proofs.Size.{le-or-lt}
+use Rattle.packing.proofs.Half.{cmp-lt, cmp-eq, cmp-gt, closest-is}
 
 -- ---- within a half
 abbrev Near : ℕ → ℕ → ℕ → Type 0

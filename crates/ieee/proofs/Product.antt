@@ -9,7 +9,7 @@ use lib.Ieee.Fits.{down-pos}
 use lib.Ieee.Exact.{HasValue}
 use lib.Ieee.Scale.{finite}
 use Rattle.ieee.specs.Fused.{fma}
-use Rattle.ieee.proofs.Sums.{sum-same}
+use Rattle.packing.proofs.Sums.{sum-same}
 
 pub fma-left : (f : Format) (x y z : Float) → finite x ≡ false → add f (mul f x y) z ≡ fma f x y z
 unfolding fma add mul

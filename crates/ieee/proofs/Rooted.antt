@@ -14,8 +14,8 @@ use lib.Ieee.Fits.{down-pos, up-pos, round-fits, and-l, and-r}
 use lib.Ieee.Exact.{HasValue}
 use lib.Ieee.Scale.{grid, round-val}
 use Rattle.ieee.specs.Root.{halves, sqrt, NearestRoot, IsSqrt}
-use Rattle.ieee.proofs.Size.{le-or-lt}
-use Rattle.ieee.proofs.Open.{round-jam}
+use Rattle.packing.proofs.Size.{le-or-lt}
+use Rattle.packing.proofs.Open.{round-jam}
 use Rattle.ieee.proofs.Roots.{Halves, halves-law, twice-square, square-le, sqrt-is}
 use Rattle.ieee.proofs.Nearby.{nearest-up, nearest-down, at-most-twice}
 

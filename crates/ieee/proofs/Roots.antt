@@ -16,8 +16,8 @@ use lib.Ieee.Scale.{round-same}
 use lib.Ieee.Positive.{positive}
 use lib.Ieee.Exact.{HasValue}
 use Rattle.ieee.specs.Root.{rootIn, root, halves, sqrt}
-use Rattle.ieee.proofs.Size.{le-or-lt}
-use Rattle.ieee.proofs.Open.{Between, round-jam}
+use Rattle.packing.proofs.Size.{le-or-lt}
+use Rattle.packing.proofs.Open.{Between, round-jam}
 
 -- ---- squares
 pub twice-square : (x : ℕ) → 2 * x * (2 * x) ≡ 4 * (x * x)

@@ -12,7 +12,7 @@ use lib.Ieee.Bits.{is-false}
 use lib.Ieee.Exact.{HasValue, odd-sign}
 use lib.Ieee.Positive.{positive, positive-of-value}
 use Rattle.ieee.specs.Root.{sqrt}
-use Rattle.ieee.proofs.Fields.{ofBits-is, normal-is}
+use Rattle.packing.proofs.Fields.{ofBits-is, normal-is}
 use Rattle.ieee.proofs.Roots.{sqrt-is}
 use Rattle.ieee.proofs.Fast.{code-lt, near-fits, root-near}
 

@@ -16,13 +16,13 @@ use lib.Ieee.Exact.{HasValue, units-val}
 use lib.Ieee.Order.{drop, kept}
 use lib.Ieee.Scale.{grid, overflow, round-same}
 use lib.Ieee.Nearest.{closest}
-use Rattle.ieee.proofs.Size.{le-or-lt}
-use Rattle.ieee.proofs.Half.{closest-even, closest-up}
+use Rattle.packing.proofs.Size.{le-or-lt}
+use Rattle.packing.proofs.Half.{closest-even, closest-up}
 use Rattle.ieee.proofs.Nearby.{nearest-up, nearest-down, even-or-odd}
-use Rattle.ieee.proofs.Open.{Between, round-open}
-use Rattle.ieee.proofs.Units.{units-bits}
-use Rattle.ieee.proofs.Cases.{at-normal}
-use Rattle.ieee.proofs.Sums.{order, like-or-not, sum-like, sum-more, sum-less, sum-none}
+use Rattle.packing.proofs.Open.{Between, round-open}
+use Rattle.packing.proofs.Units.{units-bits}
+use Rattle.packing.proofs.Cases.{at-normal}
+use Rattle.packing.proofs.Sums.{order, like-or-not, sum-like, sum-more, sum-less, sum-none}
 
 -- ---- the value of a rounded fraction
 pub one-value : (r : Float) (s t : Bool) (a b c : ℕ) → HasValue r s a c → HasValue r t b c → (s ≡ t) × (a ≡ b)

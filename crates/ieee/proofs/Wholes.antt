@@ -13,7 +13,7 @@ use lib.Ieee.Fits.{down-pos}
 use lib.Ieee.Exact.{HasValue}
 use lib.Ieee.Nearest.{closest, closest-same, closest-mono, div-same}
 use lib.Ieee.Scale.{round-same, finite}
-use Rattle.ieee.proofs.Half.{closest-is}
+use Rattle.packing.proofs.Half.{closest-is}
 use Rattle.ieee.specs.Whole.{floorSize, floor, roundEven, saturate}
 
 -- (a + (b - 1)) / b is at most t exactly where a is at most t * b

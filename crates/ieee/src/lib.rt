@@ -11,81 +11,7 @@ ghost use Rattle.ieee.specs.Root.{sqrt, IsSqrt, Tried};
 ghost use Rattle.ieee.specs.Whole.{floorSize, floor, roundEven, saturate};
 ghost use Rattle.ieee.specs.F32.{absOf};
 ghost use Rattle.ieee.specs.Fused.{fma, convert};
-ghost use Rattle.ieee.specs.Parts.{Splits, Jammed, Aligned, Raised, Clear};
-
-// n / 2^sh to the nearest whole number, a tie to the even one.
-fn half_even(n: u64, sh: u32) -> u64
-    requires { ⌜ (1 ≤ sh) × (sh ≤ 64) ⌝ }
-    ensures { λ r. ⌜ r ≡ closest n (2 ^ sh) ⌝ }
-{
-    let s = sh - 1;
-    let h = n >> s;
-    let q = h / 2;
-    if h % 2 == 0 {
-        q
-    } else if h << s == n {
-        q + q % 2
-    } else {
-        q + 1
-    }
-}
-
-// The bit pattern, without its sign, of m * 2^x / 2^1074 rounded to an f32.
-fn magnitude(m: u64, x: u32) -> u32
-    requires { ⌜ x ≤ 4096 ⌝ }
-    ensures small { λ r. ⌜ r ≤ 2139095040 ⌝ }
-    ensures value { λ r. ⌜ ((s : Bool) → ofBits binary32 (cond s (top binary32) 0 + r) ≡ round binary32 s (m * 2 ^ x) (2 ^ 1074)) ⌝ }
-{
-    if m == 0 {
-        return 0;
-    }
-    let z = u64::leading_zeros(m);
-    let n = m << z;
-    let e = x + (64 - z);
-    if e >= 949 {
-        let k = e - 949;
-        if k >= 254 {
-            return 0x7f80_0000;
-        }
-        let q = half_even(n, 40) as u32;
-        k * 0x80_0000 + q
-    } else {
-        let d = 949 - e;
-        if d > 24 {
-            return 0;
-        }
-        half_even(n, 40 + d) as u32
-    }
-}
-
-fn sign_bit(s: bool) -> u32
-    ensures { λ r. ⌜ r ≡ cond s (top binary32) 0 ⌝ }
-{
-    if s { 0x8000_0000 } else { 0 }
-}
-
-// The float with the sign s and the bits b below it. A sum, and no branch on the sign: signs are mixed, and a branch on them mispredicts.
-fn with_sign(s: bool, b: u32) -> f32
-    requires { ⌜ b ≤ 2139095040 ⌝ }
-    ensures { λ r. ⌜ r ≡ ofBits binary32 (cond s (top binary32) 0 + b) ⌝ }
-{
-    f32::from_bits(sign_bit(s) + b)
-}
-
-// m * 2^x / 2^1074 with the sign s, rounded to the nearest f32.
-fn pack(s: bool, m: u64, x: u32) -> f32
-    requires { ⌜ x ≤ 4096 ⌝ }
-    ensures { λ r. ⌜ r ≡ round binary32 s (m * 2 ^ x) (2 ^ 1074) ⌝ }
-{
-    with_sign(s, magnitude(m, x))
-}
-
-// A finite value: its size is m * 2^x times the format's smallest value.
-struct Parts {
-    s: bool,
-    m: u64,
-    x: u32,
-}
+ghost use Rattle.ieee.specs.Parts.{Clear};
 
 // Neither an infinity nor a NaN.
 pub fn is_finite(v: f32) -> bool
@@ -98,48 +24,6 @@ fn is_finite64(v: f64) -> bool
     ensures { λ r. ⌜ r ≡ finite v ⌝ }
 {
     if v < 1.0 / 0.0 { v > -1.0 / 0.0 } else { false }
-}
-
-fn unpack(v: f32) -> Parts
-    requires { ⌜ finite v ≡ true ⌝ }
-    ensures { λ r. ⌜ Splits 149 24 253 v (r .s) (r .m) (r .x) ⌝ }
-{
-    let b = f32::to_bits(v);
-    let s = b >= 0x8000_0000;
-    let e = b % 0x8000_0000 / 0x80_0000;
-    let d = b % 0x80_0000;
-    if e == 0 {
-        Parts {
-            s: s,
-            m: d as u64,
-            x: 0,
-        }
-    } else {
-        Parts {
-            s: s,
-            m: (0x80_0000 + d) as u64,
-            x: e - 1,
-        }
-    }
-}
-
-fn unpack64(v: f64) -> Parts
-    requires { ⌜ finite v ≡ true ⌝ }
-    ensures { λ r. ⌜ Splits 1074 53 2045 v (r .s) (r .m) (r .x) ⌝ }
-{
-    let b = f64::to_bits(v);
-    let s = b >= 0x8000_0000_0000_0000;
-    let e = b % 0x8000_0000_0000_0000 / 0x10_0000_0000_0000;
-    let d = b % 0x10_0000_0000_0000;
-    if e == 0 {
-        Parts { s: s, m: d, x: 0 }
-    } else {
-        Parts {
-            s: s,
-            m: 0x10_0000_0000_0000 + d,
-            x: (e - 1) as u32,
-        }
-    }
 }
 
 // Whether the pattern is of an f64 from 2^-126 to 2^128 in size, not in the middle between two f32s.
@@ -164,7 +48,7 @@ fn close(n: u64) -> f32
     ensures { λ r. ⌜ r ≡ convert binary32 (ofBits binary64 n) ⌝ }
 {
     let v = (n % 0x8000_0000_0000_0000 - 0x3800_0000_0000_0000 + 0x1000_0000) / 0x2000_0000;
-    with_sign(n >= 0x8000_0000_0000_0000, v as u32)
+    packing::with_sign(n >= 0x8000_0000_0000_0000, v as u32)
 }
 
 // x as an f32, rounded once.
@@ -176,8 +60,8 @@ pub fn narrow(x: f64) -> f32
         if clear(n) {
             return close(n);
         }
-        let p = unpack64(x);
-        pack(p.s, p.m, p.x)
+        let p = packing::unpack64(x);
+        packing::pack(p.s, p.m, p.x)
     } else if x > 0.0 {
         1.0 / 0.0
     } else if x < 0.0 {
@@ -187,79 +71,15 @@ pub fn narrow(x: f64) -> f32
     }
 }
 
-// b / 2^d, with what is lost kept as an odd last digit.
-fn jam(b: u64, d: u32) -> u64
-    requires { ⌜ (0 < b) × (b < 2 ^ 62) × (b % 2 ^ 14 ≡ 0) ⌝ }
-    ensures { λ r. ⌜ Jammed b d r ⌝ }
-{
-    if d >= 63 {
-        return 1;
-    }
-    let h = b >> d;
-    if h << d == b { h } else { h / 2 * 2 + 1 }
-}
-
-// The rounded sum of a * 2^e and b * 2^(e - d), over 2^1074, with the signs s and t.
-fn combine(s: bool, a: u64, t: bool, b: u64, d: u32, e: u32) -> f32
-    requires { ⌜ Aligned a b d e ⌝ }
-    ensures { λ r. ⌜ r ≡ sum binary32 s (a * 2 ^ e) t (b * 2 ^ (e - d)) (2 ^ 1074) ⌝ }
-{
-    let c = jam(b, d);
-    if s == t {
-        pack(s, a + c, e)
-    } else if c < a {
-        pack(s, a - c, e)
-    } else if a < c {
-        pack(t, c - a, e)
-    } else {
-        0.0
-    }
-}
-
-// The shift that brings m's top bit to bit 61.
-fn raise(m: u64) -> u32
-    requires { ⌜ (0 < m) × (m < 2 ^ 48) ⌝ }
-    ensures { λ r. ⌜ Raised m r ⌝ }
-{
-    u64::leading_zeros(m) - 2
-}
-
-// The rounded sum of m * 2^x and n * 2^y, over 2^298, with the signs s and t.
-fn add_scaled(s: bool, m: u64, x: u32, t: bool, n: u64, y: u32) -> f32
-    requires { ⌜ (m < 2 ^ 48) × (n < 2 ^ 48) × (x ≤ 1024) × (y ≤ 1024) ⌝ }
-    ensures { λ r. ⌜ r ≡ sum binary32 s (m * 2 ^ x) t (n * 2 ^ y) (2 ^ 298) ⌝ }
-{
-    if m == 0 {
-        if n == 0 {
-            return pack(s & t, 0, 0);
-        }
-        return pack(t, n, y + 776);
-    }
-    if n == 0 {
-        return pack(s, m, x + 776);
-    }
-    let z = raise(m);
-    let w = raise(n);
-    let a = m << z;
-    let b = n << w;
-    let i = x + 776 - z;
-    let j = y + 776 - w;
-    if j <= i {
-        combine(s, a, t, b, i - j, i)
-    } else {
-        combine(t, b, s, a, j - i, j)
-    }
-}
-
 // a * b + c, rounded once, of three finite numbers.
 fn fma_finite(a: f32, b: f32, c: f32) -> f32
     requires { ⌜ (finite a ≡ true) × (finite b ≡ true) × (finite c ≡ true) ⌝ }
     ensures { λ r. ⌜ r ≡ fma binary32 a b c ⌝ }
 {
-    let p = unpack(a);
-    let q = unpack(b);
-    let r = unpack(c);
-    add_scaled(p.s != q.s, p.m * q.m, p.x + q.x, r.s, r.m, r.x + 149)
+    let p = packing::unpack(a);
+    let q = packing::unpack(b);
+    let r = packing::unpack(c);
+    packing::add_scaled(p.s != q.s, p.m * q.m, p.x + q.x, r.s, r.m, r.x + 149)
 }
 
 // a * b + c, rounded once.
@@ -321,17 +141,17 @@ fn root_general(x: f32) -> f32
     requires { ⌜ T (positive x) ⌝ }
     ensures { λ r. ⌜ r ≡ sqrt binary32 x ⌝ }
 {
-    let p = unpack(x);
+    let p = packing::unpack(x);
     let m = p.m;
     let e = p.x;
-    let z = raise(m);
+    let z = packing::raise(m);
     let w = e + 151 - z;
     let a = m << (z + w % 2);
     let r = isqrt(a);
     if r * r == a {
-        pack(false, 2 * r, w / 2 + 923)
+        packing::pack(false, 2 * r, w / 2 + 923)
     } else {
-        pack(false, r * 2 + 1, w / 2 + 923)
+        packing::pack(false, r * 2 + 1, w / 2 + 923)
     }
 }
 
@@ -516,7 +336,7 @@ fn from_whole(s: bool, k: u64) -> f32
     requires { ⌜ k ≤ 2 ^ 24 ⌝ }
     ensures { λ r. ⌜ r ≡ round binary32 s k 1 ⌝ }
 {
-    with_sign(s, f32::to_bits(k as f32))
+    packing::with_sign(s, f32::to_bits(k as f32))
 }
 
 // ±k as an i32.
@@ -532,7 +352,7 @@ pub fn floor(x: f32) -> f32
     ensures { λ r. ⌜ r ≡ floor binary32 x ⌝ }
 {
     if is_finite(x) {
-        let p = unpack(x);
+        let p = packing::unpack(x);
         let s = p.s;
         let m = p.m;
         let e = p.x;
@@ -551,7 +371,7 @@ pub fn round_ties_even(x: f32) -> f32
     ensures { λ r. ⌜ r ≡ roundEven binary32 x ⌝ }
 {
     if is_finite(x) {
-        let p = unpack(x);
+        let p = packing::unpack(x);
         let s = p.s;
         let m = p.m;
         let e = p.x;
@@ -613,7 +433,7 @@ pub fn to_i32(x: f32) -> i32
     ensures { λ r. ⌜ r ≡ toSigned 31 x ⌝ }
 {
     if is_finite(x) {
-        let p = unpack(x);
+        let p = packing::unpack(x);
         let s = p.s;
         let m = p.m;
         let e = p.x;
@@ -632,7 +452,7 @@ pub fn floor_to_i32(x: f32) -> i32
     ensures { λ r. ⌜ r ≡ toSigned 31 (floor binary32 x) ⌝ }
 {
     if is_finite(x) {
-        let p = unpack(x);
+        let p = packing::unpack(x);
         let s = p.s;
         let m = p.m;
         let e = p.x;
@@ -651,7 +471,7 @@ pub fn round_to_i32(x: f32) -> i32
     ensures { λ r. ⌜ r ≡ toSigned 31 (roundEven binary32 x) ⌝ }
 {
     if is_finite(x) {
-        let p = unpack(x);
+        let p = packing::unpack(x);
         let s = p.s;
         let m = p.m;
         let e = p.x;

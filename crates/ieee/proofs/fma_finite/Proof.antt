@@ -10,8 +10,6 @@ use Rattle.ieee.proofs.fma_finite.Statement.{statement}
 use Rattle.ieee.proofs.fma_finite.Tie as tie
 use Rattle.ieee.proofs.fma_finite.Reads as reads
 use Rattle.ieee.proofs.fma_finite.Lts as lts
-use Rattle.ieee.proofs.add_scaled.Reads as add-scaled-reads
-use Rattle.ieee.proofs.unpack.Reads as unpack-reads
 
 product-lt : (m n : ℕ) → m < 2 ^ 24 → n < 2 ^ 24 → m * n < 2 ^ 48
 product-lt m n a b =

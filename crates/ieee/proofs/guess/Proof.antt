@@ -5,7 +5,7 @@ use native.Mathlib.Omega.{arith}
 use mathlib.Core.Path.{_≡_, refl, sym, ap, _∙_, subst}
 use mathlib.Core.Bool.{Bool, true, false, not}
 use lib.Dec.{T, lit<, lit≤}
-use Rattle.ieee.proofs.Plain.{no-nan64}
+use Rattle.packing.proofs.Plain.{no-nan64}
 use Rattle.ieee.proofs.guess.Statement.{statement}
 use Rattle.ieee.proofs.guess.Tie as tie
 use Rattle.ieee.proofs.guess.Reads as reads

@@ -1,5 +1,5 @@
 use lib.Ieee.{div, neg, ofBits}
-use Rattle.ieee.proofs.Fields.{finite-of-below, not-finite}
+use Rattle.packing.proofs.Fields.{finite-of-below, not-finite}
 use Rattle.ieee.proofs.is_finite.Statement.{statement}
 use Rattle.ieee.proofs.is_finite.Tie as tie
 use Rattle.ieee.proofs.is_finite.Reads as reads

@@ -8,7 +8,7 @@ use lib.Dec.{T, lit<, lit≤}
 use lib.Ieee.{Float, binary32, binary64, fits, mul, toBits, ofBits}
 use lib.Ieee.Fits.{mul-fits}
 use Rattle.ieee.specs.Root.{sqrt}
-use Rattle.ieee.proofs.Plain.{no-nan32}
+use Rattle.packing.proofs.Plain.{no-nan32}
 use Rattle.ieee.proofs.Doubled.{square-finite, square-no-nan, square-close}
 use Rattle.ieee.proofs.length_with.Statement.{statement}
 use Rattle.ieee.proofs.length_with.Tie as tie

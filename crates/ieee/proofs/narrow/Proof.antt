@@ -8,7 +8,7 @@ use lib.Ieee.{Float, nan, inf, fin, binary32, binary64, fits, div, neg, ofBits, 
 use lib.Ieee.Bits.{ofBits-toBits}
 use lib.Ieee.Scale.{finite}
 use Rattle.ieee.specs.Fused.{convert}
-use Rattle.ieee.proofs.Fields.{finite-no-nan}
+use Rattle.packing.proofs.Fields.{finite-no-nan}
 use Rattle.ieee.proofs.Doubled.{converted}
 use Rattle.ieee.proofs.narrow.Statement.{statement}
 use Rattle.ieee.proofs.narrow.Tie as tie
@@ -17,8 +17,6 @@ use Rattle.ieee.proofs.narrow.Lts as lts
 use Rattle.ieee.proofs.clear.Reads as clear-reads
 use Rattle.ieee.proofs.close.Reads as close-reads
 use Rattle.ieee.proofs.is_finite64.Reads as is-finite64-reads
-use Rattle.ieee.proofs.pack.Reads as pack-reads
-use Rattle.ieee.proofs.unpack64.Reads as unpack64-reads
 
 above : (v : Float) → finite v ≡ false → lt (fin false 0 (pos 0)) v ≡ true → inf false ≡ convert binary32 v
 unfolding lt convert

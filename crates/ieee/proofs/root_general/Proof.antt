@@ -13,7 +13,7 @@ use lib.Ieee.{Float, nan, inf, fin, binary32, round}
 use lib.Ieee.Exact.{HasValue}
 use lib.Ieee.Scale.{finite}
 use lib.Ieee.Positive.{positive, value-pos, first-pos}
-use Rattle.ieee.specs.Parts.{Raised}
+use Rattle.packing.specs.Parts.{Raised}
 use Rattle.ieee.specs.Root.{sqrt, halves}
 use Rattle.ieee.proofs.Roots.{square-le, exact-case, open-case, sqrt-is}
 use Rattle.ieee.proofs.root_general.Statement.{statement}
@@ -21,9 +21,6 @@ use Rattle.ieee.proofs.root_general.Tie as tie
 use Rattle.ieee.proofs.root_general.Reads as reads
 use Rattle.ieee.proofs.root_general.Lts as lts
 use Rattle.ieee.proofs.isqrt.Reads as isqrt-reads
-use Rattle.ieee.proofs.pack.Reads as pack-reads
-use Rattle.ieee.proofs.raise.Reads as raise-reads
-use Rattle.ieee.proofs.unpack.Reads as unpack-reads
 
 finite-of : (x : Float) → T (positive x) → finite x ≡ true
 finite-of nan p = absurd p

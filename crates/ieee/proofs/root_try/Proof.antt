@@ -7,7 +7,7 @@ use mathlib.Core.Bool.{Bool, true, false, not}
 use lib.Dec.{T, lit<, lit≤}
 use lib.Pow.{pow-pos}
 use lib.Ieee.{binary64, toBits}
-use Rattle.ieee.proofs.Plain.{above-no-nan}
+use Rattle.packing.proofs.Plain.{above-no-nan}
 use Rattle.ieee.proofs.Tries.{try-lt, try-small, try-right}
 use Rattle.ieee.proofs.root_try.Statement.{statement}
 use Rattle.ieee.proofs.root_try.Tie as tie

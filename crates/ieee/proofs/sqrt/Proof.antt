@@ -8,7 +8,7 @@ use lib.Dec.{T, lit<, lit≤}
 use lib.Ieee.{Float, binary32, fits, ofBits, toBits}
 use lib.Ieee.Bits.{ofBits-toBits}
 use Rattle.ieee.specs.Root.{sqrt, IsSqrt}
-use Rattle.ieee.proofs.Plain.{no-nan32, above-no-nan}
+use Rattle.packing.proofs.Plain.{no-nan32, above-no-nan}
 use Rattle.ieee.proofs.Rooted.{is-sqrt}
 use Rattle.ieee.proofs.sqrt.Statement.{statement}
 use Rattle.ieee.proofs.sqrt.Tie as tie

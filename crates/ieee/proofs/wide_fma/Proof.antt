@@ -6,7 +6,7 @@ use mathlib.Core.Bool.{Bool, true, false, not}
 use lib.Dec.{T, lit<, lit≤}
 use lib.Ieee.{Float, binary32, binary64, fits, isNan}
 use lib.Ieee.Fits.{and-i, fits-widens}
-use Rattle.ieee.proofs.Fields.{finite-no-nan}
+use Rattle.packing.proofs.Fields.{finite-no-nan}
 use Rattle.ieee.proofs.Doubled.{split32, wide-is}
 use Rattle.ieee.proofs.wide_fma.Statement.{statement}
 use Rattle.ieee.proofs.wide_fma.Tie as tie

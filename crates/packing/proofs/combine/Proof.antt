@@ -8,16 +8,16 @@ use native.Mathlib.Omega.{arith}
 use lib.Pow.{pow-pos}
 use lib.IntN.{pos}
 use lib.Ieee.{Float, fin, binary32, round, sum, ofBits}
-use Rattle.ieee.specs.Parts.{Jammed, Aligned}
-use Rattle.ieee.proofs.Cases.{at-zero}
-use Rattle.ieee.proofs.Sums.{sum-like, sum-more, sum-less, sum-none, diff-mul}
-use Rattle.ieee.proofs.Aligned.{jam-moved, plus, less, take, exact}
-use Rattle.ieee.proofs.combine.Statement.{statement}
-use Rattle.ieee.proofs.combine.Tie as tie
-use Rattle.ieee.proofs.combine.Reads as reads
-use Rattle.ieee.proofs.combine.Lts as lts
-use Rattle.ieee.proofs.jam.Reads as jam-reads
-use Rattle.ieee.proofs.pack.Reads as pack-reads
+use Rattle.packing.specs.Parts.{Jammed, Aligned}
+use Rattle.packing.proofs.Cases.{at-zero}
+use Rattle.packing.proofs.Sums.{sum-like, sum-more, sum-less, sum-none, diff-mul}
+use Rattle.packing.proofs.Aligned.{jam-moved, plus, less, take, exact}
+use Rattle.packing.proofs.combine.Statement.{statement}
+use Rattle.packing.proofs.combine.Tie as tie
+use Rattle.packing.proofs.combine.Reads as reads
+use Rattle.packing.proofs.combine.Lts as lts
+use Rattle.packing.proofs.jam.Reads as jam-reads
+use Rattle.packing.proofs.pack.Reads as pack-reads
 
 jam-le : (b d r : ℕ) → b < 2 ^ 62 → Jammed b d r → r < 2 ^ 62
 jam-le b d r h (inl e) = lt-of-le-of-lt (le-trans (le-of-eq (sym (mul-one r))) (mul-le-mul-left r (pow-pos d))) (subst (λ (x : ℕ). x < 2 ^ 62) (sym e) h)

@@ -10,9 +10,9 @@ use lib.Arith.{le-zero}
 use lib.Pow.{pow-add, pow-pos, pow-mono, pow-lt, shl-lt}
 use lib.Ieee.{Float, fin, inf, binary32, size, units, round, ofBits, top}
 use lib.Ieee.Nearest.{closest, closest-mono}
-use Rattle.ieee.proofs.Size.{size-frac, le-or-lt}
-use Rattle.ieee.proofs.Scaled.{round-shift}
-use Rattle.ieee.proofs.Units.{units-bits, units-inf, inf-bits, zero-bits}
+use Rattle.packing.proofs.Size.{size-frac, le-or-lt}
+use Rattle.packing.proofs.Scaled.{round-shift}
+use Rattle.packing.proofs.Units.{units-bits, units-inf, inf-bits, zero-bits}
 
 -- how many digits m * 2 ^ x / 2 ^ b has before the point, in units of 2 ^ -l
 pub size-scaled : (m x l b j : ℕ) → 2 ^ j ≤ m → m < 2 ^ suc j → size (m * 2 ^ x * 2 ^ l / 2 ^ b) ≡ suc (j + x + l) - b

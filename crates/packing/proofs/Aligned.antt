@@ -9,9 +9,9 @@ use lib.Dec.{lit≤}
 use lib.Pow.{pow-add, pow-pos}
 use lib.Ieee.{Float, binary32, round}
 use lib.Ieee.Digits.{back}
-use Rattle.ieee.specs.Parts.{Jammed}
-use Rattle.ieee.proofs.Open.{Between, round-jam}
-use Rattle.ieee.proofs.Sums.{diff-mul}
+use Rattle.packing.specs.Parts.{Jammed}
+use Rattle.packing.proofs.Open.{Between, round-jam}
+use Rattle.packing.proofs.Sums.{diff-mul}
 
 -- ---- a jammed number, at a lower place
 moved : (x d e : ℕ) → d ≤ e → x * 2 ^ d * 2 ^ (e - d) ≡ x * 2 ^ e

@@ -6,12 +6,12 @@ use mathlib.Core.Logic.{inl, inr}
 use lib.Count.{leadingZeros, leading-top}
 use lib.Dec.{lit≤}
 use lib.Pow.{pow-add, pow-mono, shl-lt}
-use Rattle.ieee.specs.Parts.{Raised}
-use Rattle.ieee.proofs.Size.{le-or-lt}
-use Rattle.ieee.proofs.raise.Statement.{statement}
-use Rattle.ieee.proofs.raise.Tie as tie
-use Rattle.ieee.proofs.raise.Reads as reads
-use Rattle.ieee.proofs.raise.Lts as lts
+use Rattle.packing.specs.Parts.{Raised}
+use Rattle.packing.proofs.Size.{le-or-lt}
+use Rattle.packing.proofs.raise.Statement.{statement}
+use Rattle.packing.proofs.raise.Tie as tie
+use Rattle.packing.proofs.raise.Reads as reads
+use Rattle.packing.proofs.raise.Lts as lts
 
 below : (j m : ℕ) → 2 ^ j ≤ m → m < 2 ^ 48 → j < 48
 below j m a b = elim (le-or-lt 48 j) [ inl h ↦ absurd (lt-irrefl m (lt-of-lt-of-le b (le-trans (pow-mono h) a))) | inr h ↦ h ]

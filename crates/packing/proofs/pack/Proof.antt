@@ -1,8 +1,8 @@
 -- `pack` meets its contract: `magnitude` gives the bits below either sign. Assumes nothing.
 use borrow.Author.Needs.{needs}
 use mathlib.Core.Path.{_∙_}
-use Rattle.ieee.proofs.pack.Statement.{statement}
-use Rattle.ieee.proofs.pack.Tie as tie
+use Rattle.packing.proofs.pack.Statement.{statement}
+use Rattle.packing.proofs.pack.Tie as tie
 
 magnitude-requires : tie.Need-magnitude-requires
 magnitude-requires c κs = search needs

@@ -7,9 +7,9 @@ use native.Mathlib.Nat.{zero-add}
 use native.Mathlib.Omega.{arith}
 use lib.Dec.{T}
 use lib.Ieee.{binary32, top, ofBits, nanBits}
-use Rattle.ieee.proofs.Plain.{no-nan32, no-nan32-negative}
-use Rattle.ieee.proofs.with_sign.Statement.{statement}
-use Rattle.ieee.proofs.with_sign.Tie as tie
+use Rattle.packing.proofs.Plain.{no-nan32, no-nan32-negative}
+use Rattle.packing.proofs.with_sign.Statement.{statement}
+use Rattle.packing.proofs.with_sign.Tie as tie
 
 in-word : (s : Bool) (b t : ℕ) → b ≤ 2139095040 → t ≡ cond s (top binary32) 0 → t + b < 2 ^ 32
 in-word true b t h e = omega arith

@@ -10,7 +10,7 @@ use lib.Arith.{le→nltb}
 use lib.Ieee.{Float, Format, round, sum}
 use lib.Ieee.Bits.{is-true, is-false}
 use lib.Ieee.Scale.{round-same}
-use Rattle.ieee.proofs.Size.{le-or-lt}
+use Rattle.packing.proofs.Size.{le-or-lt}
 
 yes : (a b : ℕ) → a < b → ltb a b ≡ true
 yes a b h = is-true (ltb a b) (lt→ltb a b h)

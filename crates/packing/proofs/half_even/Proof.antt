@@ -7,11 +7,11 @@ use native.Mathlib.Omega.{arith}
 use mathlib.Core.Logic.{inl, inr}
 use lib.Pow.{pow-pos}
 use lib.Ieee.Nearest.{closest}
-use Rattle.ieee.proofs.Half.{closest-even, closest-tie, closest-up}
-use Rattle.ieee.proofs.half_even.Statement.{statement}
-use Rattle.ieee.proofs.half_even.Tie as tie
-use Rattle.ieee.proofs.half_even.Reads as reads
-use Rattle.ieee.proofs.half_even.Lts as lts
+use Rattle.packing.proofs.Half.{closest-even, closest-tie, closest-up}
+use Rattle.packing.proofs.half_even.Statement.{statement}
+use Rattle.packing.proofs.half_even.Tie as tie
+use Rattle.packing.proofs.half_even.Reads as reads
+use Rattle.packing.proofs.half_even.Lts as lts
 
 -- n is h * p + r, with p half of 2 ^ sh
 module _ (n sh : ℕ) (one : 1 ≤ sh) (fits : n < 2 ^ 64) where

@@ -9,15 +9,15 @@ use lib.Pow.{pow-pos, pow-add}
 use lib.Ieee.{Float, binary32, round, sum}
 use lib.Ieee.Digits.{back}
 use lib.Ieee.Scale.{round-same}
-use Rattle.ieee.specs.Parts.{Aligned, Raised}
-use Rattle.ieee.proofs.Sums.{sum-same, sum-comm, sum-zero-left, sum-zeros}
-use Rattle.ieee.proofs.add_scaled.Statement.{statement}
-use Rattle.ieee.proofs.add_scaled.Tie as tie
-use Rattle.ieee.proofs.add_scaled.Reads as reads
-use Rattle.ieee.proofs.add_scaled.Lts as lts
-use Rattle.ieee.proofs.combine.Reads as combine-reads
-use Rattle.ieee.proofs.pack.Reads as pack-reads
-use Rattle.ieee.proofs.raise.Reads as raise-reads
+use Rattle.packing.specs.Parts.{Aligned, Raised}
+use Rattle.packing.proofs.Sums.{sum-same, sum-comm, sum-zero-left, sum-zeros}
+use Rattle.packing.proofs.add_scaled.Statement.{statement}
+use Rattle.packing.proofs.add_scaled.Tie as tie
+use Rattle.packing.proofs.add_scaled.Reads as reads
+use Rattle.packing.proofs.add_scaled.Lts as lts
+use Rattle.packing.proofs.combine.Reads as combine-reads
+use Rattle.packing.proofs.pack.Reads as pack-reads
+use Rattle.packing.proofs.raise.Reads as raise-reads
 
 -- ---- m * 2 ^ x over 2 ^ 298, over 2 ^ 1074
 over : (m x : ℕ) → m * 2 ^ (x + 776) * 2 ^ 298 ≡ m * 2 ^ x * 2 ^ 1074

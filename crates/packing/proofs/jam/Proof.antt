@@ -6,13 +6,13 @@ use native.Mathlib.Nat.{le-trans, le-of-eq, lt-of-lt-of-le, lt-of-le-of-lt, zero
 use native.Mathlib.Omega.{arith}
 use lib.Dec.{lit≤, lit<}
 use lib.Pow.{pow-mono, pow-pos, shr-lt, mod-mod-pow}
-use Rattle.ieee.specs.Parts.{Jammed}
-use Rattle.ieee.proofs.Size.{le-or-lt}
-use Rattle.ieee.proofs.Aligned.{doubled}
-use Rattle.ieee.proofs.jam.Statement.{statement}
-use Rattle.ieee.proofs.jam.Tie as tie
-use Rattle.ieee.proofs.jam.Reads as reads
-use Rattle.ieee.proofs.jam.Lts as lts
+use Rattle.packing.specs.Parts.{Jammed}
+use Rattle.packing.proofs.Size.{le-or-lt}
+use Rattle.packing.proofs.Aligned.{doubled}
+use Rattle.packing.proofs.jam.Statement.{statement}
+use Rattle.packing.proofs.jam.Tie as tie
+use Rattle.packing.proofs.jam.Reads as reads
+use Rattle.packing.proofs.jam.Lts as lts
 
 -- src/lib.rt:140:9
 module _ (b d : ℕ) (some : 0 < b) (in62 : b < 2 ^ 62) (spare : b % 2 ^ 14 ≡ 0) where

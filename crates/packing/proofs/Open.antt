@@ -11,8 +11,8 @@ use lib.Ieee.{Float, Format, prec, low, size, units, round}
 use lib.Ieee.Fits.{round-is}
 use lib.Ieee.Digits.{size-lt, size-reaches}
 use lib.Ieee.Nearest.{closest, closest-same}
-use Rattle.ieee.proofs.Size.{size-frac, size-gt, le-or-lt}
-use Rattle.ieee.proofs.Half.{closest-even, closest-up}
+use Rattle.packing.proofs.Size.{size-frac, size-gt, le-or-lt}
+use Rattle.packing.proofs.Half.{closest-even, closest-up}
 
 -- ---- strictly between h and h + 1 halves
 closest-open : (a p h : ℕ) → h * p < a → a < suc h * p → closest a (p * 2) ≡ suc h / 2

@@ -6,11 +6,11 @@ use native.Mathlib.Omega.{arith}
 use lib.Dec.{T}
 use lib.Pow.{pow-pos}
 use lib.Ieee.{Float, binary32, fits, toBits}
-use Rattle.ieee.proofs.Fields.{value-low, value-normal, field-ne, finite-no-nan}
-use Rattle.ieee.proofs.unpack.Statement.{statement}
-use Rattle.ieee.proofs.unpack.Tie as tie
-use Rattle.ieee.proofs.unpack.Reads as reads
-use Rattle.ieee.proofs.unpack.Lts as lts
+use Rattle.packing.proofs.Fields.{value-low, value-normal, field-ne, finite-no-nan}
+use Rattle.packing.proofs.unpack.Statement.{statement}
+use Rattle.packing.proofs.unpack.Tie as tie
+use Rattle.packing.proofs.unpack.Reads as reads
+use Rattle.packing.proofs.unpack.Lts as lts
 
 -- src/lib.rt:92:13
 -- what owning a float tells: the format holds it

@@ -7,12 +7,12 @@ use mathlib.Core.Bool.{Bool, true, false, not, cond}
 use lib.Count.{leadingZeros, leading-top, leading-le}
 use lib.Ieee.{Float, binary32, round, ofBits, top}
 use lib.Ieee.Nearest.{closest}
-use Rattle.ieee.proofs.Cases.{normal-lt, kept-le, low-le, normal-case, large-case, low-case, tiny-case, zero-case}
-use Rattle.ieee.proofs.magnitude.Statement.{statement}
-use Rattle.ieee.proofs.magnitude.Tie as tie
-use Rattle.ieee.proofs.magnitude.Reads as reads
-use Rattle.ieee.proofs.magnitude.Lts as lts
-use Rattle.ieee.proofs.half_even.Reads as half-even-reads
+use Rattle.packing.proofs.Cases.{normal-lt, kept-le, low-le, normal-case, large-case, low-case, tiny-case, zero-case}
+use Rattle.packing.proofs.magnitude.Statement.{statement}
+use Rattle.packing.proofs.magnitude.Tie as tie
+use Rattle.packing.proofs.magnitude.Reads as reads
+use Rattle.packing.proofs.magnitude.Lts as lts
+use Rattle.packing.proofs.half_even.Reads as half-even-reads
 
 -- m is not 0, so it has a highest digit
 topmost : (m : ℕ) → (m ≡ 0 → ⊥) → m < 2 ^ 64 → (j : ℕ) × (leadingZeros 64 m + suc j ≡ 64) × (2 ^ j ≤ m) × (m < 2 ^ suc j)

@@ -11,7 +11,7 @@ use lib.Ieee.Exact.{HasValue, odd-sign}
 use lib.Ieee.Scale.{finite}
 use lib.Ieee.Fits.{eq→eqb}
 use lib.Ieee.Bits.{ofBits-toBits, cond-no, is-true}
-use Rattle.ieee.proofs.Units.{cond-yes}
+use Rattle.packing.proofs.Units.{cond-yes}
 
 pub ofBits-is : (f : Format) (b : ℕ) → ofBits f b ≡ ofFields f (leb (top f) b) (b % top f / hid f) (b % hid f)
 unfolding ofBits

@@ -24,7 +24,7 @@ use Rattle.ieee.proofs.TurnedOps.{same}
 use Rattle.ieee.proofs.Held.{convert-fits}
 use Rattle.ieee.proofs.Order.{plus, minus, plus-mul, minus-mul}
 use Rattle.ieee.proofs.Monotone.{summed, convert-le}
-use Rattle.ieee.proofs.Size.{le-or-lt}
+use Rattle.packing.proofs.Size.{le-or-lt}
 use Rattle.ieee.proofs.Roots.{twice-square}
 use Rattle.ieee.proofs.Rooted.{in-units, top-lt, is-sqrt}
 

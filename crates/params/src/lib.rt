@@ -1,8 +1,12 @@
 // Settings, what an entry answers, the tests of the refusal table that more than one entry makes, and the threshold of detection.
 
 ghost use mathlib.Core.Path.{_≡_};
-ghost use mathlib.Core.Bool.{false};
+ghost use mathlib.Core.Bool.{true, false};
 ghost use Prim.Native.Nat.{_≤_};
+ghost use lib.IntN.{pos};
+ghost use lib.Ieee.{fin, binary64, le, lt};
+ghost use Rattle.ieee.specs.Whole.{floor};
+ghost use Rattle.params.specs.Limits.{maxLayers};
 ghost use Rattle.params.specs.Table.{shapeWrong, layersWrong, contrastWrong, settingsWrong};
 ghost use Rattle.params.specs.Threshold.{thresholdOf, thresholdAnswer};
 
@@ -66,4 +70,37 @@ pub fn settings_wrong(s: Settings, octave: u32) -> bool
     contrast_wrong(s.contrast)
         | (!((1.0 <= s.edge) & (s.edge <= 1000.0))
             | (!((0.5 <= s.sigma) & (s.sigma <= 16.0)) | (octave > MAX_OCTAVE)))
+}
+
+// x as a whole number, toward minus infinity. A zero keeps its sign.
+fn floor_of(x: f64) -> f64
+    requires { ⌜ (le (fin false 0 (pos 0)) x ≡ true) × (lt x (fin false 1 (pos 64)) ≡ true) ⌝ }
+    ensures { λ r. ⌜ r ≡ floor binary64 x ⌝ }
+{
+    if x > 0.0 {
+        std::num::nearest_u64_to_f64(std::num::truncating_f64_to_u64(x))
+    } else {
+        x
+    }
+}
+
+// 0.5 * contrast / layers * 255 in f64, in that order, floor, as f32.
+pub fn threshold_of(contrast: f64, layers: usize) -> f32
+    requires { ⌜ (contrastWrong contrast ≡ false) × (1 ≤ layers) × (layers ≤ maxLayers) ⌝ }
+    ensures { λ t. ⌜ t ≡ thresholdOf contrast layers ⌝ }
+{
+    ieee::narrow(floor_of(0.5 * contrast / (layers as f64) * 255.0))
+}
+
+// The entry: the threshold, or 2 for layers 0 or above 15, or 4 for a contrast not in 0 to 1.
+pub fn extrema_threshold(contrast: f64, layers: usize) -> Threshold
+    ensures { λ t. ⌜ t ≡ thresholdAnswer contrast layers ⌝ }
+{
+    if (layers == 0) | (layers > MAX_LAYERS) {
+        return Threshold::Refused(2);
+    }
+    if contrast_wrong(contrast) {
+        return Threshold::Refused(4);
+    }
+    Threshold::Given(threshold_of(contrast, layers))
 }

@@ -1,32 +1,36 @@
-// Correctly rounded arithmetic on f32 by integer arithmetic on u64 significands.
+// What IEEE 754-2019 has and the language lacks, on binary32, for every bit pattern: each public function is the operation of `specs/F32.antt` that its contract names.
+// Each has a short path for the common case. Where that cannot answer, the general path works on whole significands in a u64, normalised by their leading zeros, and
+// rounds once, in `packing::pack`.
 ghost use mathlib.Core.Path.{_≡_};
 ghost use mathlib.Core.Bool.{Bool, true, false, cond};
 ghost use Prim.Native.Nat.{ℕ, _+_, _-_, _*_, _%_, _^_, _<_, _≤_, min};
-ghost use lib.Ieee.{Float, binary32, binary64, round, sum, mul, ofBits, toBits, toSigned, top};
+ghost use lib.Ieee.{Float, binary32, binary64, round, ofBits, toSigned};
 ghost use lib.Ieee.Nearest.{closest};
 ghost use lib.Dec.{T};
 ghost use lib.Ieee.Scale.{finite};
 ghost use lib.Ieee.Positive.{positive};
-ghost use Rattle.ieee.specs.Root.{sqrt, IsSqrt, Tried};
+ghost use Rattle.ieee.specs.Root.{sqrt, IsSqrt, Tried, Squared};
 ghost use Rattle.ieee.specs.Whole.{floorSize, floor, roundEven, saturate};
-ghost use Rattle.ieee.specs.F32.{absOf};
+ghost use Rattle.ieee.specs.F32.{_⊗_, f32, fused, rootOf, narrowed, floorOf, rounded, toI32, bitsOf, absOf};
 ghost use Rattle.ieee.specs.Fused.{fma, convert};
 ghost use Rattle.ieee.specs.Parts.{Clear};
 
-// Neither an infinity nor a NaN.
+// Neither an infinity nor a NaN (IEEE 754-2019, 5.7.2).
 pub fn is_finite(v: f32) -> bool
     ensures { λ r. ⌜ r ≡ finite v ⌝ }
 {
     if v < 1.0 / 0.0 { v > -1.0 / 0.0 } else { false }
 }
 
+// The same of an f64.
 fn is_finite64(v: f64) -> bool
     ensures { λ r. ⌜ r ≡ finite v ⌝ }
 {
     if v < 1.0 / 0.0 { v > -1.0 / 0.0 } else { false }
 }
 
-// Whether the pattern is of an f64 from 2^-126 to 2^128 in size, not in the middle between two f32s.
+// Whether the pattern is of an f64 in the range of the normal f32s, and not in the middle between two of them. Then one more rounding does no harm: what an f64 result
+// lost is too little to bring it to a middle.
 fn clear(n: u64) -> bool
     ensures { λ r. ⌜ (r ≡ true → Clear n) ⌝ }
 {
@@ -42,7 +46,7 @@ fn clear(n: u64) -> bool
     }
 }
 
-// The nearest f32 of such a pattern's f64.
+// The nearest f32 of such a pattern's f64: the exponent's bias exchanged, half a unit added, and 29 digits dropped. A carry goes into the exponent by itself.
 fn close(n: u64) -> f32
     requires { ⌜ Clear n ⌝ }
     ensures { λ r. ⌜ r ≡ convert binary32 (ofBits binary64 n) ⌝ }
@@ -51,9 +55,9 @@ fn close(n: u64) -> f32
     packing::with_sign(n >= 0x8000_0000_0000_0000, v as u32)
 }
 
-// x as an f32, rounded once.
+// An f64 as an f32, rounded once: convertFormat, IEEE 754-2019, 5.4.2. Rust's `x as f32`.
 pub fn narrow(x: f64) -> f32
-    ensures { λ r. ⌜ r ≡ convert binary32 x ⌝ }
+    ensures { λ r. ⌜ r ≡ narrowed x ⌝ }
 {
     if is_finite64(x) {
         let n = f64::to_bits(x);
@@ -71,7 +75,7 @@ pub fn narrow(x: f64) -> f32
     }
 }
 
-// a * b + c, rounded once, of three finite numbers.
+// a * b + c, rounded once, of three finite numbers: the product of two significands of 24 digits is exact in 48.
 fn fma_finite(a: f32, b: f32, c: f32) -> f32
     requires { ⌜ (finite a ≡ true) × (finite b ≡ true) × (finite c ≡ true) ⌝ }
     ensures { λ r. ⌜ r ≡ fma binary32 a b c ⌝ }
@@ -82,9 +86,9 @@ fn fma_finite(a: f32, b: f32, c: f32) -> f32
     packing::add_scaled(p.s != q.s, p.m * q.m, p.x + q.x, r.s, r.m, r.x + 149)
 }
 
-// a * b + c, rounded once.
+// a * b + c, rounded once: fusedMultiplyAdd, IEEE 754-2019, 5.4.1. Rust's `a.mul_add(b, c)`. The f64 sum answers where it is `clear`, which is proved harmless.
 pub fn mul_add(a: f32, b: f32, c: f32) -> f32
-    ensures { λ r. ⌜ r ≡ fma binary32 a b c ⌝ }
+    ensures { λ r. ⌜ r ≡ fused a b c ⌝ }
 {
     if is_finite(a * b + c) {
         let n = f64::to_bits(wide_fma(a, b, c));
@@ -96,7 +100,7 @@ pub fn mul_add(a: f32, b: f32, c: f32) -> f32
     fma_other(a, b, c)
 }
 
-// a * b + c of three finite numbers, rounded once to an f64: their product is exact.
+// a * b + c of three finite numbers, rounded once to an f64: 53 digits hold the product of two f32s whole.
 fn wide_fma(a: f32, b: f32, c: f32) -> f64
     requires { ⌜ (finite a ≡ true) × (finite b ≡ true) × (finite c ≡ true) ⌝ }
     ensures { λ r. ⌜ r ≡ fma binary64 a b c ⌝ }
@@ -104,7 +108,8 @@ fn wide_fma(a: f32, b: f32, c: f32) -> f64
     (a as f64) * (b as f64) + (c as f64)
 }
 
-// a * b + c, rounded once, as a rule of numbers that are not all finite.
+// a * b + c, rounded once, where the plain sum is not finite. An infinity or a NaN among a and b makes the product exact, so the two operations do. Beside a finite
+// product a c that is not finite stands, though the plain product may overflow. Else the plain sum has overflowed, and the fused one perhaps not.
 fn fma_other(a: f32, b: f32, c: f32) -> f32
     ensures { λ r. ⌜ r ≡ fma binary32 a b c ⌝ }
 {
@@ -120,7 +125,7 @@ fn fma_other(a: f32, b: f32, c: f32) -> f32
     fma_finite(a, b, c)
 }
 
-// The largest r with r * r <= n, digit by digit.
+// The largest r with r * r <= n, a digit at a time: only where the guess of a root fails, and for subnormals.
 fn isqrt(n: u64) -> u64
     ensures { λ r. ⌜ (r * r ≤ n) × (n < (r + 1) * (r + 1)) ⌝ }
 {
@@ -136,7 +141,8 @@ fn isqrt(n: u64) -> u64
     r
 }
 
-// The square root of a finite x above zero, by the integer root.
+// The root of a finite x above zero by the integer root of its significand, raised by its leading zeros to 62 or 63 digits so that the exponent is even. A root that is
+// not whole is handed to `pack` with an odd last digit.
 fn root_general(x: f32) -> f32
     requires { ⌜ T (positive x) ⌝ }
     ensures { λ r. ⌜ r ≡ sqrt binary32 x ⌝ }
@@ -155,7 +161,7 @@ fn root_general(x: f32) -> f32
     }
 }
 
-// sqrt(2 d) / 2 + 2^51, nearly, from g = d y and y, nearly 1 / sqrt(2 d): Newton's steps, three times.
+// sqrt(2 d) / 2 + 2^51, nearly, from y, nearly 1 / sqrt(2 d), and g = d * y: three of Newton's steps.
 fn closer(g: f64, y: f64) -> f64 {
     let r = 1.5 - g * y;
     let g1 = g * r;
@@ -166,20 +172,22 @@ fn closer(g: f64, y: f64) -> f64 {
     g2 * (1.5 - g2 * y2) + 2251799813685248.0
 }
 
-// Of the pattern b of a normal f32: its last digits are, as a rule, those of the root. Who asks has to test them.
+// The last digits of this are, as a rule, the significand of the root of the normal f32 with the pattern b. No contract says so: who asks has to test them.
 fn guess(b: u32) -> f64 {
     let d = wide((b % 0x100_0000 + 0x80_0000) % 0x100_0000) * 0x2000_0000 + 0x42c0_0000_0000_0000;
     let y = f64::from_bits(0x5fde_eb50_c7b5_37a9 - d / 2);
     closer(f64::from_bits(d) * y, y)
 }
 
+// A u32 as a u64.
 fn wide(k: u32) -> u64
     ensures { λ r. ⌜ r ≡ k ⌝ }
 {
     k as u64
 }
 
-// The pattern of the square root of the normal number with the pattern b, or 0 where the guess t is not right.
+// The pattern of the root of the normal f32 with the pattern b, if the guess t is right, and else 0. The test is exact: q is the nearest to the root of a when a lies
+// above q^2 - q and not above q^2 + q, the squares of the midpoints. A root is never a midpoint and never subnormal, so there is nothing to round.
 fn root_try(b: u32, t: f64) -> u32
     requires { ⌜ (8388608 ≤ b) × (b < 2139095040) ⌝ }
     ensures { λ r. ⌜ Tried b r ⌝ }
@@ -198,9 +206,10 @@ fn root_try(b: u32, t: f64) -> u32
     0
 }
 
-// The square root of x, rounded.
+// The square root: squareRoot, IEEE 754-2019, 5.4.1. The root of -0 is -0, that of a number below zero a NaN. The second clause says what makes it the root: no value of
+// the format is nearer.
 pub fn sqrt(x: f32) -> f32
-    ensures value { λ r. ⌜ r ≡ sqrt binary32 x ⌝ }
+    ensures value { λ r. ⌜ r ≡ rootOf x ⌝ }
     ensures ieee { λ r. ⌜ IsSqrt binary32 x r ⌝ }
 {
     if x > 0.0 {
@@ -217,7 +226,7 @@ pub fn sqrt(x: f32) -> f32
     root_other(x)
 }
 
-// The square root of x, rounded, by the integer root.
+// The square root of any x, with no guess.
 fn root_other(x: f32) -> f32
     ensures value { λ r. ⌜ r ≡ sqrt binary32 x ⌝ }
     ensures ieee { λ r. ⌜ IsSqrt binary32 x r ⌝ }
@@ -231,29 +240,39 @@ fn root_other(x: f32) -> f32
     }
 }
 
-// The length of the vector (x, y), as the operations give it.
-pub fn length(x: f32, y: f32) -> f32
-    ensures { λ r. ⌜ r ≡ sqrt binary32 (fma binary32 x x (mul binary32 y y)) ⌝ }
+// The pattern of x * x + q, rounded once, where that is a normal number and the f64 sum tells which; else 0.
+fn square_try(x: f32, q: f32) -> u32
+    ensures { λ r. ⌜ Squared x q r ⌝ }
 {
-    let q = y * y;
     if is_finite(x * x + q) {
         let n = f64::to_bits(wide_fma(x, x, q));
         if n >= 0x3810_0000_0000_0000 {
             if n < 0x47ef_ffff_e000_0000 {
                 if n % 0x2000_0000 != 0x1000_0000 {
-                    let b = ((n - 0x3800_0000_0000_0000 + 0x1000_0000) / 0x2000_0000) as u32;
-                    let r = root_try(b, guess(b));
-                    if r > 0 {
-                        return f32::from_bits(r);
-                    }
+                    return ((n - 0x3800_0000_0000_0000 + 0x1000_0000) / 0x2000_0000) as u32;
                 }
             }
+        }
+    }
+    0
+}
+
+// The length of (x, y): document 01's magnitude, "the square root of the fused dx × dx + (dy × dy)", in one.
+pub fn length(x: f32, y: f32) -> f32
+    ensures { λ r. ⌜ r ≡ rootOf (fused x x (y ⊗ y)) ⌝ }
+{
+    let q = y * y;
+    let b = square_try(x, q);
+    if b > 0 {
+        let r = root_try(b, guess(b));
+        if r > 0 {
+            return f32::from_bits(r);
         }
     }
     sqrt(mul_add(x, x, q))
 }
 
-// sqrt(2 d) / 2 + 2^51, nearly, by two steps of Newton's.
+// As `closer`, from a y of a table, which is near enough for two steps.
 fn closer_still(g: f64, y: f64) -> f64 {
     let r = 1.5 - g * y;
     let g1 = g * r;
@@ -261,13 +280,14 @@ fn closer_still(g: f64, y: f64) -> f64 {
     g1 * (1.5 - g1 * y1) + 2251799813685248.0
 }
 
+// A u32 as an index.
 fn index(i: u32) -> usize
     ensures { λ r. ⌜ r ≡ i ⌝ }
 {
     i as usize
 }
 
-// A guess from a table of 1 / sqrt: a wrong table costs time, no more.
+// As `guess`, from a table of 1 / sqrt. A wrong table costs time, no more.
 fn guess_with(starts: &[f64; 256], b: u32) -> f64 {
     let d = wide((b % 0x100_0000 + 0x80_0000) % 0x100_0000) * 0x2000_0000 + 0x42c0_0000_0000_0000;
     let i = index(b / 0x1_0000 % 256);
@@ -275,36 +295,29 @@ fn guess_with(starts: &[f64; 256], b: u32) -> f64 {
     closer_still(f64::from_bits(d) * y, y)
 }
 
-// The same length, with a lent table of starts.
+// The same length with a lent table of starts: entry i is 1 / sqrt(a) at the middle of the a whose pattern has i in bits 16 to 23. Whatever it holds, the answer is the same.
 pub fn length_with(starts: &[f64; 256], x: f32, y: f32) -> f32
-    ensures { λ r. ⌜ r ≡ sqrt binary32 (fma binary32 x x (mul binary32 y y)) ⌝ }
+    ensures { λ r. ⌜ r ≡ rootOf (fused x x (y ⊗ y)) ⌝ }
 {
     let q = y * y;
-    if is_finite(x * x + q) {
-        let n = f64::to_bits(wide_fma(x, x, q));
-        if n >= 0x3810_0000_0000_0000 {
-            if n < 0x47ef_ffff_e000_0000 {
-                if n % 0x2000_0000 != 0x1000_0000 {
-                    let b = ((n - 0x3800_0000_0000_0000 + 0x1000_0000) / 0x2000_0000) as u32;
-                    let r = root_try(b, guess_with(starts, b));
-                    if r > 0 {
-                        return f32::from_bits(r);
-                    }
-                }
-            }
+    let b = square_try(x, q);
+    if b > 0 {
+        let r = root_try(b, guess_with(starts, b));
+        if r > 0 {
+            return f32::from_bits(r);
         }
     }
     sqrt(mul_add(x, x, q))
 }
 
-// d, or 40.
+// d, or 40: a shift of 24 digits by 40 leaves what a longer one does.
 fn stop(d: u32) -> u32
     ensures { λ r. ⌜ r ≡ min d 40 ⌝ }
 {
     if d > 40 { 40 } else { d }
 }
 
-// one - 1 for a negative number, else 0.
+// one - 1 for a negative number, else 0: what is added so that a cut goes toward minus infinity.
 fn lift(s: bool, one: u64) -> u64
     requires { ⌜ 1 ≤ one ⌝ }
     ensures { λ r. ⌜ r ≡ cond s (one - 1) 0 ⌝ }
@@ -312,7 +325,7 @@ fn lift(s: bool, one: u64) -> u64
     if s { one - 1 } else { 0 }
 }
 
-// The size of ±m / 2^d as a whole number, toward minus infinity.
+// The size of the whole number that ±m / 2^d goes to, toward minus infinity.
 fn floor_size(s: bool, m: u64, d: u32) -> u64
     requires { ⌜ m < 2 ^ 24 ⌝ }
     ensures { λ r. ⌜ r ≡ floorSize s m (2 ^ d) ⌝ }
@@ -321,7 +334,7 @@ fn floor_size(s: bool, m: u64, d: u32) -> u64
     (m + lift(s, 1u64 << h)) >> h
 }
 
-// The size of m / 2^d as a whole number, to the nearest.
+// The size of the whole number nearest to m / 2^d, a tie to the even one.
 fn near_size(m: u64, d: u32) -> u64
     requires { ⌜ (m < 2 ^ 24) × (1 ≤ d) ⌝ }
     ensures { λ r. ⌜ r ≡ closest m (2 ^ d) ⌝ }
@@ -331,7 +344,7 @@ fn near_size(m: u64, d: u32) -> u64
     (m + (p - 1 + (m >> h) % 2)) >> h
 }
 
-// ±k as an f32.
+// ±k as an f32. A zero has the sign too.
 fn from_whole(s: bool, k: u64) -> f32
     requires { ⌜ k ≤ 2 ^ 24 ⌝ }
     ensures { λ r. ⌜ r ≡ round binary32 s k 1 ⌝ }
@@ -339,7 +352,7 @@ fn from_whole(s: bool, k: u64) -> f32
     packing::with_sign(s, f32::to_bits(k as f32))
 }
 
-// ±k as an i32.
+// ±k as an i32, where it is in range.
 fn small_signed(s: bool, k: u64) -> i32
     requires { ⌜ k < 2 ^ 31 ⌝ }
     ensures { λ r. ⌜ r ≡ saturate 31 s k ⌝ }
@@ -347,9 +360,9 @@ fn small_signed(s: bool, k: u64) -> i32
     if s { 0 - (k as i32) } else { k as i32 }
 }
 
-// x as a whole number, toward minus infinity.
+// roundToIntegralTowardNegative, IEEE 754-2019, 5.3.1: a zero keeps its sign, and from 2^23 on every f32 is whole.
 pub fn floor(x: f32) -> f32
-    ensures { λ r. ⌜ r ≡ floor binary32 x ⌝ }
+    ensures { λ r. ⌜ r ≡ floorOf x ⌝ }
 {
     if is_finite(x) {
         let p = packing::unpack(x);
@@ -366,9 +379,9 @@ pub fn floor(x: f32) -> f32
     }
 }
 
-// x as a whole number, to the nearest, a tie to the even one.
+// roundToIntegralTiesToEven, IEEE 754-2019, 5.3.1: a result of zero has x's sign.
 pub fn round_ties_even(x: f32) -> f32
-    ensures { λ r. ⌜ r ≡ roundEven binary32 x ⌝ }
+    ensures { λ r. ⌜ r ≡ rounded x ⌝ }
 {
     if is_finite(x) {
         let p = packing::unpack(x);
@@ -385,7 +398,7 @@ pub fn round_ties_even(x: f32) -> f32
     }
 }
 
-// ±k, stopped at the ends of an i32's range.
+// ±k as an i32, stopped at the ends of the range.
 fn signed(s: bool, k: u64) -> i32
     ensures { λ r. ⌜ r ≡ saturate 31 s k ⌝ }
 {
@@ -402,7 +415,7 @@ fn signed(s: bool, k: u64) -> i32
     }
 }
 
-// m * 2^d, or from 2^31 on any number from there on.
+// m * 2^d where it is below 2^31, and else any number from there on.
 fn grow(m: u64, d: u32) -> u64
     requires { ⌜ m < 2 ^ 24 ⌝ }
     ensures { λ r. ⌜ min r (2 ^ 31) ≡ min (m * 2 ^ d) (2 ^ 31) ⌝ }
@@ -414,7 +427,7 @@ fn grow(m: u64, d: u32) -> u64
     }
 }
 
-// The end of an i32's range on x's side, for an infinity, and 0 for a NaN.
+// An infinity is the end of the range on its side, and a NaN is 0.
 fn extreme(x: f32) -> i32
     requires { ⌜ finite x ≡ false ⌝ }
     ensures { λ r. ⌜ r ≡ toSigned 31 x ⌝ }
@@ -428,9 +441,9 @@ fn extreme(x: f32) -> i32
     }
 }
 
-// Rust's `x as i32`: toward zero, stopped at the ends of the range, and 0 for a NaN.
+// Rust's `x as i32`: toward zero, stopped at the ends of the range, and 0 for a NaN (document 01: "Saturating casts need an own conversion").
 pub fn to_i32(x: f32) -> i32
-    ensures { λ r. ⌜ r ≡ toSigned 31 x ⌝ }
+    ensures { λ r. ⌜ r ≡ toI32 x ⌝ }
 {
     if is_finite(x) {
         let p = packing::unpack(x);
@@ -447,9 +460,9 @@ pub fn to_i32(x: f32) -> i32
     }
 }
 
-// `to_i32(floor(x))`.
+// `to_i32(floor(x))` in one.
 pub fn floor_to_i32(x: f32) -> i32
-    ensures { λ r. ⌜ r ≡ toSigned 31 (floor binary32 x) ⌝ }
+    ensures { λ r. ⌜ r ≡ toI32 (floorOf x) ⌝ }
 {
     if is_finite(x) {
         let p = packing::unpack(x);
@@ -466,9 +479,9 @@ pub fn floor_to_i32(x: f32) -> i32
     }
 }
 
-// `to_i32(round_ties_even(x))`.
+// `to_i32(round_ties_even(x))` in one.
 pub fn round_to_i32(x: f32) -> i32
-    ensures { λ r. ⌜ r ≡ toSigned 31 (roundEven binary32 x) ⌝ }
+    ensures { λ r. ⌜ r ≡ toI32 (rounded x) ⌝ }
 {
     if is_finite(x) {
         let p = packing::unpack(x);
@@ -485,16 +498,16 @@ pub fn round_to_i32(x: f32) -> i32
     }
 }
 
-// The bits of a float, made total: 2143289344 for a NaN.
+// The bits of a float, made total: a NaN's are 2143289344, whatever pattern the machine holds (document 01, "2143289344, the bits of a not-a-number").
 pub fn bits_of(x: f32) -> u32
-    ensures { λ r. ⌜ r ≡ toBits binary32 x ⌝ }
+    ensures { λ r. ⌜ r ≡ bitsOf x ⌝ }
 {
     if x != x { 2143289344 } else { f32::to_bits(x) }
 }
 
-// The float of a bit pattern, a NaN's too.
+// The float of any bit pattern. Every pattern above an infinity's is the one NaN.
 pub fn of_bits(b: u32) -> f32
-    ensures { λ r. ⌜ r ≡ ofBits binary32 b ⌝ }
+    ensures { λ r. ⌜ r ≡ f32 b ⌝ }
 {
     if b % 0x8000_0000 > 0x7f80_0000 {
         0.0 / 0.0
@@ -503,7 +516,7 @@ pub fn of_bits(b: u32) -> f32
     }
 }
 
-// The same for an f64.
+// The f64 of any bit pattern.
 pub fn of_bits64(b: u64) -> f64
     ensures { λ r. ⌜ r ≡ ofBits binary64 b ⌝ }
 {
@@ -514,7 +527,7 @@ pub fn of_bits64(b: u64) -> f64
     }
 }
 
-// The absolute value: the sign bit cleared, a zero's too.
+// The absolute value (IEEE 754-2019, 5.5.1): the sign bit cleared, a zero's too. A NaN stays one.
 pub fn abs(x: f32) -> f32
     ensures { λ r. ⌜ r ≡ absOf x ⌝ }
 {

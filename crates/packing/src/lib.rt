@@ -1,4 +1,5 @@
-// Binary32 and binary64 taken apart and put together: a finite float as a sign, a significand and an exponent, and the one function that rounds and packs.
+// Floats taken apart and put together: a finite float as its sign, significand and exponent, and `pack`, the one function that rounds an exact result and packs it.
+// Every exponent is a natural number: an f32 is m * 2^x over 2^149, an f64 over 2^1074.
 ghost use mathlib.Core.Path.{_≡_};
 ghost use mathlib.Core.Bool.{Bool, true, cond};
 ghost use Prim.Native.Nat.{ℕ, _+_, _-_, _*_, _%_, _^_, _<_, _≤_};
@@ -7,7 +8,7 @@ ghost use lib.Ieee.Nearest.{closest};
 ghost use lib.Ieee.Scale.{finite};
 ghost use Rattle.packing.specs.Parts.{Splits, Jammed, Aligned, Raised};
 
-// n / 2^sh to the nearest whole number, a tie to the even one.
+// n / 2^sh to the nearest whole number: roundTiesToEven, IEEE 754-2019, 4.3.1.
 fn half_even(n: u64, sh: u32) -> u64
     requires { ⌜ (1 ≤ sh) × (sh ≤ 64) ⌝ }
     ensures { λ r. ⌜ r ≡ closest n (2 ^ sh) ⌝ }
@@ -24,7 +25,9 @@ fn half_even(n: u64, sh: u32) -> u64
     }
 }
 
-// The bit pattern, without its sign, of m * 2^x / 2^1074 rounded to an f32.
+// The bits below the sign of m * 2^x / 2^1074, rounded to binary32. The leading zeros of the significand set its shift and the exponent (document 01, "fused sums need
+// leading zeros counted to normalise an exact result"). The exponent's field is added to the significand, leading digit and all: so a significand that rounds up
+// to the next power of two carries into the exponent, a subnormal one into the normal numbers, and the largest one into the infinity.
 fn magnitude(m: u64, x: u32) -> u32
     requires { ⌜ x ≤ 4096 ⌝ }
     ensures small { λ r. ⌜ r ≤ 2139095040 ⌝ }
@@ -52,13 +55,14 @@ fn magnitude(m: u64, x: u32) -> u32
     }
 }
 
+// The sign in its place.
 fn sign_bit(s: bool) -> u32
     ensures { λ r. ⌜ r ≡ cond s (top binary32) 0 ⌝ }
 {
     if s { 0x8000_0000 } else { 0 }
 }
 
-// The float with the sign s and the bits b below it. A sum, and no branch on the sign: signs are mixed, and a branch on them mispredicts.
+// The float with the sign s and the bits b below it. A sum and no branch: the signs of a picture's samples are mixed, so that a branch on them is mispredicted.
 pub fn with_sign(s: bool, b: u32) -> f32
     requires { ⌜ b ≤ 2139095040 ⌝ }
     ensures { λ r. ⌜ r ≡ ofBits binary32 (cond s (top binary32) 0 + b) ⌝ }
@@ -66,7 +70,7 @@ pub fn with_sign(s: bool, b: u32) -> f32
     f32::from_bits(sign_bit(s) + b)
 }
 
-// m * 2^x / 2^1074 with the sign s, rounded to the nearest f32.
+// m * 2^x / 2^1074 with the sign s, rounded once to binary32: subnormals, overflow and ties as IEEE 754 has them. What an operation loses below m it leaves in m as an odd last digit.
 pub fn pack(s: bool, m: u64, x: u32) -> f32
     requires { ⌜ x ≤ 4096 ⌝ }
     ensures { λ r. ⌜ r ≡ round binary32 s (m * 2 ^ x) (2 ^ 1074) ⌝ }
@@ -74,13 +78,14 @@ pub fn pack(s: bool, m: u64, x: u32) -> f32
     with_sign(s, magnitude(m, x))
 }
 
-// A finite value: its size is m * 2^x times the format's smallest value.
+// A finite float: its sign, and its size m * 2^x in units of the format's smallest value.
 pub struct Parts {
     pub s: bool,
     pub m: u64,
     pub x: u32,
 }
 
+// A finite f32. A field of 0 in the exponent's place is a zero or a subnormal: no leading digit, and the exponent of field 1.
 pub fn unpack(v: f32) -> Parts
     requires { ⌜ finite v ≡ true ⌝ }
     ensures { λ r. ⌜ Splits 149 24 253 v (r .s) (r .m) (r .x) ⌝ }
@@ -104,6 +109,7 @@ pub fn unpack(v: f32) -> Parts
     }
 }
 
+// A finite f64.
 pub fn unpack64(v: f64) -> Parts
     requires { ⌜ finite v ≡ true ⌝ }
     ensures { λ r. ⌜ Splits 1074 53 2045 v (r .s) (r .m) (r .x) ⌝ }
@@ -123,7 +129,7 @@ pub fn unpack64(v: f64) -> Parts
     }
 }
 
-// b / 2^d, with what is lost kept as an odd last digit.
+// b / 2^d, with what is lost kept as an odd last digit (the sticky bit).
 fn jam(b: u64, d: u32) -> u64
     requires { ⌜ (0 < b) × (b < 2 ^ 62) × (b % 2 ^ 14 ≡ 0) ⌝ }
     ensures { λ r. ⌜ Jammed b d r ⌝ }
@@ -135,7 +141,7 @@ fn jam(b: u64, d: u32) -> u64
     if h << d == b { h } else { h / 2 * 2 + 1 }
 }
 
-// The rounded sum of a * 2^e and b * 2^(e - d), over 2^1074, with the signs s and t.
+// ±a * 2^e ± b * 2^(e - d), over 2^1074, rounded once. A sum that cancels to nothing is +0 (IEEE 754-2019, 6.3).
 fn combine(s: bool, a: u64, t: bool, b: u64, d: u32, e: u32) -> f32
     requires { ⌜ Aligned a b d e ⌝ }
     ensures { λ r. ⌜ r ≡ sum binary32 s (a * 2 ^ e) t (b * 2 ^ (e - d)) (2 ^ 1074) ⌝ }
@@ -152,7 +158,7 @@ fn combine(s: bool, a: u64, t: bool, b: u64, d: u32, e: u32) -> f32
     }
 }
 
-// The shift that brings m's top bit to bit 61.
+// The shift that brings m's leading digit to place 61, which leaves room for a carry above and 14 digits below.
 pub fn raise(m: u64) -> u32
     requires { ⌜ (0 < m) × (m < 2 ^ 48) ⌝ }
     ensures { λ r. ⌜ Raised m r ⌝ }
@@ -160,7 +166,7 @@ pub fn raise(m: u64) -> u32
     u64::leading_zeros(m) - 2
 }
 
-// The rounded sum of m * 2^x and n * 2^y, over 2^298, with the signs s and t.
+// ±m * 2^x ± n * 2^y, over 2^298, rounded once. Two zeros of one sign keep it, and two of unlike signs are +0 (IEEE 754-2019, 6.3).
 pub fn add_scaled(s: bool, m: u64, x: u32, t: bool, n: u64, y: u32) -> f32
     requires { ⌜ (m < 2 ^ 48) × (n < 2 ^ 48) × (x ≤ 1024) × (y ≤ 1024) ⌝ }
     ensures { λ r. ⌜ r ≡ sum binary32 s (m * 2 ^ x) t (n * 2 ^ y) (2 ^ 298) ⌝ }

@@ -1,10 +1,10 @@
 -- Bounds of a float, and what an operation makes of them: the results at the ends, which a caller computes. For both formats. Assumes nothing.
 use Prim.Native.Nat.{ℕ, _+_, _-_, _*_, _≤_}
-use mathlib.Core.Path.{_≡_, refl}
+use mathlib.Core.Path.{_≡_, refl, ap}
 use mathlib.Core.Bool.{Bool, true, false, not, false≢true}
 use native.Mathlib.Nat.{zero-mul, mul-comm}
 use native.Mathlib.Omega.{arith}
-use borrow.Author.Tests.{ltb-true, lt-ltb}
+use borrow.Author.Tests.{ne-eqb, ltb-true, lt-ltb}
 use lib.Dec.{T}
 use lib.IntN.{pos}
 use lib.Ieee.{Float, nan, inf, fin, Format, binary32, binary64, up, down, unlike, neg, add, sub, mul, div, lt, le, isNan, ofBits, ofInt}
@@ -12,8 +12,9 @@ use lib.Ieee.Scale.{finite}
 use Rattle.ieee.specs.Fused.{fma, convert}
 use Rattle.ieee.specs.Whole.{floor, roundEven}
 use Rattle.ieee.specs.F32.{absOf}
+use Rattle.ieee.proofs.Turned.{nonzero}
 use Rattle.ieee.proofs.Order.{fin-le, le-trans-float, lt-le, lt-le-trans, Marked, endless, ended, round-marked}
-use Rattle.ieee.proofs.Monotone.{nil, neg-finite, add-le, sub-le, mul-le-left, mul-le, unlike-swap, div-le-left, div-le-right, fma-le-addend, fma-le-left, convert-le, roundEven-le, floor-le, ofInt-le}
+use Rattle.ieee.proofs.Monotone.{nil, above-zero, neg-finite, add-le, sub-le, mul-le-left, mul-le, unlike-swap, div-le-left, div-le-right, fma-le-addend, fma-le-left, convert-le, roundEven-le, floor-le, ofInt-le}
 
 -- x lies from lo to hi, which are finite
 pub record Bounds (lo hi x : Float) : Type 0 where
@@ -218,3 +219,18 @@ pub zero-is : (f : Format) → ofBits f 0 ≡ nil
 unfolding ofBits
 zero-is binary32 = refl
 zero-is binary64 = refl
+
+-- what is above zero is no zero
+pub above-nonzero : (x : Float) → lt nil x ≡ true → nonzero x ≡ true
+unfolding nonzero
+above-nonzero nan h = refl
+above-nonzero (inf s) h = refl
+above-nonzero (fin s m e) h = ap not (ne-eqb m 0 (λ z. let p = above-zero s m e h .size in omega arith))
+
+one-above : (f : Format) → lt nil (ofInt f (pos 1)) ≡ true
+unfolding ofInt lt
+one-above binary32 = refl
+one-above binary64 = refl
+
+pub ofInt-above : (f : Format) (n : ℕ) → 1 ≤ n → lt nil (ofInt f (pos n)) ≡ true
+ofInt-above f n h = lt-le-trans nil (ofInt f (pos 1)) (ofInt f (pos n)) (one-above f) (ofInt-le f 1 n h)

@@ -191,7 +191,7 @@ pub record Above (n : ℕ) (t : Bool) : Type 0 where
   pub size : 0 < n
   pub sign : t ≡ false
 
-above-zero : (t : Bool) (n : ℕ) (d : ℤ) → lt nil (fin t n d) ≡ true → Above n t
+pub above-zero : (t : Bool) (n : ℕ) (d : ℤ) → lt nil (fin t n d) ≡ true → Above n t
 above-zero true n d h = let l = lt-fin false 0 (pos 0) true n d h .cross in absurd (omega (arith, zero-mul (down d)))
 above-zero false n d h = record { size = go (eq-zero-or-pos n); sign = refl }
   where

@@ -105,10 +105,10 @@ both false true false f x y c h = mixed f true false true false (ltb x y) (ltb y
 both false false true f x y c h = mixed f false true false true (ltb x y) (ltb y x) x y c h refl refl refl refl
 
 -- a sum that is one of its terms, the other being 0: `Is f z t y c` says that z is y / c rounded, with the sign t unless y is 0
-record Is (f : Format) (z : Float) (t : Bool) (y c : ℕ) : Type 0 where
-  sign : Bool
-  is : z ≡ round f sign y c
-  right : (sign ≡ t) ⊎ (y ≡ 0)
+pub record Is (f : Format) (z : Float) (t : Bool) (y c : ℕ) : Type 0 where
+  pub sign : Bool
+  pub is : z ≡ round f sign y c
+  pub right : (sign ≡ t) ⊎ (y ≡ 0)
 
 is-same : (f : Format) (t : Bool) (n y c : ℕ) → n ≡ y → Is f (round f t n c) t y c
 is-same f t n y c e = record { sign = t; is = rw e; right = inl refl }
@@ -119,7 +119,7 @@ left-mixed f s t false q x y c e u =
     let l = ltb-false x y u in
     record { sign = s && q; is = ap (λ (n : ℕ). round f (s && q) n c) (omega arith); right = inr (omega arith) }
 
-left-zero : (f : Format) (s t : Bool) (x y c : ℕ) → x ≡ 0 → Is f (sum f s x t y c) t y c
+pub left-zero : (f : Format) (s t : Bool) (x y c : ℕ) → x ≡ 0 → Is f (sum f s x t y c) t y c
 unfolding sum
 left-zero f true true x y c e = is-same f true (x + y) y c (omega arith)
 left-zero f false false x y c e = is-same f false (x + y) y c (omega arith)
@@ -137,7 +137,7 @@ right-mixed f s t false false x y c e u v =
     let l = ltb-false y x v in
     record { sign = s && false; is = ap (λ (n : ℕ). round f (s && false) n c) (omega arith); right = inr (omega arith) }
 
-right-zero : (f : Format) (s t : Bool) (x y c : ℕ) → y ≡ 0 → Is f (sum f s x t y c) s x c
+pub right-zero : (f : Format) (s t : Bool) (x y c : ℕ) → y ≡ 0 → Is f (sum f s x t y c) s x c
 unfolding sum
 right-zero f true true x y c e = is-same f true (x + y) x c (omega arith)
 right-zero f false false x y c e = is-same f false (x + y) x c (omega arith)

@@ -1,5 +1,5 @@
 -- Sign symmetry of the operations that this crate adds, of casts and of tests against zero. For both formats. Assumes nothing.
-use Prim.Native.Nat.{ℕ, zero, suc, _-_, _*_, _/_, _^_, _<_, min}
+use Prim.Native.Nat.{ℕ, zero, suc, _+_, _-_, _*_, _/_, _^_, _<_, min}
 use mathlib.Core.Path.{_≡_, refl, sym, ap, subst, _∙_}
 use mathlib.Core.Bool.{Bool, true, false, not, _&&_, cond}
 use mathlib.Core.Logic.{⊎-elim}
@@ -8,16 +8,16 @@ use native.Mathlib.Omega.{arith}
 use borrow.Author.Tests.{lt-ltb, eq-eqb, ne-eqb, eqb-false, not-true}
 use lib.Dec.{T, ltb, eqb}
 use lib.IntN.{ℤ, pos}
-use lib.Ieee.{Float, nan, inf, fin, Format, up, down, unlike, lt, eq, level, ofBits, toBits, toUnsigned, toSigned, fits}
+use lib.Ieee.{Float, nan, inf, fin, Format, binary32, binary64, prec, low, up, down, unlike, round, add, lt, eq, level, top, hid, ofBits, toBits, toUnsigned, toSigned}
 use lib.Ieee.Fits.{up-pos, down-pos}
 use lib.Ieee.Nearest.{closest, closest-same}
-use lib.Ieee.Bits.{ofBits-toBits}
 use Rattle.ieee.specs.Sign.{turned, nought, Turned, of-nan, of-inf, of-fin, Same}
 use Rattle.ieee.specs.Fused.{fma, convert}
 use Rattle.ieee.specs.Root.{sqrt}
 use Rattle.ieee.specs.Whole.{floorSize, floor, roundEven, saturate}
 use Rattle.ieee.specs.F32.{f32, absOf}
-use Rattle.ieee.proofs.Turned.{round-turned, signs-of, sum-turned, zero-of, add-turned, mul-turned, product, nonzero, zero-left, zero-right, level-zero}
+use Rattle.packing.proofs.Size.{size-zero}
+use Rattle.ieee.proofs.Turned.{Is, left-zero, right-zero, round-turned, signs-of, sum-turned, zero-of, add-turned, mul-turned, product, nonzero, zero-left, zero-right, level-zero}
 
 -- ---- the relation itself
 
@@ -67,6 +67,44 @@ fma-turned f (of-fin {s = s} {t = s'} {m = m} {e = e} p) (of-fin {s = t} {t = t'
     (mul-pos (mul-pos (down-pos e) (down-pos d)) (down-pos g))
     (product a (λ z. rw (z, zero-mul, zero-mul, zero-mul)) (λ z. rw (z, zero-mul, mul-zero, zero-mul)) p q)
     (signs-of (zero-of k (up g) (down e * down d)) r)
+
+-- ---- beside a number that is no zero a zero's sign leaves no trace
+
+is-at : (f : Format) (z : Float) (t : Bool) (y c : ℕ) → 0 < y → Is f z t y c → z ≡ round f t y c
+is-at f z t y c h i = i .is ∙ ⊎-elim (λ (e : i .sign ≡ t). ap (λ (s : Bool). round f s y c) e) (λ (e : y ≡ 0). absurd (omega arith)) (i .right)
+
+some-of : (m : ℕ) → not (eqb m 0) ≡ true → 0 < m
+some-of m h = ⊎-elim (λ z. no-zero m z h) (λ p. p) (eq-zero-or-pos m)
+
+pub add-nonzero : (f : Format) (x : Float) {y y' : Float} → nonzero x ≡ true → Same y y' → add f x y' ≡ add f x y
+unfolding add nonzero
+add-nonzero f nan h p = refl
+add-nonzero f (inf s) h of-nan = refl
+add-nonzero f (inf s) h (of-inf e) = rw e
+add-nonzero f (inf s) h (of-fin p) = refl
+add-nonzero f (fin s m e) h of-nan = refl
+add-nonzero f (fin s m e) h (of-inf g) = rw g
+add-nonzero f (fin s m e) h (of-fin (turned p)) = rw p
+add-nonzero f (fin s m e) h (of-fin {s = t} {t = t'} {m = n} {e = d} (nought p)) =
+    let A = m * up e * down d in
+    let B = n * up d * down e in
+    let z : B ≡ 0 = zero-of n (up d) (down e) p in
+    let a : 0 < A = mul-pos (mul-pos (some-of m h) (up-pos e)) (down-pos d) in
+    is-at f _ s A (down e * down d) a (right-zero f s t' A B (down e * down d) z) ∙ sym (is-at f _ s A (down e * down d) a (right-zero f s t A B (down e * down d) z))
+
+pub add-beside : (f : Format) (y : Float) {x x' : Float} → nonzero y ≡ true → Same x x' → add f x' y ≡ add f x y
+unfolding add nonzero
+add-beside f y h of-nan = refl
+add-beside f y h (of-inf e) = rw e
+add-beside f nan h (of-fin p) = refl
+add-beside f (inf t) h (of-fin p) = refl
+add-beside f (fin t n d) h (of-fin (turned p)) = rw p
+add-beside f (fin t n d) h (of-fin {s = s} {t = s'} {m = m} {e = e} (nought p)) =
+    let A = m * up e * down d in
+    let B = n * up d * down e in
+    let z : A ≡ 0 = zero-of m (up e) (down d) p in
+    let b : 0 < B = mul-pos (mul-pos (some-of n h) (up-pos d)) (down-pos e) in
+    is-at f _ t B (down e * down d) b (left-zero f s' t A B (down e * down d) z) ∙ sym (is-at f _ t B (down e * down d) b (left-zero f s t A B (down e * down d) z))
 
 -- ---- narrowing, the absolute value, the root
 
@@ -159,8 +197,30 @@ toSigned-same h (of-fin {s = s} {t = t} {m = m} {e = e} (nought p)) =
 pub toBits-same : (f : Format) {x y : Float} → Same x y → nonzero x ≡ true → toBits f y ≡ toBits f x
 toBits-same f p h = ap (toBits f) (same-nonzero p h)
 
-pub back-same : (f : Format) {x y : Float} → T (fits f x) → T (fits f y) → Same x y → Same (ofBits f (toBits f x)) (ofBits f (toBits f y))
-back-same f {x} {y} h k p = rw (ofBits-toBits f x h, ofBits-toBits f y k) p
+-- a zero's pattern is its sign's
+zero-bits : (f : Format) (s : Bool) (m : ℕ) (e : ℤ) → m ≡ 0 → toBits f (fin s m e) ≡ cond s (top f) 0
+unfolding toBits
+zero-bits f s m e z =
+    let n : m * up e * 2 ^ low f / down e ≡ 0 = zero-div (m * up e * 2 ^ low f) (down e) (down-pos e) (rw (z, zero-mul, zero-mul)) in
+    rw (n, size-zero) (plain f (cond s (top f) 0))
+  where
+    plain : (f : Format) (c : ℕ) → c + (0 - prec f) * hid f + 0 / 2 ^ (0 - prec f) ≡ c
+    plain binary32 c = omega arith
+    plain binary64 c = omega arith
+
+zero-read : (f : Format) (s : Bool) → ofBits f (cond s (top f) 0) ≡ fin s 0 (pos 0)
+unfolding ofBits
+zero-read binary32 true = refl
+zero-read binary32 false = refl
+zero-read binary64 true = refl
+zero-read binary64 false = refl
+
+pub back-same : (f : Format) {x y : Float} → Same x y → Same (ofBits f (toBits f x)) (ofBits f (toBits f y))
+back-same f of-nan = same (ofBits f (toBits f nan))
+back-same f (of-inf {s = s} e) = rw e (same (ofBits f (toBits f (inf s))))
+back-same f (of-fin {s = s} {m = m} {e = e} (turned p)) = rw p (same (ofBits f (toBits f (fin s m e))))
+back-same f (of-fin {s = s} {t = t} {m = m} {e = e} (nought p)) =
+    rw (zero-bits f s m e p, zero-bits f t m e p, zero-read f s, zero-read f t) (of-fin (nought refl))
 
 -- ---- tests against zero
 

@@ -3,3 +3,4 @@ pub mod Counts
 pub mod Codes
 pub mod Steps
 pub mod Settled
+pub mod SignLaw

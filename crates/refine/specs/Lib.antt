@@ -1,3 +1,4 @@
 pub mod Fit
 pub mod Moves
 pub mod Keypoint
+pub mod Sign

@@ -4,9 +4,13 @@
 ghost use mathlib.Core.Path.{_≡_};
 ghost use lib.Ieee.{ofBits, binary64};
 ghost use Rattle.ieee.specs.F32.{f32, bitsOf, fused, rootOf, narrowed, floorOf, rounded, toI32};
+ghost use Rattle.params.specs.Answers.{numberOf, countOf};
+ghost use Rattle.params.specs.Threshold.{thresholdAnswer, thresholdNumber, thresholdValue};
 ghost use Rattle.hal.specs.Exp.{exp2Of, expOf};
 ghost use Rattle.hal.specs.Turn.{sinOf, cosOf};
 ghost use Rattle.hal.specs.Angle.{angleOf};
+use params::Answer;
+use params::Threshold;
 
 // ---- routines
 
@@ -87,4 +91,62 @@ pub extern "C" fn bargeclover_to_i32(x: u32) -> i32
     ensures { λ r. ⌜ r ≡ toI32 (f32 x) ⌝ }
 {
     ieee::to_i32(ieee::of_bits(x))
+}
+
+// ---- answers
+
+// The number that document 01 gives to an answer.
+fn number_of(a: Answer) -> u32
+    ensures { λ r. ⌜ r ≡ numberOf a ⌝ }
+{
+    match a {
+        Answer::Done(_) => 0,
+        Answer::Short(_) => 7,
+        Answer::Refused(k) => k,
+    }
+}
+
+// The count beside it.
+fn count_of(a: Answer) -> usize
+    ensures { λ r. ⌜ r ≡ countOf a ⌝ }
+{
+    match a {
+        Answer::Done(n) => n,
+        Answer::Short(n) => n,
+        Answer::Refused(_) => 0,
+    }
+}
+
+// ---- the threshold
+
+fn threshold_number(t: Threshold) -> u32
+    ensures { λ r. ⌜ r ≡ thresholdNumber t ⌝ }
+{
+    match t {
+        Threshold::Given(_) => 0,
+        Threshold::Refused(k) => k,
+    }
+}
+
+fn threshold_value(t: Threshold) -> f32
+    ensures { λ r. ⌜ r ≡ thresholdValue t ⌝ }
+{
+    match t {
+        Threshold::Given(x) => x,
+        Threshold::Refused(_) => 0.0,
+    }
+}
+
+#[no_mangle]
+pub extern "C" fn bargeclover_threshold(
+    contrast: f64,
+    layers: usize,
+    threshold_bits: &mut u32,
+) -> u32
+    ensures { λ r. ⌜ r ≡ thresholdNumber (thresholdAnswer contrast layers) ⌝ }
+    ensures { λ _. ⌜ now («threshold_bits» .exit) ≡ bitsOf (thresholdValue (thresholdAnswer contrast layers)) ⌝ }
+{
+    let t = params::extrema_threshold(contrast, layers);
+    *threshold_bits = ieee::bits_of(threshold_value(t));
+    threshold_number(t)
 }

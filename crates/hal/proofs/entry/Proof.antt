@@ -4,7 +4,7 @@ use lib.ListN.{getD, length}
 use mathlib.Core.List.{List}
 use mathlib.Core.Path.{sym, ap, _∙_, subst, _≡_, refl}
 use Rattle.hal.specs.Powers.{powers, entryOf}
-use Rattle.hal.proofs.Powers.{getD-any}
+use Rattle.hal.proofs.Entries.{getD-any}
 use borrow.Author.Needs.{needs}
 use Rattle.hal.proofs.entry.Statement.{statement}
 use Rattle.hal.proofs.entry.Tie as tie

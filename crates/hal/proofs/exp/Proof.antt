@@ -1,5 +1,5 @@
-use Rattle.hal.specs.Powers.{powers}
 use mathlib.Core.Path.{refl}
+use Rattle.hal.specs.Powers.{powers}
 use borrow.Author.Needs.{needs}
 use Rattle.hal.proofs.exp.Statement.{statement}
 use Rattle.hal.proofs.exp.Tie as tie
@@ -7,12 +7,12 @@ use Rattle.hal.proofs.exp.Reads as reads
 use Rattle.hal.proofs.exp.Lts as lts
 use Rattle.hal.proofs.exp_with.Reads as exp-with-reads
 
--- src/lib.rt:357:5
+-- src/lib.rt:105:5
 exp-with-requires : tie.Need-exp-with-requires
 unfolding powers
 exp-with-requires c κs = refl
 
--- src/lib.rt:354:1
+-- src/lib.rt:102:1
 returns : tie.Need-returns
 returns c = search needs
 

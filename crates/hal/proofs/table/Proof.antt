@@ -1,11 +1,11 @@
-use Rattle.hal.specs.Powers.{powers}
 use mathlib.Core.Path.{refl}
+use Rattle.hal.specs.Powers.{powers}
 use Rattle.hal.proofs.table.Statement.{statement}
 use Rattle.hal.proofs.table.Tie as tie
 use Rattle.hal.proofs.table.Reads as reads
 use Rattle.hal.proofs.table.Lts as lts
 
--- src/lib.rt:272:1
+-- src/lib.rt:16:1
 returns : tie.Need-returns
 unfolding powers
 returns c = refl

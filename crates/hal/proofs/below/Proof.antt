@@ -1,0 +1,19 @@
+use Rattle.hal.specs.Angle.{small, slopeOf, lesserOf, greaterOf, nearOf, mirrorOf, belowOf, foldedOf, directionOf, levelOf, inAngle, angleOf}
+use lib.Ieee.{Float, nan, fin, binary32, binary64, lt, le, eq, neg, add, sub, mul, div, ofBits, fits, isNan}
+use Rattle.hal.proofs.below.Statement.{statement}
+use Rattle.hal.proofs.below.Tie as tie
+use Rattle.hal.proofs.below.Reads as reads
+use Rattle.hal.proofs.below.Lts as lts
+
+-- src/lib.rt:204:1
+returns : tie.Need-returns
+unfolding belowOf ofBits
+returns c = simp (c .if1 .taken)
+
+-- src/lib.rt:204:1
+returns-2 : tie.Need-returns-2
+unfolding belowOf ofBits
+returns-2 c = simp (c .if1 .left)
+
+pub below-spec : {M : Type 1} → statement M
+below-spec = tie.close (tie.spec returns returns-2)

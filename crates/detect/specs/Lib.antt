@@ -1,3 +1,4 @@
 pub mod Neighbours
 pub mod Scan
 pub mod Entry
+pub mod Places

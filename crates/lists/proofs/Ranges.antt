@@ -1,16 +1,21 @@
 -- Laws of joined lists and of runs of stores. Assumes nothing.
-use Prim.Native.Nat.{ℕ, zero, suc, _+_, _-_, _*_, _<_, _≤_}
+use Prim.Native.Nat.{ℕ, zero, suc, _+_, _-_, _*_, _<_, _≤_, zero-le, suc-le-suc}
 use mathlib.Core.Path.{_≡_, refl, sym, ap, subst, _∙_}
 use mathlib.Core.Bool.{Bool, true, false, cond}
-use mathlib.Core.Logic.{_⊎_, ⊎-elim}
+use mathlib.Core.Logic.{_⊎_, inl, inr, ⊎-elim}
 use mathlib.Core.List.{List, [], _∷_, _++_, append-assoc, append-nil}
-use native.Mathlib.Nat.{eq-or-lt-of-le, le-of-suc-le-suc, add-zero}
+use native.Mathlib.Nat.{eq-or-lt-of-le, le-of-suc-le-suc, add-zero, suc-mul}
 use native.Mathlib.Numerals.{add-one}
 use native.Mathlib.Omega.{arith}
 use borrow.Author.Tests.{le-leb, lt-leb}
 use lib.ListN.{length, take, drop, set, length-append, length-set}
 use lib.Seq.{sets, sets-eq, length-sets}
 use Rattle.lists.specs.Ranges.{joined}
+
+le-or-lt : (m n : ℕ) → (m ≤ n) ⊎ (n < m)
+le-or-lt zero n = inl zero-le
+le-or-lt (suc m) zero = inr (suc-le-suc zero-le)
+le-or-lt (suc m) (suc n) = ⊎-elim (λ p. inl (suc-le-suc p)) (λ q. inr (suc-le-suc q)) (le-or-lt m n)
 
 cond-same : {A : Type 0} (b : Bool) (x : A) → cond b x x ≡ x
 cond-same true x = refl
@@ -47,6 +52,28 @@ module _ {A : Type 0} where
       (λ q. let t : lo ≤ top = omega arith in rw q (omega (arith, joined-length lo top f t)))
       (λ l. let t : lo ≤ top = omega arith in omega (arith, joined-room lo hi top f a l, joined-length lo top f t))
       (eq-or-lt-of-le (le-of-suc-le-suc b))
+
+  -- the parts up to a number and from it on
+  pub joined-split : (lo mid hi : ℕ) (f : ℕ → List A) → lo ≤ mid → mid ≤ hi → joined lo mid f ++ joined mid hi f ≡ joined lo hi f
+  joined-split lo mid zero f a b =
+      let z : mid ≡ 0 = omega arith in
+      rw (joined-none lo mid f (omega arith), joined-none mid zero f (omega arith), joined-none lo zero f (omega arith))
+  joined-split lo mid (suc hi) f a b =
+      ⊎-elim
+      (λ q. rw (← q, joined-start mid f, append-nil))
+      (λ l. let h : mid ≤ hi = omega arith in let k : lo ≤ hi = omega arith in
+      rw (← add-one hi, joined-more mid hi f h, joined-more lo hi f k, ← append-assoc, joined-split lo mid hi f a h))
+      (eq-or-lt-of-le b)
+
+  -- where each part has at most m elements
+  pub joined-bound : (m lo hi : ℕ) (f : ℕ → List A) → ((i : ℕ) → length (f i) ≤ m) → length (joined lo hi f) ≤ (hi - lo) * m
+  joined-bound m lo zero f e = rw (joined-none lo zero f (omega arith)) (omega arith)
+  joined-bound m lo (suc hi) f e =
+      ⊎-elim
+      (λ h. rw (← add-one hi, joined-more lo hi f h, length-append)
+      (let z : hi + 1 - lo ≡ suc (hi - lo) = omega arith in rw (z, suc-mul) (omega (arith, joined-bound m lo hi f e, e hi))))
+      (λ h. rw (joined-none lo (suc hi) f h) (omega arith))
+      (le-or-lt lo hi)
 
   -- one more part counted
   pub counted : (lo hi : ℕ) (f : ℕ → List A) (k k' : ℕ) (v : List A) → lo ≤ hi → f hi ≡ v → k ≡ length (joined lo hi f) → k' ≡ k + length v → k' ≡ length (joined lo (hi + 1) f)

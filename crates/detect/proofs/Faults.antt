@@ -1,0 +1,105 @@
+-- The first check that fails, and what is known where none does. Assumes nothing.
+use Prim.Native.Nat.{ℕ, zero, suc, _+_, _-_, _*_, _<_, _≤_}
+use mathlib.Core.Path.{_≡_, refl, sym, ap, _∙_}
+use mathlib.Core.Bool.{Bool, true, false, _&&_, _||_, not, true≢false}
+use mathlib.Core.List.{List}
+use native.Mathlib.Nat.{mul-le-mul}
+use native.Mathlib.Omega.{arith}
+use borrow.Author.Tests.{eq-eqb, ne-eqb, ltb-false, leb-true}
+use lib.Dec.{eqb, leb, ltb, T}
+use lib.ListN.{length}
+use lib.Ieee.{Float}
+use Rattle.params.specs.Limits.{maxSide, maxLayers, maxPlanes}
+use Rattle.params.specs.Table.{firstFault, sideWrong, shapeWrong, layersWrong, lengthWrong, contrastWrong, settingsWrong, allGood}
+use Rattle.params.specs.declared.Settings.{Settings}
+use Rattle.params.proofs.Bools.{or-neither, in-range}
+use Rattle.params.proofs.Accepted.{accepted}
+use Rattle.detect.specs.Entry.{faultOf}
+use Rattle.detect.specs.Places.{Stack}
+
+and-both : (a b : Bool) → (a && b) ≡ true → (a ≡ true) × (b ≡ true)
+and-both true b e = (refl, e)
+and-both false b e = absurd (true≢false (sym e))
+
+not-is : (a : Bool) → not a ≡ false → a ≡ true
+not-is true e = refl
+not-is false e = sym e
+
+pub shape-right : (w h : ℕ) → shapeWrong w h ≡ false → (w ≤ maxSide) × (h ≤ maxSide)
+unfolding shapeWrong
+shape-right w h e =
+    let a = or-neither (sideWrong w) (sideWrong h) e in
+    (in-range w maxSide (a .0) .1, in-range h maxSide (a .1) .1)
+
+pub record Layers (planes layer layers : ℕ) : Type 0 where
+  pub first : 1 ≤ layer
+  pub last : layer ≤ layers
+  pub room : layers + 2 ≤ planes
+  pub few : layers ≤ maxLayers
+  pub most : planes ≤ maxPlanes
+
+pub layers-right : (planes layer layers : ℕ) → layersWrong planes layer layers ≡ false → Layers planes layer layers
+unfolding layersWrong
+layers-right planes layer layers e =
+    let a = or-neither (not (leb 1 layer && (leb layer layers && leb (layers + 2) planes))) _ e in
+    let b = or-neither (ltb maxLayers layers) _ (a .1) in
+    let q = and-both (leb 1 layer) _ (not-is _ (a .0)) in
+    let g = and-both (leb layer layers) _ (q .1) in
+    record {
+      first = leb-true 1 layer (q .0);
+      last = leb-true layer layers (g .0);
+      room = leb-true (layers + 2) planes (g .1);
+      few = ltb-false maxLayers layers (b .0);
+      most = ltb-false maxPlanes planes (b .1);
+    }
+
+-- the length that the shape gives does not wrap
+pub products : (n h w : ℕ) → n ≤ maxPlanes → h ≤ maxSide → w ≤ maxSide → (n * h ≤ maxPlanes * maxSide) × (n * h * w ≤ maxPlanes * maxSide * maxSide)
+products n h w a b c =
+    let p : n * h ≤ maxPlanes * maxSide = mul-le-mul {n₁ = n} {m₁ = h} {n₂ = maxPlanes} {m₂ = maxSide} a b in
+    (p, mul-le-mul {n₁ = n * h} {m₁ = w} {n₂ = maxPlanes * maxSide} {m₂ = maxSide} p c)
+
+module _ (d : List Float) (w h planes layer octave : ℕ) (s : Settings) where
+  abbrev fault : ℕ
+  fault = faultOf d w h planes layer octave s
+
+  pub fault-shape : shapeWrong w h ≡ true → 1 ≡ fault
+  unfolding faultOf firstFault
+  fault-shape a = rw a
+
+  module _ (shape : shapeWrong w h ≡ false) where
+    pub fault-layers : layersWrong planes layer (s .layers) ≡ true → 2 ≡ fault
+    unfolding faultOf firstFault
+    fault-layers a = rw (shape, a)
+
+    module _ (layers : layersWrong planes layer (s .layers) ≡ false) where
+      pub fits : (planes * h ≤ maxPlanes * maxSide) × (planes * h * w ≤ maxPlanes * maxSide * maxSide)
+      fits = let a = shape-right w h shape in products planes h w (layers-right planes layer (s .layers) layers .most) (a .1) (a .0)
+
+      pub fault-length : (length d ≡ planes * h * w → ⊥) → 3 ≡ fault
+      unfolding faultOf firstFault lengthWrong
+      fault-length a = rw (shape, layers, ne-eqb (length d) (planes * h * w) a)
+
+      module _ (whole : length d ≡ planes * h * w) where
+        pub fault-settings : settingsWrong s octave ≡ true → 4 ≡ fault
+        unfolding faultOf firstFault lengthWrong
+        fault-settings a = rw (shape, layers, eq-eqb (length d) (planes * h * w) whole, a)
+
+        module _ (settings : settingsWrong s octave ≡ false) where
+          pub stack : Stack (length d) w h planes (s .layers) octave layer
+          stack =
+              let a = shape-right w h shape in
+              let b = layers-right planes layer (s .layers) layers in
+              record { whole = whole; wide = a .0; high = a .1; planes = b .room; many = b .few; low = accepted s octave settings .octave; first = b .first; last = omega arith }
+
+          pub contrast-right : contrastWrong (s .contrast) ≡ false
+          unfolding settingsWrong
+          contrast-right = or-neither (contrastWrong (s .contrast)) _ settings .0
+
+          pub fault-sample : allGood d ≡ false → 6 ≡ fault
+          unfolding faultOf firstFault lengthWrong
+          fault-sample a = rw (shape, layers, eq-eqb (length d) (planes * h * w) whole, settings, a)
+
+          pub fault-none : allGood d ≡ true → 0 ≡ fault
+          unfolding faultOf firstFault lengthWrong
+          fault-none a = rw (shape, layers, eq-eqb (length d) (planes * h * w) whole, settings, a)

@@ -1,0 +1,6 @@
+pub mod Near
+pub mod Cells
+pub mod Words
+pub mod Rows
+pub mod Faults
+pub mod Answers

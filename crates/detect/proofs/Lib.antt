@@ -4,3 +4,4 @@ pub mod Words
 pub mod Rows
 pub mod Faults
 pub mod Answers
+pub mod SignLaw

@@ -2,3 +2,4 @@ pub mod Neighbours
 pub mod Scan
 pub mod Entry
 pub mod Places
+pub mod SignLaw

@@ -1,7 +1,7 @@
 -- With every sample negated, a candidate settles at the same place after the same moves, and its keypoint is the same but for the sign of an offset xi that is zero.
 -- Assumes nothing.
 use Prim.Native.Nat.{ℕ, zero, suc, _+_, _-_, _^_, _≤_}
-use mathlib.Core.Path.{_≡_, refl, sym, ap}
+use mathlib.Core.Path.{_≡_, refl, ap}
 use mathlib.Core.Bool.{Bool, true, false, _&&_, _||_, cond}
 use mathlib.Core.List.{List}
 use native.Mathlib.Nat.{le-trans}
@@ -10,17 +10,17 @@ use borrow.Author.Tests.{leb-true}
 use lib.Dec.{leb, ltb}
 use lib.IntN.{ℤ, pos, negsuc, _+ℤ_}
 use lib.ListN.{getD}
-use lib.Ieee.{Float, nan, binary32, neg, le, lt, eq, unlike, ofBits}
-use Rattle.ieee.specs.F32.{_⊕_, _⊖_, _⊗_, _⊘_, fused, absOf, rounded, toI32, narrowed}
-use Rattle.ieee.specs.Sign.{Turned, Opp, Same}
-use Rattle.ieee.proofs.Turned.{neg-turned, add-turned, sub-turned, mul-turned, div-turned, lt-turned, le-turned, eq-turned, nonzero}
+use lib.Ieee.{Float, nan, binary32, eq, ofBits}
+use Rattle.ieee.specs.F32.{_⊕_, _⊗_, rounded, toI32, narrowed}
+use Rattle.ieee.specs.Sign.{Opp, Same}
+use Rattle.ieee.proofs.Turned.{neg-turned, add-turned, sub-turned, mul-turned, div-turned, le-turned, eq-turned, nonzero}
 use Rattle.ieee.proofs.TurnedOps.{same, zero-any, fma-turned, abs-turned, roundEven-turned, toSigned-same, nonzero-of, add-nonzero, add-beside}
 use Rattle.ieee.proofs.Bounds.{above-nonzero, ofInt-above}
 use Rattle.params.specs.Limits.{border, maxMoves}
 use Rattle.params.specs.declared.Settings.{Settings}
 use Rattle.picture.specs.Stack.{sample}
 use Rattle.refine.specs.Fit.{imgScale, deriv, second, cross, one, two, patchOf, diff, curve, twist, slopeOf, bendOf, mulSub, outer, detOf, offsetOf}
-use Rattle.refine.specs.Moves.{nought, half, limit, small, huge, placed, moved, three, walk, stepOf}
+use Rattle.refine.specs.Moves.{nought, half, small, huge, placed, moved, three, walk, stepOf}
 use Rattle.refine.specs.Keypoint.{float, contrastOf, dim, edgy, codeOf, keypointOf, ended, onStep, settleFrom, refineOf}
 use Rattle.refine.specs.declared.Patch.{Patch}
 use Rattle.refine.specs.declared.Slope.{Slope}
@@ -30,9 +30,8 @@ use Rattle.refine.specs.declared.Moved.{Moved}
 use Rattle.refine.specs.declared.Moved.the-variants.{Out, In}
 use Rattle.refine.specs.declared.Step.{Step}
 use Rattle.refine.specs.declared.Step.the-variants.{Lost, Stay, Go}
-use Rattle.refine.specs.declared.RawKeypoint.{RawKeypoint}
 use Rattle.refine.specs.declared.Refined.{Refined}
-use Rattle.refine.specs.declared.Refined.the-variants.{Dropped, At}
+use Rattle.refine.specs.declared.Refined.the-variants.{Dropped}
 use Rattle.refine.specs.Sign.{SameKeypoint, SameRefined, both-dropped, both-at}
 
 -- ---- arithmetic, by the turn of each part

@@ -1,0 +1,44 @@
+-- Demand 3: film comes as negative or positive. Turn the sign of every sample of a stack that the table accepts, and detection gives the same answer and the same keypoints.
+-- `proofs/SignLaw.antt` shows `SignLaw` and `TwoRuns`. Definitions only.
+use Prim.Native.Nat.{ℕ}
+use mathlib.Core.Path.{_≡_}
+use mathlib.Core.List.{List, [], _∷_, map}
+use lib.ListN.{length}
+use lib.Ieee.{Float, neg}
+use Rattle.ieee.specs.F32.{f32}
+use Rattle.ieee.specs.Sign.{Same}
+use Rattle.params.specs.declared.Settings.{Settings}
+use Rattle.refine.specs.Sign.{SameKeypoint}
+use Rattle.refine.specs.declared.RawKeypoint.{RawKeypoint}
+use Rattle.detect.specs.Entry.{faultOf, listOf, extremaAnswer, extremaOut}
+
+-- the stack with every sample negated
+abbrev pub negative : List Float → List Float
+negative d = map neg d
+
+-- equally many keypoints, in the same order, each the same as its partner: whole numbers equal, floats equal but for the sign of a zero
+pub data SameList : List RawKeypoint → List RawKeypoint → Type 0 where
+  none : SameList [] []
+  more : {k l : RawKeypoint} {ks ls : List RawKeypoint} → SameKeypoint k l → SameList ks ls → SameList (k ∷ ks) (l ∷ ls)
+
+-- what holds of a stack d and its negative, with the same shape, layer, octave, settings and room
+pub record SignLaw (d : List Float) (w h planes layer octave : ℕ) (s : Settings) (room : ℕ) : Type 0 where
+  pub accepted : faultOf (negative d) w h planes layer octave s ≡ 0
+  pub answer : extremaAnswer (negative d) w h planes layer octave s room ≡ extremaAnswer d w h planes layer octave s room
+  pub list : SameList (listOf d w h layer octave s) (listOf (negative d) w h layer octave s)
+
+-- the law: it holds of every stack that the table accepts, at every room
+abbrev pub NegativesAgree : Type 0
+NegativesAgree = (d : List Float) (w h planes layer octave : ℕ) (s : Settings) (room : ℕ) → faultOf d w h planes layer octave s ≡ 0 → SignLaw d w h planes layer octave s room
+
+-- Words that say the same: keypoints' ten words, equal but for the seventh, xi, which has the same number by its bits; and after them what nobody wrote.
+pub data SameWords : List ℕ → List ℕ → Type 0 where
+  rest : {ws : List ℕ} → SameWords ws ws
+  keypoint : {x y size response octave layer xi xi' cc rr moves : ℕ} {ws vs : List ℕ} → Same (f32 xi) (f32 xi') → SameWords ws vs
+      → SameWords (x ∷ y ∷ size ∷ response ∷ octave ∷ layer ∷ xi ∷ cc ∷ rr ∷ moves ∷ ws) (x ∷ y ∷ size ∷ response ∷ octave ∷ layer ∷ xi' ∷ cc ∷ rr ∷ moves ∷ vs)
+
+-- Two runs of the entry, of whatever arguments, on a stack and on its negative, with lent words that stand alike before. By the entry's contract a run's answer and its words afterwards
+-- are `extremaAnswer` and `extremaOut`. So the answers are equal, and the words say the same.
+pub record TwoRuns (d : List Float) (w h planes layer octave : ℕ) (s : Settings) (out : List ℕ) : Type 0 where
+  pub answer : extremaAnswer (negative d) w h planes layer octave s (length out) ≡ extremaAnswer d w h planes layer octave s (length out)
+  pub words : SameWords (extremaOut d w h planes layer octave s out) (extremaOut (negative d) w h planes layer octave s out)

@@ -1,0 +1,2 @@
+-- The marked examples that carry P.
+mod Table

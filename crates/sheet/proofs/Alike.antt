@@ -1,11 +1,11 @@
--- Only the widths of slots matter for the bytes of values, so those of a record don't depend on the frame. Assumes nothing.
+-- Only the widths of slots matter for the bytes of values and the fields of bytes, so those of a record don't depend on the frame. Assumes nothing.
 use mathlib.Core.Path.{_≡_, refl, ap, _∙_, subst}
 use mathlib.Core.List.{List, [], _∷_, _++_, map, flatMap}
-use Prim.Native.Nat.{ℕ, _/_, _^_, _<_}
+use Prim.Native.Nat.{ℕ, _/_, _%_, _^_, _<_}
 use lib.ListN.{length, length-map}
-use Rattle.sheet.specs.Pack.{Slot, bits, number, bytes, pack, Held}
+use Rattle.sheet.specs.Pack.{Slot, bits, number, bytes, pack, value, fields, unpack, Held}
 use Rattle.sheet.specs.Pack.Held.{none, one}
-use Rattle.sheet.specs.Layout.{Layout, Frame, headerSize, headerSlots, headerValues, recordSlots}
+use Rattle.sheet.specs.Layout.{Layout, Frame, headerSize, headerSlots, headerValues, headSlots, recordSlots}
 use Rattle.sheet.specs.Sheet.{sheetBytes}
 use Rattle.sheet.specs.Words.{takenWords, filled}
 use Rattle.sheet.specs.Writes.{countIn, recordsOf, sheetOf, written}
@@ -35,6 +35,11 @@ alike-number ends vs = refl
 alike-number (more e a) [] = refl
 alike-number (more e a) (v ∷ vs) = rw (alike-bits a, alike-number a vs)
 
+alike-fields : {ss ts : List Slot} → Alike ss ts → (n : ℕ) → fields ss n ≡ fields ts n
+unfolding fields
+alike-fields ends n = refl
+alike-fields (more {ts = ts} e a) n = rw (alike-bits a, alike-fields a (n % 2 ^ bits ts))
+
 alike-held : {ss ts : List Slot} {vs : List ℕ} → Alike ss ts → Held ss vs → Held ts vs
 alike-held ends none = none
 alike-held (more e a) (one {v = v} h k) = one (subst (λ (n : ℕ). v < 2 ^ n) e h) (alike-held a k)
@@ -47,7 +52,15 @@ module _ (l : Layout) (f g : Frame) where
   unfolding pack
   bytes-any vs = rw (alike-bits (record-alike l f g), alike-number (record-alike l f g) vs)
 
-flat-same : (p q : List ℕ → List ℕ) → ((x : List ℕ) → p x ≡ q x) → (xs : List (List ℕ)) → flatMap p xs ≡ flatMap q xs
+  pub fields-any : (bs : List ℕ) → unpack (recordSlots l f) bs ≡ unpack (recordSlots l g) bs
+  unfolding unpack
+  fields-any bs = alike-fields (record-alike l f g) (value bs)
+
+  pub head-any : (bs : List ℕ) → unpack (headSlots l f) bs ≡ unpack (headSlots l g) bs
+  unfolding unpack
+  head-any bs = alike-fields (more refl (more refl (more refl (more refl (alike-same _))))) (value bs)
+
+pub flat-same : (p q : List ℕ → List ℕ) → ((x : List ℕ) → p x ≡ q x) → (xs : List (List ℕ)) → flatMap p xs ≡ flatMap q xs
 unfolding flatMap
 flat-same p q e [] = refl
 flat-same p q e (x ∷ xs) = rw (e x, flat-same p q e xs)

@@ -10,9 +10,9 @@ use lib.ListN.{length}
 use Rattle.params.specs.Limits.{maxSide, maxLayers}
 use Rattle.params.specs.Table.{line, firstFault, sideWrong, shapeWrong}
 use Rattle.sheet.specs.Layout.{Layout, Frame, maxCount}
-use Rattle.sheet.specs.Sheet.{allPass, recordRight}
-use Rattle.sheet.specs.Words.{takenWords, filled}
-use Rattle.sheet.specs.Writes.{countIn, recordsOf, sidesWrong, layerRight, layerWrong, wordsWrong, writeFault}
+use Rattle.sheet.specs.Sheet.{allPass}
+use Rattle.sheet.specs.Words.{takenWords}
+use Rattle.sheet.specs.Writes.{countIn, recordsOf, sidesWrong, layerRight, layerWrong, wordsRight, wordsWrong, writeFault}
 
 neither : (a b : Bool) → (a || b) ≡ false → (a ≡ false) × (b ≡ false)
 neither false false e = (refl, refl)
@@ -30,6 +30,31 @@ none-given false false true h = absurd (omega arith)
 not-zero : (n : ℕ) → (n ≡ 0 → ⊥) → 1 ≤ n
 not-zero n h = omega arith
 
+-- what the table says of a frame's shape
+pub shape-fine : (w h : ℕ) → shapeWrong w h ≡ false → (1 ≤ w) × (1 ≤ h)
+unfolding shapeWrong
+shape-fine w h e =
+    let a = neither (sideWrong w) (sideWrong h) e in
+    (not-zero w (eqb-false _ _ (neither (eqb w 0) (ltb maxSide w) (a .0) .0)), not-zero h (eqb-false _ _ (neither (eqb h 0) (ltb maxSide h) (a .1) .0)))
+
+-- the writer's fault, from its three tests
+module _ (l : Layout) (f : Frame) (ws : List ℕ) where
+  pub fault-sides : sidesWrong l f ≡ true → writeFault l f ws ≡ 1
+  unfolding writeFault firstFault
+  fault-sides a = rw a
+
+  pub fault-layers : sidesWrong l f ≡ false → layerWrong l f ws ≡ true → writeFault l f ws ≡ 2
+  unfolding writeFault firstFault
+  fault-layers a b = rw (a, b)
+
+  pub fault-words : sidesWrong l f ≡ false → layerWrong l f ws ≡ false → wordsWrong l f ws ≡ true → writeFault l f ws ≡ 5
+  unfolding writeFault firstFault
+  fault-words a b d = rw (a, b, d)
+
+  pub no-fault : sidesWrong l f ≡ false → layerWrong l f ws ≡ false → wordsWrong l f ws ≡ false → writeFault l f ws ≡ 0
+  unfolding writeFault firstFault
+  no-fault a b d = rw (a, b, d)
+
 module _ (l : Layout) (f : Frame) (ws : List ℕ) where
   pub record Sound : Type 0 where
     pub width-low : 1 ≤ f .width
@@ -40,7 +65,7 @@ module _ (l : Layout) (f : Frame) (ws : List ℕ) where
     pub layers-high : f .layers ≤ maxLayers
     pub whole : length ws % takenWords l ≡ 0
     pub count : countIn l ws ≤ maxCount
-    pub records : allPass (λ w. recordRight l f (filled w)) (recordsOf l ws) ≡ true
+    pub records : allPass (wordsRight l f) (recordsOf l ws) ≡ true
 
   pub sound-of : writeFault l f ws ≡ 0 → Sound
   unfolding writeFault sidesWrong shapeWrong layerWrong wordsWrong
@@ -53,8 +78,8 @@ module _ (l : Layout) (f : Frame) (ws : List ℕ) where
       let t = neither (ltb (2 ^ l .side) (f .width)) (ltb (2 ^ l .side) (f .height)) (s .1) in
       let b = neither (eqb (f .layers) 0 || ltb maxLayers (f .layers)) (not (allPass (layerRight (f .layers)) (recordsOf l ws))) (k .1) in
       let y = neither (eqb (f .layers) 0) (ltb maxLayers (f .layers)) (b .0) in
-      let c = neither (not (eqb (length ws % takenWords l) 0)) (ltb maxCount (countIn l ws) || not (allPass (λ w. recordRight l f (filled w)) (recordsOf l ws))) (k .2) in
-      let d = neither (ltb maxCount (countIn l ws)) (not (allPass (λ w. recordRight l f (filled w)) (recordsOf l ws))) (c .1) in
+      let c = neither (not (eqb (length ws % takenWords l) 0)) (ltb maxCount (countIn l ws) || not (allPass (wordsRight l f) (recordsOf l ws))) (k .2) in
+      let d = neither (ltb maxCount (countIn l ws)) (not (allPass (wordsRight l f) (recordsOf l ws))) (c .1) in
       record {
         width-low = not-zero _ (eqb-false _ _ (w .0));
         width-high = ltb-false _ _ (t .0);

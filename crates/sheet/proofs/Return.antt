@@ -16,7 +16,7 @@ use Rattle.sheet.specs.Pack.{slot, sound, Bytes}
 use Rattle.sheet.specs.Layout.{Layout, Frame, markBits, maxCount, headerSlots, headerValues, recordSlots}
 use Rattle.sheet.specs.Sheet.{parts, allPass, recordRight, sheetRight, sheetBytes, headerIn, readFrame, readCount, readSheet, bytesRight}
 use Rattle.sheet.specs.Words.{plainWords, readWords, headWords, takenWords, layerPlace, filled, worded, withBlank}
-use Rattle.sheet.specs.Writes.{countIn, recordsOf, sheetOf, layerRight, writeFault, written}
+use Rattle.sheet.specs.Writes.{countIn, recordsOf, sheetOf, layerRight, wordsRight, writeFault, written}
 use Rattle.sheet.specs.Reads.{readFault, wordsIn}
 use Rattle.sheet.specs.Trip.{handedBack, ReadsBack, WritesBack, ReadsOnce}
 use Rattle.sheet.proofs.Packed.{sound-at, sound-length}
@@ -186,10 +186,10 @@ module _ (l : Layout) (f : Frame) (vs : List (List ℕ)) (h : allPass (recordRig
             let a = record-layer l f v e in
             rw (layer-at l v (record-values l f v e .length-is), le-leb _ _ (a .0), le-leb _ _ (a .1))
 
-  plain-right : allPass (λ w. recordRight l f (filled w)) (recordsOf l plain) ≡ true
+  plain-right : allPass (wordsRight l f) (recordsOf l plain) ≡ true
   plain-right =
-      ap (allPass (λ w. recordRight l f (filled w))) plain-records
-      ∙ pass-map (λ w. recordRight l f (filled w)) (λ v. take (takenWords l) (worded l v)) vs
+      ap (allPass (wordsRight l f)) plain-records
+      ∙ pass-map (wordsRight l f) (λ v. take (takenWords l) (worded l v)) vs
       ∙ pass-both (recordRight l f) (λ v. recordRight l f (filled (take (takenWords l) (worded l v)))) (λ v e. ap (recordRight l f) (filled-worded l v (record-values l f v e)) ∙ e) vs h
 
 -- of bytes that the reader accepts
@@ -238,7 +238,7 @@ module _ (l : Layout) (bs : List ℕ) (p : Kept l bs) where
         layers-high = r .3;
         whole = ap (λ (ws : List ℕ). length ws % takenWords l) words-read ∙ plain-whole l f vs (p .records);
         count = subst (λ (ws : List ℕ). countIn l ws ≤ maxCount) (sym words-read) (subst (λ (n : ℕ). n ≤ maxCount) (sym q) (r .4));
-        records = ap (λ (ws : List ℕ). allPass (λ w. recordRight l f (filled w)) (recordsOf l ws)) words-read ∙ plain-right l f vs (p .records);
+        records = ap (λ (ws : List ℕ). allPass (wordsRight l f) (recordsOf l ws)) words-read ∙ plain-right l f vs (p .records);
       }
 
   pub fault-back : 2 ^ l .side ≤ maxSide → writeFault l (readFrame l bs) (handedBack l (wordsIn l bs)) ≡ 0

@@ -1,9 +1,9 @@
 -- One turn of each loop, as a law of lists. Assumes nothing.
-use mathlib.Core.Path.{_≡_, sym, ap, _∙_}
+use mathlib.Core.Path.{_≡_, refl, sym, ap, _∙_}
 use mathlib.Core.Bool.{Bool, true, false, _&&_, and-false}
 use mathlib.Core.List.{List, [], _∷_, _++_, flatMap}
 use Prim.Native.Nat.{ℕ, zero, suc, _+_, _-_, _*_, _/_, _%_, _≤_, _<_}
-use native.Mathlib.Nat.{not-suc-le-zero, mul-zero, mul-suc, mul-add, sub-zero}
+use native.Mathlib.Nat.{add-zero, not-suc-le-zero, mul-zero, mul-suc, mul-add, sub-zero}
 use native.Mathlib.Numerals.{add-one}
 use native.Mathlib.Omega.{arith}
 use borrow.Author.Tests.{le-leb, lt-leb, ne-eqb}
@@ -151,6 +151,9 @@ parts-put F k m b n i ws d e h room =
     ∙ ap (λ (y : ℕ). pasted y (flatMap F (parts k (n - (i + 1)) (drop (k * (i + 1)) ws))) (pasted (b + m * i) (F (take k (drop (k * i) ws))) d))
     (ap (λ (y : ℕ). b + m * i + y) lx ∙ o))
 
+pub parts-begin : (F : List ℕ → List ℕ) (k m b n : ℕ) (ws d : List ℕ) → pasted (b + m * 0) (flatMap F (parts k (n - 0) (drop (k * 0) ws))) d ≡ pasted b (flatMap F (parts k n ws)) d
+parts-begin F k m b n ws d = rw (mul-zero, mul-zero, sub-zero, add-zero)
+
 pub parts-end : (F : List ℕ → List ℕ) (k b n i : ℕ) (ws d : List ℕ) → n ≤ i → pasted b (flatMap F (parts k (n - i) (drop (k * i) ws))) d ≡ d
 unfolding flatMap parts
 parts-end F k b n i ws d h =
@@ -192,3 +195,15 @@ unfolding allZero
 zeros-end k i at bs h =
     let e : k - i ≡ 0 = omega arith in
     rw e
+
+-- five elements from k
+pub five-at : (k : ℕ) (ws : List ℕ) → k + 5 ≤ length ws →
+    take 5 (drop k ws) ≡ getD ws k 0 ∷ getD ws (k + 1) 0 ∷ getD ws (k + 2) 0 ∷ getD ws (k + 3) 0 ∷ getD ws (k + 4) 0 ∷ []
+five-at k ws h =
+    next 4 k (k + 1) ws refl (omega arith)
+    ∙ ap (λ (t : List ℕ). getD ws k 0 ∷ t) (next 3 (k + 1) (k + 2) ws (omega arith) (omega arith)
+    ∙ ap (λ (t : List ℕ). getD ws (k + 1) 0 ∷ t) (next 2 (k + 2) (k + 3) ws (omega arith) (omega arith)
+    ∙ ap (λ (t : List ℕ). getD ws (k + 2) 0 ∷ t) (next 1 (k + 3) (k + 4) ws (omega arith) (omega arith)
+    ∙ ap (λ (t : List ℕ). getD ws (k + 3) 0 ∷ t) (next 0 (k + 4) (k + 5) ws (omega arith) (omega arith))))) where
+      next : (n i j : ℕ) (ws : List ℕ) → i + 1 ≡ j → i < length ws → take (suc n) (drop i ws) ≡ getD ws i 0 ∷ take n (drop j ws)
+      next n i j ws e h = rw (← e, add-one, drop-cons ws i 0 h)

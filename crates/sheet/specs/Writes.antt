@@ -37,11 +37,15 @@ layerRight layers w = leb 1 (getD w layerPlace 0) && leb (getD w layerPlace 0) l
 unfoldable pub layerWrong : Layout → Frame → List ℕ → Bool
 layerWrong l f ws = (eqb (f .layers) 0 || ltb maxLayers (f .layers)) || not (allPass (layerRight (f .layers)) (recordsOf l ws))
 
+-- a record's words keep the rules
+abbrev pub wordsRight : Layout → Frame → List ℕ → Bool
+wordsRight l f w = recordRight l f (filled w)
+
 -- 5: "any other bad record word, octave included, a part of a record, or a count above 1,048,575"
 unfoldable pub wordsWrong : Layout → Frame → List ℕ → Bool
 wordsWrong l f ws =
     not (eqb (length ws % takenWords l) 0)
-    || (ltb maxCount (countIn l ws) || not (allPass (λ w. recordRight l f (filled w)) (recordsOf l ws)))
+    || (ltb maxCount (countIn l ws) || not (allPass (wordsRight l f) (recordsOf l ws)))
 
 -- the number of the first fault, 0 for none
 unfoldable pub writeFault : Layout → Frame → List ℕ → ℕ

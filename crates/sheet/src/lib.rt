@@ -17,6 +17,16 @@ pub struct Read {
     pub layers: usize,
 }
 
+// The fields of a header, width and height less 1, and its zero bits.
+pub struct Header {
+    pub edition: u64,
+    pub width: u64,
+    pub height: u64,
+    pub layers: u64,
+    pub count: u64,
+    pub zero: u64,
+}
+
 // The whole numbers of a record, and its zero bits.
 pub struct Head {
     pub row: u64,

@@ -5,9 +5,6 @@ use Rattle.sheet.specs.Pack.{sound}
 use Rattle.sheet.specs.Layout.{largestAngle}
 use Rattle.sheet.proofs.floats_right.Statement.{statement}
 use Rattle.sheet.proofs.floats_right.Tie as tie
-use Rattle.sheet.proofs.floats_right.Reads as reads
-use Rattle.sheet.proofs.floats_right.Lts as lts
-use Rattle.sheet.proofs.between.Reads as between-reads
 
 between-requires : tie.Need-between-requires
 between-requires c κs = search needs

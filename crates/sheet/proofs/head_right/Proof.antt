@@ -4,9 +4,6 @@ use borrow.Author.Needs.{needs}
 use Rattle.sheet.specs.Pack.{sound}
 use Rattle.sheet.proofs.head_right.Statement.{statement}
 use Rattle.sheet.proofs.head_right.Tie as tie
-use Rattle.sheet.proofs.head_right.Reads as reads
-use Rattle.sheet.proofs.head_right.Lts as lts
-use Rattle.sheet.proofs.between.Reads as between-reads
 
 sub-between : tie.Need-sub-between
 sub-between c = search needs

@@ -1,0 +1,40 @@
+use borrow.Author.Needs.{needs}
+use Rattle.sheet.specs.Pack.{bytes}
+use Rattle.sheet_read.proofs.Taken.{front-set}
+use Rattle.sheet_read.proofs.take_front.Statement.{statement}
+use Rattle.sheet_read.proofs.take_front.Tie as tie
+
+head-in-requires : tie.Need-head-in-requires
+head-in-requires c κs = search needs
+
+put-head-requires : tie.Need-put-head-requires
+put-head-requires c κs = search needs
+
+add-put-floats : tie.Need-add-put-floats
+add-put-floats c = search needs
+
+floats-in-requires : tie.Need-floats-in-requires
+floats-in-requires c κs = search needs
+
+put-floats-requires : tie.Need-put-floats-requires
+put-floats-requires c κs = search needs
+
+same-length : tie.Need-same-length
+same-length c = search needs
+
+returns : tie.Need-returns
+returns c =
+    let s = c .before .before .before .before .before .before .before .before .before .before .before .before in
+    cc (front-set (s .args .bytes .now) (s .pre .0) (λ i. c .before .before .before .before .before .before .before .before .before .before .before .shared-slice-known .given i .fits) (c .before .before .before .before .before .before .before .before .head-in .result) (c .before .before .before .floats-in .result) (c .before .before .before .before .before .before .before .before .head-in .ensures .0) (c .before .before .before .floats-in .ensures .0) (s .args .to) (s .args .out .now) (s .pre .1))
+
+pub take-front-spec : {M : Type 1} → statement M
+take-front-spec =
+    tie.close
+    (tie.spec
+    head-in-requires
+    put-head-requires
+    add-put-floats
+    floats-in-requires
+    put-floats-requires
+    same-length
+    returns)

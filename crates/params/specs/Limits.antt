@@ -46,3 +46,10 @@ sigmaLow = ofBits binary64 0x3fe0_0000_0000_0000
 
 abbrev pub sigmaHigh : Float
 sigmaHigh = ofBits binary64 0x4030_0000_0000_0000
+
+-- of f32s: 0.125 and 64, the least and the largest scale of a keypoint in its octave
+abbrev pub scaleLow : Float
+scaleLow = ofBits binary32 0x3e00_0000
+
+abbrev pub scaleHigh : Float
+scaleHigh = ofBits binary32 0x4280_0000

@@ -1,0 +1,80 @@
+-- The answer and the lent words, by cases: room or none, a fault or none. Assumes nothing.
+use Prim.Native.Nat.{ℕ, zero, suc, _*_, _<_, _≤_, min}
+use mathlib.Core.Path.{_≡_, refl, sym, ap, _∙_}
+use mathlib.Core.List.{List, map}
+use native.Mathlib.Omega.{arith}
+use borrow.Author.Tests.{le-leb, lt-leb}
+use lib.ListN.{length, take, length-take}
+use lib.Ieee.{Float}
+use Rattle.lists.specs.Pasted.{pasted}
+use Rattle.params.specs.Answers.{answerOf, landed, onFault}
+use Rattle.params.specs.declared.Answer.{Answer}
+use Rattle.params.specs.declared.Answer.the-variants.{Done, Short, Refused}
+use Rattle.refine.specs.declared.RawKeypoint.{RawKeypoint}
+use Rattle.tally.specs.Window.{cellsRead}
+use Rattle.peaks.specs.Found.{Holds}
+use Rattle.orient.specs.Entry.{windowAt, anglesAt, orientFault, orientedOf, orientedList, orientedWords, words, answeredWith, givenBack, orientAnswer, orientOut}
+use Rattle.orient.specs.Given.{roomFor, givenWith, leftWith}
+use Rattle.orient.specs.declared.Directions.{Directions}
+use Rattle.orient.specs.declared.OrientAnswer.{OrientAnswer}
+use Rattle.orient.proofs.Words.{length-map}
+
+-- ---- room
+room-yes : (d : Directions) (room : ℕ) → d .angles .count * 6 ≤ room → roomFor d room ≡ Done (d .angles .count)
+unfolding roomFor answerOf
+room-yes d room h = rw (le-leb (orientedWords * d .angles .count) room (omega arith))
+
+room-no : (d : Directions) (room : ℕ) → room < d .angles .count * 6 → roomFor d room ≡ Short (d .angles .count)
+unfolding roomFor answerOf
+room-no d room h = rw (lt-leb (orientedWords * d .angles .count) room (omega arith))
+
+pub given-done : (d : Directions) (room : ℕ) → d .angles .count * 6 ≤ room → record { answer = Done (d .angles .count); samples = d .read } ≡ givenWith d room
+unfolding givenWith
+given-done d room h = rw (room-yes d room h)
+
+pub given-short : (d : Directions) (room : ℕ) → room < d .angles .count * 6 → record { answer = Short (d .angles .count); samples = 0 } ≡ givenWith d room
+unfolding givenWith
+given-short d room h = rw (room-no d room h)
+
+pub left-done : (k : RawKeypoint) (d : Directions) (out new : List ℕ) → d .angles .count * 6 ≤ length out → new ≡ pasted 0 (words (map (orientedOf k) (take (d .angles .count) (d .angles .all)))) out → new ≡ leftWith k d out
+unfolding leftWith
+left-done k d out new h e = rw (room-yes d (length out) h) e
+
+pub left-short : (k : RawKeypoint) (d : Directions) (out : List ℕ) → length out < d .angles .count * 6 → out ≡ leftWith k d out
+unfolding leftWith
+left-short k d out h = rw (room-no d (length out) h)
+
+-- ---- the entry
+module _ (img : List Float) (w h : ℕ) (k : RawKeypoint) where
+  refused : (fault room : ℕ) → fault ≡ orientFault img w h k → (fault ≡ 0 → ⊥) → givenBack img w h k room ≡ Refused fault
+  unfolding givenBack answerOf
+  refused zero room e n = absurd (n refl)
+  refused (suc f) room e n = rw (← e)
+
+  pub answer-refused : (fault room : ℕ) → fault ≡ orientFault img w h k → (fault ≡ 0 → ⊥) → record { answer = Refused fault; samples = 0 } ≡ orientAnswer img w h k room
+  unfolding orientAnswer
+  answer-refused fault room e n = rw (refused fault room e n)
+
+  pub out-refused : (fault : ℕ) (out : List ℕ) → fault ≡ orientFault img w h k → (fault ≡ 0 → ⊥) → out ≡ orientOut img w h k out
+  unfolding orientOut
+  out-refused fault out e n = rw (refused fault (length out) e n)
+
+  module _ (d : Directions) (held : Holds (d .angles) (anglesAt img w h k)) (read : d .read ≡ cellsRead (windowAt w h k)) where
+    pub few : (d .angles .count ≤ 36) × (d .angles .count ≤ length (d .angles .all))
+    few =
+        let c = held .count in
+        let z : length (take (length (anglesAt img w h k)) (d .angles .all)) ≡ length (anglesAt img w h k) = ap length (held .first) in
+        (omega (arith, held .few), omega (arith, simp length-take at z))
+
+    module _ (fine : orientFault img w h k ≡ 0) where
+      given-is : (room : ℕ) → givenBack img w h k room ≡ roomFor d room
+      unfolding givenBack roomFor orientedList
+      given-is room = rw (fine, length-map k (anglesAt img w h k), held .count)
+
+      pub answer-given : (room : ℕ) (a : OrientAnswer) → a ≡ givenWith d room → a ≡ orientAnswer img w h k room
+      unfolding orientAnswer givenWith
+      answer-given room a e = e ∙ rw (given-is room, read)
+
+      pub out-given : (out new : List ℕ) → new ≡ leftWith k d out → new ≡ orientOut img w h k out
+      unfolding orientOut leftWith orientedList
+      out-given out new e = e ∙ rw (given-is (length out), held .count, held .first)

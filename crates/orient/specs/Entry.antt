@@ -1,0 +1,80 @@
+-- What `assign_orientations` answers and leaves in the lent words. Definitions only.
+use Prim.Native.Nat.{ℕ, _*_}
+use mathlib.Core.Bool.{not}
+use mathlib.Core.List.{List, [], _∷_, _++_, map}
+use lib.ListN.{length}
+use lib.Ieee.{Float}
+use Rattle.ieee.specs.F32.{bitsOf}
+use Rattle.params.specs.Table.{line, firstFault, shapeWrong, lengthWrong}
+use Rattle.params.specs.Answers.{answerOf, landed}
+use Rattle.params.specs.declared.Answer.{Answer}
+use Rattle.params.specs.declared.Answer.the-variants.{Done, Short, Refused}
+use Rattle.refine.specs.declared.RawKeypoint.{RawKeypoint}
+use Rattle.tally.specs.Window.{windowOf, cellsRead}
+use Rattle.tally.specs.Sample.{windowGood}
+use Rattle.tally.specs.Tally.{tallyOf}
+use Rattle.tally.specs.declared.Window.{Window}
+use Rattle.peaks.specs.Peaks.{anglesOf}
+use Rattle.orient.specs.Keypoint.{keypointWrong, scaleOf}
+use Rattle.orient.specs.declared.OrientedKeypoint.{OrientedKeypoint}
+use Rattle.orient.specs.declared.OrientAnswer.{OrientAnswer}
+
+-- the window about a keypoint's cell
+unfoldable pub windowAt : ℕ → ℕ → RawKeypoint → Window
+windowAt width height k = windowOf width height (k .rr) (k .cc) (scaleOf k)
+
+-- the checks in the order of the table; 2 and 4 have no argument here. Only the four neighbours of each sample in the window are tested.
+unfoldable pub orientFault : List Float → ℕ → ℕ → RawKeypoint → ℕ
+orientFault img width height k =
+    firstFault
+    (line 1 (shapeWrong width height)
+    ∷ line 3 (lengthWrong (length img) (height * width))
+    ∷ line 5 (keypointWrong width height k)
+    ∷ line 6 (not (windowGood img (windowAt width height k)))
+    ∷ [])
+
+-- the angles of a keypoint, one for each peak of the tally of its window
+unfoldable pub anglesAt : List Float → ℕ → ℕ → RawKeypoint → List Float
+anglesAt img width height k = anglesOf (tallyOf img (windowAt width height k) .bins)
+
+-- the keypoint with an angle: all else passes through
+abbrev pub orientedOf : RawKeypoint → Float → OrientedKeypoint
+orientedOf k angle =
+    record { x = k .x; y = k .y; size = k .size; response = k .response; octave = k .octave; angle = angle }
+
+-- the oriented keypoints; none where there is no peak
+unfoldable pub orientedList : List Float → ℕ → ℕ → RawKeypoint → List OrientedKeypoint
+orientedList img width height k = map (orientedOf k) (anglesAt img width height k)
+
+-- an oriented keypoint goes out as so many words
+abbrev pub orientedWords : ℕ
+orientedWords = 6
+
+abbrev pub wordsOf : OrientedKeypoint → List ℕ
+wordsOf o = bitsOf (o .x) ∷ bitsOf (o .y) ∷ bitsOf (o .size) ∷ bitsOf (o .response) ∷ o .octave ∷ bitsOf (o .angle) ∷ []
+
+unfoldable pub words : List OrientedKeypoint → List ℕ
+words [] = []
+words (o ∷ os) = wordsOf o ++ words os
+
+-- the number of samples beside an answer: the cells read, and 0 on any refusal
+abbrev pub samplesWith : Answer → ℕ → ℕ
+samplesWith (Done n) read = read
+samplesWith (Short n) read = 0
+samplesWith (Refused k) read = 0
+
+abbrev pub answeredWith : Answer → ℕ → OrientAnswer
+answeredWith a read = record { answer = a; samples = samplesWith a read }
+
+-- the number and the count, at `room` words lent: 7 counts oriented keypoints
+unfoldable pub givenBack : List Float → ℕ → ℕ → RawKeypoint → ℕ → Answer
+givenBack img width height k room =
+    answerOf (orientFault img width height k) (length (orientedList img width height k)) (orientedWords * length (orientedList img width height k)) room
+
+-- the answer, with the number of cells read
+unfoldable pub orientAnswer : List Float → ℕ → ℕ → RawKeypoint → ℕ → OrientAnswer
+orientAnswer img width height k room = answeredWith (givenBack img width height k room) (cellsRead (windowAt width height k))
+
+-- the lent words afterwards
+unfoldable pub orientOut : List Float → ℕ → ℕ → RawKeypoint → List ℕ → List ℕ
+orientOut img width height k out = landed (givenBack img width height k (length out)) (words (orientedList img width height k)) out

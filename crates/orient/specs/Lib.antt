@@ -1,0 +1,4 @@
+pub mod Keypoint
+pub mod Entry
+pub mod Accepted
+pub mod Given

@@ -1,0 +1,225 @@
+// The orientation of a keypoint: an oriented keypoint for each dominant direction of the gradients about its cell.
+
+use params::Answer;
+use peaks::Angles;
+use refine::RawKeypoint;
+use tally::Window;
+ghost use mathlib.Core.Path.{_≡_};
+ghost use mathlib.Core.Bool.{false};
+ghost use mathlib.Core.List.{List, map};
+ghost use Prim.Native.Nat.{ℕ, _+_, _*_, _<_, _≤_};
+ghost use lib.Ieee.{Float};
+ghost use lib.ListN.{length, take};
+ghost use Rattle.lists.specs.Pasted.{pasted};
+ghost use Rattle.params.specs.Limits.{maxOctave};
+ghost use Rattle.peaks.specs.Found.{Holds};
+ghost use Rattle.tally.specs.Window.{cellsRead};
+ghost use Rattle.orient.specs.Keypoint.{cellWrong, octaveIn, octaveWrong, floatsWrong, scaleOf, scaleWrong, keypointWrong};
+ghost use Rattle.orient.specs.Entry.{windowAt, orientFault, anglesAt, orientedOf, orientedWords, wordsOf, words, orientAnswer, orientOut};
+ghost use Rattle.orient.specs.Given.{givenWith, leftWith};
+ghost use Rattle.orient.specs.Accepted.{Aimed, Ready};
+
+// A keypoint with an angle, in degrees.
+pub struct OrientedKeypoint {
+    pub x: f32,
+    pub y: f32,
+    pub size: f32,
+    pub response: f32,
+    pub octave: u32,
+    pub angle: f32,
+}
+
+// The number and the count, and beside them the number of cells read.
+pub struct OrientAnswer {
+    pub answer: Answer,
+    pub samples: usize,
+}
+
+// ---- number 5
+
+fn cell_wrong(w: usize, h: usize, k: RawKeypoint) -> bool
+    ensures { λ b. ⌜ b ≡ cellWrong w h k ⌝ }
+{
+    !(((k.rr as usize) < h) & ((k.cc as usize) < w))
+}
+
+fn octave_wrong(word: u32) -> bool
+    ensures { λ b. ⌜ b ≡ octaveWrong word ⌝ }
+{
+    let octave = word % 256;
+    let layer = word / 256 % 256;
+    (octave > 15) | (!((1 <= layer) & (layer <= 15)) | (word >= 16777216))
+}
+
+fn floats_wrong(k: RawKeypoint) -> bool
+    ensures { λ b. ⌜ b ≡ floatsWrong k ⌝ }
+{
+    !(ieee::is_finite(k.x)
+        & (ieee::is_finite(k.y)
+            & (ieee::is_finite(k.size) & (ieee::is_finite(k.response) & ieee::is_finite(k.xi)))))
+}
+
+// The scale in the keypoint's own octave.
+fn scale_of(k: RawKeypoint) -> f32
+    requires { ⌜ octaveIn (k .octave) ≤ maxOctave ⌝ }
+    ensures { λ s. ⌜ s ≡ scaleOf k ⌝ }
+{
+    let power = 1u64 << (k.octave % 256);
+    k.size * 0.5 / (power as f32)
+}
+
+fn scale_wrong(k: RawKeypoint) -> bool
+    requires { ⌜ octaveIn (k .octave) ≤ maxOctave ⌝ }
+    ensures { λ b. ⌜ b ≡ scaleWrong k ⌝ }
+{
+    let scale = scale_of(k);
+    !((0.125 <= scale) & (scale <= 64.0))
+}
+
+// A field is outside its range.
+pub fn keypoint_wrong(w: usize, h: usize, k: RawKeypoint) -> bool
+    ensures { λ b. ⌜ b ≡ keypointWrong w h k ⌝ }
+{
+    if cell_wrong(w, h, k) {
+        return true;
+    }
+    if octave_wrong(k.octave) {
+        return true;
+    }
+    floats_wrong(k) | scale_wrong(k)
+}
+
+fn window_at(w: usize, h: usize, k: RawKeypoint) -> Window
+    requires { ⌜ Aimed w h k ⌝ }
+    ensures { λ r. ⌜ r ≡ windowAt w h k ⌝ }
+{
+    tally::window_of(w, h, k.rr as usize, k.cc as usize, scale_of(k))
+}
+
+// The first fault in the order of the table, 0 for none; room is tested later.
+fn fault_of(img: &[f32], w: usize, h: usize, k: RawKeypoint) -> u32
+    ensures { λ b. ⌜ b ≡ orientFault (now (img .entry)) w h k ⌝ }
+    ensures { λ b. ⌜ (b ≡ 0 → Ready (length (now (img .entry))) w h k) ⌝ }
+{
+    if params::shape_wrong(w, h) {
+        return 1;
+    }
+    if img.len() != h * w {
+        return 3;
+    }
+    if keypoint_wrong(w, h, k) {
+        return 5;
+    }
+    if tally::window_good(img, window_at(w, h, k)) {
+        0
+    } else {
+        6
+    }
+}
+
+// ---- the oriented keypoints
+
+fn oriented(k: RawKeypoint, angle: f32) -> OrientedKeypoint
+    ensures { λ o. ⌜ o ≡ orientedOf k angle ⌝ }
+{
+    OrientedKeypoint {
+        x: k.x,
+        y: k.y,
+        size: k.size,
+        response: k.response,
+        octave: k.octave,
+        angle: angle,
+    }
+}
+
+// Six words at a place.
+fn put(out: &mut [u32], at: usize, o: OrientedKeypoint)
+    requires { ⌜ at + orientedWords ≤ length (now out) ⌝ }
+    ensures { λ _. ⌜ now (out .exit) ≡ pasted at (wordsOf o) (now (out .entry)) ⌝ }
+{
+    out[at] = ieee::bits_of(o.x);
+    let y = at + 1;
+    out[y] = ieee::bits_of(o.y);
+    let size = y + 1;
+    out[size] = ieee::bits_of(o.size);
+    let response = size + 1;
+    out[response] = ieee::bits_of(o.response);
+    let octave = response + 1;
+    out[octave] = o.octave;
+    let angle = octave + 1;
+    out[angle] = ieee::bits_of(o.angle);
+}
+
+fn put_all(k: RawKeypoint, all: &[f32; 36], count: usize, out: &mut [u32])
+    requires { ⌜ (count ≤ 36) × ((count ≤ length (now all)) × (orientedWords * count ≤ length (now out))) ⌝ }
+    ensures { λ _. ⌜ now (out .exit) ≡ pasted 0 (words (map (orientedOf k) (take count (now (all .entry))))) (now (out .entry)) ⌝ }
+{
+    let mut i: usize = 0;
+    while i < count {
+        put(out, i * 6, oriented(k, all[i]));
+        i += 1;
+    }
+}
+
+// The angles about a keypoint, and the number of cells read for them.
+pub struct Directions {
+    pub angles: Angles,
+    pub read: usize,
+}
+
+fn angles_about(img: &[f32], w: usize, h: usize, k: RawKeypoint) -> Directions
+    requires { ⌜ Ready (length (now img)) w h k ⌝ }
+    ensures { λ d. ⌜ Holds (d .angles) (anglesAt (now (img .entry)) w h k) × (d .read ≡ cellsRead (windowAt w h k)) ⌝ }
+{
+    let g = tally::tally_of(img, window_at(w, h, k));
+    let t = g.tally;
+    let b = t.bins;
+    Directions {
+        angles: peaks::angles_of(&b),
+        read: g.read,
+    }
+}
+
+// Room is counted first: all words are written, or none.
+fn give(k: RawKeypoint, d: Directions, out: &mut [u32]) -> OrientAnswer
+    requires { ⌜ (d .angles .count ≤ 36) × (d .angles .count ≤ length (d .angles .all)) ⌝ }
+    ensures { λ a. ⌜ a ≡ givenWith d (length (now (out .entry))) ⌝ }
+    ensures { λ _. ⌜ now (out .exit) ≡ leftWith k d (now (out .entry)) ⌝ }
+{
+    let found = d.angles;
+    let count = found.count;
+    if count * 6 <= out.len() {
+        let all = found.all;
+        put_all(k, &all, count, out);
+        OrientAnswer {
+            answer: Answer::Done(count),
+            samples: d.read,
+        }
+    } else {
+        OrientAnswer {
+            answer: Answer::Short(count),
+            samples: 0,
+        }
+    }
+}
+
+// An oriented keypoint for each peak of the gradients about a keypoint, as six words each, and the number of cells read.
+pub fn assign_orientations(
+    img: &[f32],
+    w: usize,
+    h: usize,
+    k: RawKeypoint,
+    out: &mut [u32],
+) -> OrientAnswer
+    ensures { λ a. ⌜ a ≡ orientAnswer (now (img .entry)) w h k (length (now (out .entry))) ⌝ }
+    ensures { λ _. ⌜ now (out .exit) ≡ orientOut (now (img .entry)) w h k (now (out .entry)) ⌝ }
+{
+    let fault = fault_of(img, w, h, k);
+    if fault != 0 {
+        return OrientAnswer {
+            answer: Answer::Refused(fault),
+            samples: 0,
+        };
+    }
+    give(k, angles_about(img, w, h, k), out)
+}

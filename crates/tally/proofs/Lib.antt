@@ -1,0 +1,5 @@
+pub mod Cells
+pub mod Values
+pub mod Spans
+pub mod Every
+pub mod Bins

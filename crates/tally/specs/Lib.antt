@@ -1,0 +1,4 @@
+pub mod Window
+pub mod Sample
+pub mod Tally
+pub mod Place

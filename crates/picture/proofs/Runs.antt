@@ -1,7 +1,7 @@
 -- Good samples, one more at a time and one run more at a time. Assumes nothing.
-use Prim.Native.Nat.{ℕ, suc, _+_, _<_, _≤_}
+use Prim.Native.Nat.{ℕ, zero, suc, _+_, _*_, _<_, _≤_}
 use mathlib.Core.Path.{_≡_, refl, sym, ap, _∙_}
-use mathlib.Core.Bool.{Bool, true, false, _&&_}
+use mathlib.Core.Bool.{Bool, true, false, _&&_, false≢true}
 use mathlib.Core.List.{List, [], _∷_, _++_}
 use native.Mathlib.Numerals.{add-one}
 use native.Mathlib.Omega.{arith}
@@ -9,7 +9,9 @@ use lib.ListN.{length, getD, take, drop, take-append-drop, drop-of-length-le, le
 use lib.Seq.{drop-cons, drop-append-le, length-take-le, getD-take}
 use lib.Ieee.{Float, nan}
 use Rattle.params.specs.Table.{goodSample, allGood}
+use Rattle.picture.specs.Stack.{sample, Inside}
 use Rattle.picture.specs.Samples.{goodFrom}
+use Rattle.picture.proofs.Index.{index}
 
 and-assoc : (a b c : Bool) → ((a && b) && c) ≡ (a && (b && c))
 and-assoc true b c = refl
@@ -68,3 +70,24 @@ module _ (d : List Float) (i to : ℕ) (b : Bool) (order : i ≤ to) (inside : t
 
   pub run-good : b ≡ true → allGood d ≡ allGood (drop i d) → allGood d ≡ allGood (drop to d)
   run-good e k = k ∙ good-run d i to order inside ∙ rw (← is, e)
+
+-- ---- one sample of all
+
+good-head : (a b : Bool) → (a && b) ≡ true → a ≡ true
+good-head true b e = refl
+good-head false b e = absurd (false≢true e)
+
+good-rest : (a b : Bool) → (a && b) ≡ true → b ≡ true
+good-rest true b e = e
+good-rest false b e = absurd (false≢true e)
+
+good-each : (d : List Float) (i : ℕ) → allGood d ≡ true → i < length d → goodSample (getD d i nan) ≡ true
+unfolding allGood
+good-each [] i e h = absurd (omega arith)
+good-each (x ∷ xs) zero e h = good-head (goodSample x) (allGood xs) e
+good-each (x ∷ xs) (suc i) e h = good-each xs i (good-rest (goodSample x) (allGood xs) e) (omega arith)
+
+-- a place of a stack whose samples are all good
+pub good-at : (d : List Float) (w h n p r c : ℕ) → allGood d ≡ true → Inside (length d) w h n p r c → goodSample (sample d w h p r c) ≡ true
+unfolding sample
+good-at d w h n p r c e i = good-each d ((p * h + r) * w + c) e (index i .below)

@@ -4,3 +4,7 @@ pub mod Codes
 pub mod Steps
 pub mod Settled
 pub mod SignLaw
+pub mod Sized
+pub mod Asked
+pub mod Octaves
+pub mod Sounds

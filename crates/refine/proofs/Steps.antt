@@ -15,17 +15,10 @@ use Rattle.refine.specs.declared.Moved.{Moved}
 use Rattle.refine.specs.declared.Moved.the-variants.{Out, In}
 use Rattle.refine.specs.declared.Step.{Step}
 use Rattle.refine.specs.declared.Step.the-variants.{Lost, Stay, Go}
+use Rattle.refine.proofs.Counts.{and-first, and-second}
 use Rattle.refine.proofs.Places.{placed-in}
 
 -- ---- three tests at once
-
-and-first : (a b : Bool) → (a && b) ≡ true → a ≡ true
-and-first true b e = refl
-and-first false b e = absurd (false≢true e)
-
-and-second : (a b : Bool) → (a && b) ≡ true → b ≡ true
-and-second true b e = e
-and-second false b e = absurd (false≢true e)
 
 pub small-xi : (o : Offset) → small o ≡ true → (absOf (o .xi) <ᶠ half) ≡ true
 unfolding small
@@ -115,6 +108,25 @@ module _ (w h layers p r c : ℕ) where
       go : (b : Bool) → cond b Lost (walk w h layers p r c (offsetOf (slopeOf t) (bendOf t) (detOf (bendOf t)))) ≡ Stay o → small o ≡ true
       go true k = let z : _≡_ {A = ℕ} 0 1 = cc in absurd (omega arith)
       go false k = walk-stay (offsetOf (slopeOf t) (bendOf t) (detOf (bendOf t))) o k
+
+  -- and its offset is the fit's
+  walk-offset : (o o' : Offset) → walk w h layers p r c o ≡ Stay o' → o' ≡ o
+  unfolding walk
+  walk-offset o o' e = go (small o) (huge o) e
+    where
+      go : (a b : Bool) → cond a (Stay o) (cond b Lost (goes o)) ≡ Stay o' → o' ≡ o
+      go true b k = cc
+      go false true k = let z : _≡_ {A = ℕ} 0 1 = cc in absurd (omega arith)
+      go false false k = absurd (stay-goes o o' k)
+
+  pub step-offset : (t : Patch) (o : Offset) → stepOf w h layers p r c t ≡ Stay o → o ≡ offsetOf (slopeOf t) (bendOf t) (detOf (bendOf t))
+  unfolding stepOf
+  step-offset t o e = go (detOf (bendOf t) =ᶠ nought) e
+    where
+      go : (b : Bool) → cond b Lost (walk w h layers p r c (offsetOf (slopeOf t) (bendOf t) (detOf (bendOf t)))) ≡ Stay o
+          → o ≡ offsetOf (slopeOf t) (bendOf t) (detOf (bendOf t))
+      go true k = let z : _≡_ {A = ℕ} 0 1 = cc in absurd (omega arith)
+      go false k = walk-offset (offsetOf (slopeOf t) (bendOf t) (detOf (bendOf t))) o k
 
   pub step-go : (t : Patch) (p' r' c' : ℕ) → stepOf w h layers p r c t ≡ Go p' r' c' → Kept w h layers p' r' c'
   unfolding stepOf

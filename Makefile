@@ -1,4 +1,4 @@
-# run: the main job. test: the gate, which ends with the line 'N passed, 0 failed'.
+# run: the main job. test: the gate (`rt ci` and the host side), which ends with the line 'N passed, 0 failed'.
 .PHONY: run test
 
 run:
@@ -6,4 +6,4 @@ run:
 	target/bin/examples
 
 test:
-	rt ci
+	host/gate

@@ -3,13 +3,18 @@
 // a not-a-number answered has the bits 2143289344.
 ghost use mathlib.Core.Path.{_≡_};
 ghost use lib.Ieee.{ofBits, binary64};
+ghost use lib.ListN.{length};
 ghost use Rattle.ieee.specs.F32.{f32, bitsOf, fused, rootOf, narrowed, floorOf, rounded, toI32};
 ghost use Rattle.params.specs.Answers.{numberOf, countOf};
 ghost use Rattle.params.specs.Threshold.{thresholdAnswer, thresholdNumber, thresholdValue};
+ghost use Rattle.detect.specs.Entry.{extremaAnswer, extremaOut};
+ghost use Rattle.bargeclover.specs.Given.{settingsOf};
 ghost use Rattle.hal.specs.Exp.{exp2Of, expOf};
 ghost use Rattle.hal.specs.Turn.{sinOf, cosOf};
 ghost use Rattle.hal.specs.Angle.{angleOf};
+ghost use Rattle.hal.specs.Magnitude.{magnitudeOf};
 use params::Answer;
+use params::Settings;
 use params::Threshold;
 
 // ---- routines
@@ -47,6 +52,13 @@ pub extern "C" fn bargeclover_angle(dx: u32, dy: u32) -> u32
     ensures { λ r. ⌜ r ≡ bitsOf (angleOf (f32 dx) (f32 dy)) ⌝ }
 {
     ieee::bits_of(hal::angle(ieee::of_bits(dx), ieee::of_bits(dy)))
+}
+
+#[no_mangle]
+pub extern "C" fn bargeclover_magnitude(dx: u32, dy: u32) -> u32
+    ensures { λ r. ⌜ r ≡ bitsOf (magnitudeOf (f32 dx) (f32 dy)) ⌝ }
+{
+    ieee::bits_of(hal::magnitude(ieee::of_bits(dx), ieee::of_bits(dy)))
 }
 
 // ---- single operations
@@ -149,4 +161,36 @@ pub extern "C" fn bargeclover_threshold(
     let t = params::extrema_threshold(contrast, layers);
     *threshold_bits = ieee::bits_of(threshold_value(t));
     threshold_number(t)
+}
+
+// ---- detection
+
+#[no_mangle]
+pub extern "C" fn bargeclover_find_extrema(
+    dog: &[f32],
+    width: usize,
+    height: usize,
+    planes: usize,
+    layer: usize,
+    octave: u32,
+    layers: usize,
+    contrast: f64,
+    edge: f64,
+    sigma: f64,
+    out: &mut [u32],
+    count: &mut usize,
+) -> u32
+    ensures { λ r. ⌜ r ≡ numberOf (extremaAnswer (now (dog .entry)) width height planes layer octave (settingsOf contrast edge sigma layers) (length (now (out .entry)))) ⌝ }
+    ensures { λ _. ⌜ now (count .exit) ≡ countOf (extremaAnswer (now (dog .entry)) width height planes layer octave (settingsOf contrast edge sigma layers) (length (now (out .entry)))) ⌝ }
+    ensures { λ _. ⌜ now (out .exit) ≡ extremaOut (now (dog .entry)) width height planes layer octave (settingsOf contrast edge sigma layers) (now (out .entry)) ⌝ }
+{
+    let s = Settings {
+        contrast: contrast,
+        edge: edge,
+        sigma: sigma,
+        layers: layers,
+    };
+    let a = detect::find_extrema(dog, width, height, planes, layer, octave, s, out);
+    *count = count_of(a);
+    number_of(a)
 }

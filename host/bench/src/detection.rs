@@ -78,4 +78,26 @@ pub fn print() {
         );
     }
     println!();
+    check(&settings);
+}
+
+/// The test of the samples alone: a stack 10 wide has no cell to search.
+fn check(settings: &Settings) {
+    let (width, height) = (10, 8192);
+    let mut r = Rng::new(8);
+    let samples: Vec<f32> = (0..width * height * PLANES)
+        .map(|_| r.signed() as f32)
+        .collect();
+    let stack = Stack {
+        samples: &samples,
+        width,
+        height,
+        planes: PLANES,
+    };
+    let mut run = || u64::from(entries::find_extrema(&stack, LAYER, 0, settings, &mut []).0);
+    let [t] = medians(ROUNDS, [&mut run]);
+    println!(
+        "Of this the test of the samples takes {:.2} for each cell of {PLANES} planes.\n",
+        t / (width * height) as f64
+    );
 }

@@ -3,7 +3,7 @@
 
 use crate::detection::Case;
 
-fn first(lines: &[(u32, bool)]) -> u32 {
+pub(crate) fn first(lines: &[(u32, bool)]) -> u32 {
     lines.iter().find(|l| l.1).map_or(0, |l| l.0)
 }
 
@@ -55,4 +55,10 @@ pub fn threshold(contrast: f64, layers: usize) -> u32 {
         (2, !(1..=15).contains(&layers)),
         (4, outside(contrast, 0.0, 1.0)),
     ])
+}
+
+/// 1 and 3 of an entry that takes a picture, before what else it takes is looked at.
+pub fn picture(width: usize, height: usize, samples: usize) -> u32 {
+    let need = width as u128 * height as u128;
+    first(&[(1, shape(width, height)), (3, samples as u128 != need)])
 }

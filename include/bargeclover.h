@@ -1,0 +1,82 @@
+/*
+ * Bargeclover: keypoints for tying frames of aerial film together. One archive, libbargeclover.a; every function in it is proved
+ * to answer as said here, to do nothing undefined and to return.
+ *
+ * Numbers given back, checked in this order, first fault wins; each entry makes the checks that apply to its arguments:
+ *
+ *   0  done
+ *   1  width or height is 0 or above 8192
+ *   2  not 1 <= layer <= layers <= planes - 2, or layers above 15, or planes above 17
+ *   3  a plane slice hasn't exactly the length that the shape gives
+ *   4  contrast not in 0 to 1, edge not in 1 to 1000, sigma not in 0.5 to 16, octave not in 0 to 15, or one is not-a-number
+ *   5  a keypoint or record field is outside its range
+ *   6  a sample is not-a-number, infinite or above 2^20 in magnitude
+ *   7  the lent output is too small
+ *   8  a sheet breaks a rule of the sheet
+ *
+ * 0 comes with the count written, 7 with the count needed. Any other number comes with 0 in every out-parameter. Where the number
+ * is not 0 nothing is written to the lent output; where it is 0, what lies after the last word or byte written stays as it was.
+ *
+ * What a caller owes, since C can't say it: a pointer is not null, is aligned, and is good for the length that follows it (an
+ * out-parameter for one value), also where that length is 0; and what a call writes overlaps nothing else that it is handed. No
+ * function keeps a pointer, allocates, or has state: all may be called from any thread.
+ */
+#ifndef BARGECLOVER_H
+#define BARGECLOVER_H
+
+#include <stddef.h>
+#include <stdint.h>
+
+#ifdef __cplusplus
+extern "C" {
+#endif
+
+/* The bits of a not-a-number, as they are answered. */
+#define BARGECLOVER_NAN 2143289344u
+
+/*
+ * Routines on float bits. Every pattern may be passed; outside the range the answer is BARGECLOVER_NAN. docs/ROUTINES.md has the
+ * exact steps. exp2 takes 0 to 2; exp takes -32 to 0; sin and cos take degrees, 0 to 360; angle (degrees, 0 to below 360) and
+ * magnitude take two numbers of at most 2^21 in magnitude.
+ */
+uint32_t bargeclover_exp2(uint32_t x);
+uint32_t bargeclover_exp(uint32_t x);
+uint32_t bargeclover_sin(uint32_t degrees);
+uint32_t bargeclover_cos(uint32_t degrees);
+uint32_t bargeclover_angle(uint32_t dx, uint32_t dy);
+uint32_t bargeclover_magnitude(uint32_t dx, uint32_t dy);
+
+/*
+ * Single operations of IEEE 754 on float bits, for every pattern; a not-a-number answered is BARGECLOVER_NAN.
+ * fma: a * b + c, rounded once. sqrt. narrow: the double with these bits, as a float. floor: toward minus infinity. round: to the
+ * nearest whole number, ties to even. to_i32: toward zero, stopped at the ends of the range, 0 for a not-a-number (Rust's `as i32`).
+ */
+uint32_t bargeclover_fma(uint32_t a, uint32_t b, uint32_t c);
+uint32_t bargeclover_sqrt(uint32_t x);
+uint32_t bargeclover_narrow(uint64_t x);
+uint32_t bargeclover_floor(uint32_t x);
+uint32_t bargeclover_round(uint32_t x);
+int32_t bargeclover_to_i32(uint32_t x);
+
+/*
+ * The threshold of detection, 0.5 * contrast / layers * 255, floored, by its float bits.
+ * Refused with 2 (layers is 0 or above 15) or 4 (contrast not in 0 to 1).
+ */
+uint32_t bargeclover_threshold(double contrast, size_t layers, uint32_t *threshold_bits);
+
+/*
+ * The extrema of one layer of a stack of difference planes, refined, row by row.
+ * dog has planes * height * width samples, plane after plane, row after row. A keypoint goes out as ten words: x, y, size and
+ * response by their float bits; octave | layer << 8 | code << 16; layer; xi by its float bits; column and row of the cell; and the
+ * number of refinement moves, 0 to 4. count is in keypoints, out_len in words.
+ * Refused with 1, 2, 3, 4, 6 (any sample of the stack) or 7 (fewer than ten words for each keypoint; count says how many there are).
+ * A width or height of 10 or less has no keypoint.
+ */
+uint32_t bargeclover_find_extrema(const float *dog, size_t dog_len, size_t width, size_t height, size_t planes, size_t layer,
+    uint32_t octave, size_t layers, double contrast, double edge, double sigma, uint32_t *out, size_t out_len, size_t *count);
+
+#ifdef __cplusplus
+}
+#endif
+
+#endif

@@ -1,0 +1,264 @@
+// Replays cases that an independent program made (host/vectors/sheet.py says how they are laid out) through `write_sheet` and `read_sheet`, and says how many were
+// tried and how many differ. What is lent is longer than the room and filled with a pattern, which has to stand behind the expected output.
+ghost use Prim.Native.Nat.{_<_, _≤_};
+use libc::STDOUT_FILENO;
+use params::Answer;
+
+const ROOM: usize = 512;
+
+const PATTERN_BYTE: u8 = 165;
+
+const PATTERN_WORD: u32 = 0xa5a5_a5a5;
+
+// A case's head.
+struct Case {
+    kind: u8,
+    number: u32,
+    room: usize,
+    given: usize,
+    expected: usize,
+    count: usize,
+    width: usize,
+    height: usize,
+    layers: usize,
+}
+
+fn wide(b: u8) -> u64
+    ensures { λ r. ⌜ r ≤ 255 ⌝ }
+{
+    b as u64
+}
+
+// The byte at a place, 0 past the end.
+fn byte_at(s: &[u8], at: usize) -> u64
+    ensures { λ r. ⌜ r ≤ 255 ⌝ }
+{
+    if at < s.len() { wide(s[at]) } else { 0 }
+}
+
+// The 16, 32 or 64 bits from a place on, most significant byte first.
+fn half_at(s: &[u8], at: usize) -> u64
+    requires { ⌜ at ≤ 100000 ⌝ }
+    ensures { λ r. ⌜ r ≤ 65535 ⌝ }
+{
+    byte_at(s, at) * 256 + byte_at(s, at + 1)
+}
+
+fn word_at(s: &[u8], at: usize) -> u32
+    requires { ⌜ at ≤ 90000 ⌝ }
+{
+    (half_at(s, at) * 65536 + half_at(s, at + 2)) as u32
+}
+
+fn long_at(s: &[u8], at: usize) -> usize
+    requires { ⌜ at ≤ 80000 ⌝ }
+{
+    (word_at(s, at) as u64 * 4294967296 + word_at(s, at + 4) as u64) as usize
+}
+
+fn case_of(h: &[u8]) -> Case {
+    Case {
+        kind: byte_at(h, 0) as u8,
+        number: byte_at(h, 1) as u32,
+        room: half_at(h, 2) as usize,
+        given: half_at(h, 4) as usize,
+        expected: half_at(h, 6) as usize,
+        count: word_at(h, 8) as usize,
+        width: long_at(h, 12),
+        height: long_at(h, 20),
+        layers: long_at(h, 28),
+    }
+}
+
+fn number_of(a: Answer) -> u32 {
+    match a {
+        Answer::Done(_) => 0,
+        Answer::Short(_) => 7,
+        Answer::Refused(k) => k,
+    }
+}
+
+fn count_of(a: Answer) -> usize {
+    match a {
+        Answer::Done(n) => n,
+        Answer::Short(n) => n,
+        Answer::Refused(_) => 0,
+    }
+}
+
+// The words that bytes hold, most significant byte first.
+fn words_in(s: &[u8]) -> [u32; 512] {
+    let mut words = [0u32; 512];
+    for i in 0..512 {
+        words[i] = word_at(s, 4 * i);
+    }
+    words
+}
+
+// Whether the lent bytes are the n expected, and then the pattern.
+fn bytes_agree(out: &[u8; 512], want: &[u8], n: usize) -> bool {
+    let mut same = true;
+    for i in 0..512 {
+        if i < n {
+            same = same & (wide(out[i]) == byte_at(want, i));
+        } else {
+            same = same & (out[i] == PATTERN_BYTE);
+        }
+    }
+    same
+}
+
+fn words_agree(out: &[u32; 512], want: &[u8], n: usize) -> bool {
+    let mut same = true;
+    for i in 0..512 {
+        if i < n {
+            same = same & (out[i] == word_at(want, 4 * i));
+        } else {
+            same = same & (out[i] == PATTERN_WORD);
+        }
+    }
+    same
+}
+
+// Whether the writer does what a case expects. More than the lent room is no case.
+fn writer_agrees(c: Case, given: &[u8], want: &[u8]) -> bool {
+    let n = c.given;
+    let room = c.room;
+    if n > ROOM {
+        return false;
+    }
+    if room > ROOM {
+        return false;
+    }
+    let words = words_in(given);
+    let mut out = [PATTERN_BYTE; 512];
+    let a = sheet_write::write_sheet(c.width, c.height, c.layers, &words[..n], &mut out[..room]);
+    (number_of(a) == c.number)
+        & (count_of(a) == c.count)
+        & (want.len() == c.expected)
+        & bytes_agree(&out, want, c.expected)
+}
+
+fn reader_agrees(c: Case, given: &[u8], want: &[u8]) -> bool {
+    let room = c.room;
+    if room > ROOM {
+        return false;
+    }
+    let mut out = [PATTERN_WORD; 512];
+    let r = sheet_read::read_sheet(given, &mut out[..room]);
+    let a = r.answer;
+    (number_of(a) == c.number)
+        & (count_of(a) == c.count)
+        & ((r.width == c.width) & (r.height == c.height) & (r.layers == c.layers))
+        & words_agree(&out, want, c.expected)
+}
+
+// Reads n bytes to the front of a buffer. Answers whether there were as many.
+fn load(fd: i32, buffer: &mut [u8], n: usize) -> bool {
+    if n > buffer.len() {
+        return false;
+    }
+    io::read_full(fd, &mut buffer[..n]) == n
+}
+
+// Whether a case, whose head is read, has both its parts, of n and of m bytes, and comes out as it expects.
+fn parts_agree(fd: i32, c: Case, n: usize, m: usize) -> bool
+    requires { ⌜ (n ≤ 4096) × (m ≤ 4096) ⌝ }
+{
+    let mut given = [0u8; 4096];
+    let mut want = [0u8; 4096];
+    if !load(fd, &mut given, n) {
+        return false;
+    }
+    if !load(fd, &mut want, m) {
+        return false;
+    }
+    if c.kind == 2 {
+        return reader_agrees(c, &given[..n], &want[..m]);
+    }
+    writer_agrees(c, &given[..n], &want[..m])
+}
+
+fn agrees(fd: i32, c: Case) -> bool {
+    let n = c.given;
+    let m = c.expected;
+    if n > 1024 {
+        return false;
+    }
+    if m > 1024 {
+        return false;
+    }
+    if c.kind == 1 {
+        return parts_agree(fd, c, 4 * n, m);
+    }
+    if c.kind == 2 {
+        return parts_agree(fd, c, n, 4 * m);
+    }
+    false
+}
+
+// The entry's place in the tables: 0 for a kind of which there is none.
+fn row(kind: u8) -> usize
+    ensures { λ r. ⌜ r < 3 ⌝ }
+{
+    if kind < 3 { kind as usize } else { 0 }
+}
+
+// Reads a case and replays it. Answers how many bytes of its head there were: 36 if it was one.
+fn step(fd: i32, tried: &mut [u64; 3], differ: &mut [u64; 3]) -> usize {
+    let mut h = [0u8; 36];
+    let got = io::read_full(fd, &mut h);
+    if got < 36 {
+        return got;
+    }
+    let c = case_of(&h);
+    let k = row(c.kind);
+    tried[k] = std::num::wrapping_add_u64(tried[k], 1);
+    if !agrees(fd, c) {
+        differ[k] = std::num::wrapping_add_u64(differ[k], 1);
+    }
+    got
+}
+
+// Replays cases until the file ends, and answers how many bytes were left over. The count of turns is more than any file here has.
+fn replay(fd: i32, tried: &mut [u64; 3], differ: &mut [u64; 3]) -> usize {
+    let mut turns: u32 = 1_000_000;
+    let mut got: usize = 36;
+    while turns > 0 && got == 36 {
+        got = step(fd, tried, differ);
+        turns -= 1;
+    }
+    got
+}
+
+fn print(text: &[u8]) {
+    io::write_all(STDOUT_FILENO, text);
+}
+
+fn line(name: &[u8], tried: u64, differ: u64) {
+    print(name);
+    print(b": ");
+    io::print_decimal(STDOUT_FILENO, tried);
+    print(b" tried, ");
+    io::print_decimal(STDOUT_FILENO, differ);
+    print(b" differ\n");
+}
+
+fn main() {
+    let path = b"cases.bin";
+    let fd = os::open_read(path);
+    if fd < 0 {
+        os::fail(path);
+        return;
+    }
+    let mut tried = [0u64; 3];
+    let mut differ = [0u64; 3];
+    let rest = replay(fd, &mut tried, &mut differ);
+    libc::close(fd);
+    line(b"write_sheet", tried[1], differ[1]);
+    line(b"read_sheet", tried[2], differ[2]);
+    line(b"of no entry", tried[0], differ[0]);
+    print(b"bytes left over: ");
+    io::print_decimal(STDOUT_FILENO, rest as u64);
+    print(b"\n");
+}

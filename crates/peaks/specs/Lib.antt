@@ -1,2 +1,3 @@
 pub mod Peaks
 pub mod Found
+pub mod Rules

@@ -75,6 +75,25 @@ uint32_t bargeclover_threshold(double contrast, size_t layers, uint32_t *thresho
 uint32_t bargeclover_find_extrema(const float *dog, size_t dog_len, size_t width, size_t height, size_t planes, size_t layer,
     uint32_t octave, size_t layers, double contrast, double edge, double sigma, uint32_t *out, size_t out_len, size_t *count);
 
+/*
+ * The sheet of keypoints, edition 1: bits packed most significant first, a header of 8 bytes, then 154 bytes a record.
+ * A record is handed over as 138 words: row, column, octave, layer, code; x, y, size, response and angle by their float bits; the 128
+ * values. Row and column lie in the picture, octave is 0 to 15, layer 1 to layers, code 0 to 255; the five floats are finite with sign
+ * bit clear, size above 0, angle below 360; the values are 0 to 255.
+ * write_sheet: count and out_len are in bytes. Refused with 1; 2 (layers is 0 or above 15, or a whole record's layer is not 1 to
+ * layers); 5 (any other bad word, a part of a record, or more than 1048575 records); 7.
+ */
+uint32_t bargeclover_write_sheet(size_t width, size_t height, size_t layers, const uint32_t *words, size_t words_len, uint8_t *out,
+    size_t out_len, size_t *count);
+
+/*
+ * read_sheet: each record goes out as 139 words, the last of them 1 where its 128 values are all zero and else 0. count is in records,
+ * out_len in words; width, height and layers are the header's. Refused with 8 (any broken rule), then 7; width, height and layers are 0
+ * beside both.
+ */
+uint32_t bargeclover_read_sheet(const uint8_t *sheet, size_t sheet_len, uint32_t *out, size_t out_len, size_t *count, size_t *width,
+    size_t *height, size_t *layers);
+
 #ifdef __cplusplus
 }
 #endif

@@ -8,6 +8,9 @@ ghost use Rattle.ieee.specs.F32.{f32, bitsOf, fused, rootOf, narrowed, floorOf,
 ghost use Rattle.params.specs.Answers.{numberOf, countOf};
 ghost use Rattle.params.specs.Threshold.{thresholdAnswer, thresholdNumber, thresholdValue};
 ghost use Rattle.detect.specs.Entry.{extremaAnswer, extremaOut};
+ghost use Rattle.sheet.specs.Layout.{edition1};
+ghost use Rattle.sheet.specs.Writes.{frameOf, writeAnswer, writeOut};
+ghost use Rattle.sheet.specs.Reads.{readAnswer, readOut};
 ghost use Rattle.bargeclover.specs.Given.{settingsOf};
 ghost use Rattle.hal.specs.Exp.{exp2Of, expOf};
 ghost use Rattle.hal.specs.Turn.{sinOf, cosOf};
@@ -192,5 +195,50 @@ pub extern "C" fn bargeclover_find_extrema(
     };
     let a = detect::find_extrema(dog, width, height, planes, layer, octave, s, out);
     *count = count_of(a);
+    number_of(a)
+}
+
+// ---- the sheet
+
+#[no_mangle]
+pub extern "C" fn bargeclover_write_sheet(
+    width: usize,
+    height: usize,
+    layers: usize,
+    words: &[u32],
+    out: &mut [u8],
+    count: &mut usize,
+) -> u32
+    ensures { λ r. ⌜ r ≡ numberOf (writeAnswer edition1 (frameOf width height layers) (now (words .entry)) (length (now (out .entry)))) ⌝ }
+    ensures { λ _. ⌜ now (count .exit) ≡ countOf (writeAnswer edition1 (frameOf width height layers) (now (words .entry)) (length (now (out .entry)))) ⌝ }
+    ensures { λ _. ⌜ now (out .exit) ≡ writeOut edition1 (frameOf width height layers) (now (words .entry)) (now (out .entry)) ⌝ }
+{
+    let a = sheet_write::write_sheet(width, height, layers, words, out);
+    *count = count_of(a);
+    number_of(a)
+}
+
+#[no_mangle]
+pub extern "C" fn bargeclover_read_sheet(
+    sheet: &[u8],
+    out: &mut [u32],
+    count: &mut usize,
+    width: &mut usize,
+    height: &mut usize,
+    layers: &mut usize,
+) -> u32
+    ensures { λ r. ⌜ r ≡ numberOf (readAnswer edition1 (now (sheet .entry)) (length (now (out .entry))) .answer) ⌝ }
+    ensures { λ _. ⌜ now (count .exit) ≡ countOf (readAnswer edition1 (now (sheet .entry)) (length (now (out .entry))) .answer) ⌝ }
+    ensures { λ _. ⌜ now (width .exit) ≡ readAnswer edition1 (now (sheet .entry)) (length (now (out .entry))) .width ⌝ }
+    ensures { λ _. ⌜ now (height .exit) ≡ readAnswer edition1 (now (sheet .entry)) (length (now (out .entry))) .height ⌝ }
+    ensures { λ _. ⌜ now (layers .exit) ≡ readAnswer edition1 (now (sheet .entry)) (length (now (out .entry))) .layers ⌝ }
+    ensures { λ _. ⌜ now (out .exit) ≡ readOut edition1 (now (sheet .entry)) (now (out .entry)) ⌝ }
+{
+    let r = sheet_read::read_sheet(sheet, out);
+    let a = r.answer;
+    *count = count_of(a);
+    *width = r.width;
+    *height = r.height;
+    *layers = r.layers;
     number_of(a)
 }

@@ -41,3 +41,47 @@ pub fn find_extrema(
     };
     (number, count)
 }
+
+/// The number, and the count of bytes.
+pub fn write_sheet(
+    width: usize,
+    height: usize,
+    layers: usize,
+    words: &[u32],
+    out: &mut [u8],
+) -> (u32, usize) {
+    let mut count = 0;
+    // SAFETY: each pointer is good for its length, and what is written is lent to nobody else.
+    let number = unsafe {
+        ffi::bargeclover_write_sheet(
+            width,
+            height,
+            layers,
+            words.as_ptr(),
+            words.len(),
+            out.as_mut_ptr(),
+            out.len(),
+            &mut count,
+        )
+    };
+    (number, count)
+}
+
+/// The number, the count of records, 139 words of `out` for each, and width, height and layers.
+pub fn read_sheet(sheet: &[u8], out: &mut [u32]) -> (u32, usize, [usize; 3]) {
+    let (mut count, mut width, mut height, mut layers) = (0, 0, 0, 0);
+    // SAFETY: each pointer is good for its length, and what is written is lent to nobody else.
+    let number = unsafe {
+        ffi::bargeclover_read_sheet(
+            sheet.as_ptr(),
+            sheet.len(),
+            out.as_mut_ptr(),
+            out.len(),
+            &mut count,
+            &mut width,
+            &mut height,
+            &mut layers,
+        )
+    };
+    (number, count, [width, height, layers])
+}

@@ -33,4 +33,26 @@ unsafe extern "C" {
         out_len: usize,
         count: *mut usize,
     ) -> u32;
+
+    pub fn bargeclover_write_sheet(
+        width: usize,
+        height: usize,
+        layers: usize,
+        words: *const u32,
+        words_len: usize,
+        out: *mut u8,
+        out_len: usize,
+        count: *mut usize,
+    ) -> u32;
+
+    pub fn bargeclover_read_sheet(
+        sheet: *const u8,
+        sheet_len: usize,
+        out: *mut u32,
+        out_len: usize,
+        count: *mut usize,
+        width: *mut usize,
+        height: *mut usize,
+        layers: *mut usize,
+    ) -> u32;
 }

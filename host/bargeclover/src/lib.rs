@@ -20,6 +20,8 @@ mod detection;
 pub mod entries;
 pub mod ffi;
 mod refusal;
+mod sheet;
 
 pub use detection::{Keypoint, Settings, Stack, find_extrema, threshold};
 pub use refusal::Refusal;
+pub use sheet::{Record, Sheet, read_sheet, write_sheet};

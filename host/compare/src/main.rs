@@ -7,6 +7,7 @@
 mod detection;
 mod operations;
 mod report;
+mod sheet;
 
 use cases::Rng;
 use cases::fate::Fate;
@@ -57,6 +58,7 @@ fn main() -> ExitCode {
     let mut rng = Rng::new(w.seed);
     operations::operations(&mut rng, w.operations, &mut r);
     operations::routines(&mut rng, w.operations, &mut r);
+    sheet::sheets(&mut rng, w.stacks, &mut r);
     if oracle::FOUND {
         detection::thresholds(&mut rng, w.stacks, &mut r);
         detection::stacks(&mut rng, w.stacks, &mut r);

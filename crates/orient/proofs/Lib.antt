@@ -1,3 +1,4 @@
 pub mod Checks
 pub mod Words
 pub mod Answers
+pub mod Rules

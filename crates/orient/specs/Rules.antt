@@ -1,0 +1,34 @@
+-- What is proved of orientation beyond the entry's contract: proofs/Rules.antt proves each. Definitions only.
+use Prim.Native.Nat.{ℕ, _*_, _<_, _≤_}
+use mathlib.Core.Path.{_≡_}
+use mathlib.Core.Bool.{false}
+use mathlib.Core.List.{List}
+use lib.ListN.{length, getD}
+use lib.Ieee.{Float, nan}
+use Rattle.params.specs.Limits.{maxLayers, maxOctave}
+use Rattle.params.specs.declared.Settings.{Settings}
+use Rattle.refine.specs.Sound.{Sound}
+use Rattle.refine.specs.declared.RawKeypoint.{RawKeypoint}
+use Rattle.tally.specs.Window.{cellsRead}
+use Rattle.peaks.specs.Rules.{maxPeaks}
+use Rattle.orient.specs.Keypoint.{keypointWrong}
+use Rattle.orient.specs.Entry.{windowAt, orientedOf, orientedList}
+use Rattle.orient.specs.declared.OrientedKeypoint.{OrientedKeypoint}
+
+-- all but the angle is the raw keypoint's
+pub record Passed (k : RawKeypoint) (o : OrientedKeypoint) : Type 0 where
+  pub x : o .x ≡ k .x
+  pub y : o .y ≡ k .y
+  pub size : o .size ≡ k .size
+  pub response : o .response ≡ k .response
+  pub octave : o .octave ≡ k .octave
+
+pub record OrientRule : Type 0 where
+  -- n, the number of cells read, is rows × columns
+  pub read : (width height : ℕ) (k : RawKeypoint) → cellsRead (windowAt width height k) ≡ windowAt width height k .rows * windowAt width height k .cols
+  -- at most 18 oriented keypoints
+  pub few : (img : List Float) (width height : ℕ) (k : RawKeypoint) → length (orientedList img width height k) ≤ maxPeaks
+  -- x, y, size, response and octave pass through unchanged
+  pub passed : (img : List Float) (width height : ℕ) (k : RawKeypoint) (i : ℕ) → i < length (orientedList img width height k) → Passed k (getD (orientedList img width height k) i (orientedOf k nan))
+  -- every keypoint that detection can give for a picture of that size passes number 5
+  pub accepted : (width height octave : ℕ) (s : Settings) (k : RawKeypoint) → s .layers ≤ maxLayers → octave ≤ maxOctave → Sound width height s octave k → keypointWrong width height k ≡ false

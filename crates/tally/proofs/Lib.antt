@@ -3,3 +3,4 @@ pub mod Values
 pub mod Spans
 pub mod Every
 pub mod Bins
+pub mod Rules

@@ -2,3 +2,4 @@ pub mod Window
 pub mod Sample
 pub mod Tally
 pub mod Place
+pub mod Rules

@@ -76,6 +76,18 @@ uint32_t bargeclover_find_extrema(const float *dog, size_t dog_len, size_t width
     uint32_t octave, size_t layers, double contrast, double edge, double sigma, uint32_t *out, size_t out_len, size_t *count);
 
 /*
+ * The directions of a keypoint in the Gaussian plane of its layer, one oriented keypoint for each peak, at most 18.
+ * img has height * width samples. The keypoint is ten words, as find_extrema gives them: its cell must lie in the picture, its scale
+ * (size * 0.5 / 2^octave) in 0.125 to 64, its floats must be finite, and its octave word has 0 to 15 in the low byte, 1 to 15 in the
+ * next, 0 to 255 in the third, nothing above; layer and moves are free. An oriented keypoint goes out as six words: x, y, size and
+ * response by their float bits, the octave word, the angle in degrees by its float bits. count is in oriented keypoints, out_len in
+ * words; samples is the number of cells read, 0 beside every other number than 0.
+ * Refused with 1, 3, 5 (also where keypoint_len is not 10), 6 (only the four neighbours of each cell read) or 7.
+ */
+uint32_t bargeclover_assign_orientations(const float *img, size_t img_len, size_t width, size_t height, const uint32_t *keypoint,
+    size_t keypoint_len, uint32_t *out, size_t out_len, size_t *count, size_t *samples);
+
+/*
  * The sheet of keypoints, edition 1: bits packed most significant first, a header of 8 bytes, then 154 bytes a record.
  * A record is handed over as 138 words: row, column, octave, layer, code; x, y, size, response and angle by their float bits; the 128
  * values. Row and column lie in the picture, octave is 0 to 15, layer 1 to layers, code 0 to 255; the five floats are finite with sign

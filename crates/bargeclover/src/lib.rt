@@ -2,16 +2,17 @@
 // Where a parameter or an answer stands for a float and is a u32 (or a u64), it is the float's bits, and every pattern is taken;
 // a not-a-number answered has the bits 2143289344.
 ghost use mathlib.Core.Path.{_≡_};
-ghost use lib.Ieee.{ofBits, binary64};
+ghost use lib.Ieee.{nan, ofBits, binary64};
 ghost use lib.ListN.{length};
 ghost use Rattle.ieee.specs.F32.{f32, bitsOf, fused, rootOf, narrowed, floorOf, rounded, toI32};
 ghost use Rattle.params.specs.Answers.{numberOf, countOf};
 ghost use Rattle.params.specs.Threshold.{thresholdAnswer, thresholdNumber, thresholdValue};
 ghost use Rattle.detect.specs.Entry.{extremaAnswer, extremaOut};
+ghost use Rattle.orient.specs.Entry.{orientAnswer, orientOut};
 ghost use Rattle.sheet.specs.Layout.{edition1};
 ghost use Rattle.sheet.specs.Writes.{frameOf, writeAnswer, writeOut};
 ghost use Rattle.sheet.specs.Reads.{readAnswer, readOut};
-ghost use Rattle.bargeclover.specs.Given.{settingsOf};
+ghost use Rattle.bargeclover.specs.Given.{settingsOf, wordsIn, broken, keypointIn};
 ghost use Rattle.hal.specs.Exp.{exp2Of, expOf};
 ghost use Rattle.hal.specs.Turn.{sinOf, cosOf};
 ghost use Rattle.hal.specs.Angle.{angleOf};
@@ -19,6 +20,7 @@ ghost use Rattle.hal.specs.Magnitude.{magnitudeOf};
 use params::Answer;
 use params::Settings;
 use params::Threshold;
+use refine::RawKeypoint;
 
 // ---- routines
 
@@ -195,6 +197,86 @@ pub extern "C" fn bargeclover_find_extrema(
     };
     let a = detect::find_extrema(dog, width, height, planes, layer, octave, s, out);
     *count = count_of(a);
+    number_of(a)
+}
+
+// ---- orientation
+
+fn not_a_number() -> f32
+    ensures { λ r. ⌜ r ≡ nan ⌝ }
+{
+    0.0 / 0.0
+}
+
+// A keypoint that no entry takes.
+fn broken_keypoint() -> RawKeypoint
+    ensures { λ r. ⌜ r ≡ broken ⌝ }
+{
+    let x = not_a_number();
+    RawKeypoint {
+        x: x,
+        y: x,
+        size: x,
+        response: x,
+        octave: 0,
+        layer: 0,
+        xi: x,
+        cc: 0,
+        rr: 0,
+        moves: 0,
+    }
+}
+
+// The keypoint of ten words.
+fn whole_keypoint(k: &[u32]) -> RawKeypoint
+    requires { ⌜ length (now k) ≡ 10 ⌝ }
+    ensures { λ r. ⌜ r ≡ wordsIn (now (k .entry)) ⌝ }
+{
+    RawKeypoint {
+        x: ieee::of_bits(k[0]),
+        y: ieee::of_bits(k[1]),
+        size: ieee::of_bits(k[2]),
+        response: ieee::of_bits(k[3]),
+        octave: k[4],
+        layer: k[5],
+        xi: ieee::of_bits(k[6]),
+        cc: k[7],
+        rr: k[8],
+        moves: k[9],
+    }
+}
+
+// The keypoint of words, whole or not.
+fn keypoint_in(k: &[u32]) -> RawKeypoint
+    ensures { λ r. ⌜ r ≡ keypointIn (now (k .entry)) ⌝ }
+{
+    if k.len() == 10 {
+        whole_keypoint(k)
+    } else {
+        broken_keypoint()
+    }
+}
+
+#[no_mangle]
+pub extern "C" fn bargeclover_assign_orientations(
+    img: &[f32],
+    width: usize,
+    height: usize,
+    keypoint: &[u32],
+    out: &mut [u32],
+    count: &mut usize,
+    samples: &mut usize,
+) -> u32
+    ensures { λ r. ⌜ r ≡ numberOf (orientAnswer (now (img .entry)) width height (keypointIn (now (keypoint .entry))) (length (now (out .entry))) .answer) ⌝ }
+    ensures { λ _. ⌜ now (count .exit) ≡ countOf (orientAnswer (now (img .entry)) width height (keypointIn (now (keypoint .entry))) (length (now (out .entry))) .answer) ⌝ }
+    ensures { λ _. ⌜ now (samples .exit) ≡ orientAnswer (now (img .entry)) width height (keypointIn (now (keypoint .entry))) (length (now (out .entry))) .samples ⌝ }
+    ensures { λ _. ⌜ now (out .exit) ≡ orientOut (now (img .entry)) width height (keypointIn (now (keypoint .entry))) (now (out .entry)) ⌝ }
+{
+    let k = keypoint_in(keypoint);
+    let r = orient::assign_orientations(img, width, height, k, out);
+    let a = r.answer;
+    *count = count_of(a);
+    *samples = r.samples;
     number_of(a)
 }
 

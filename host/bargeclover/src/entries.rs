@@ -1,7 +1,7 @@
 //! The entries as they are in C, made safe by slices: numbers, counts and words, and nothing allocated. Each answers document
 //! 01's number and what it carries. On a refusal nothing is written and all else is 0, but for the count needed beside a 7.
 
-use crate::{Settings, Stack, ffi};
+use crate::{Picture, Settings, Stack, ffi};
 
 /// The number, and the threshold by its bits.
 pub fn threshold(contrast: f64, layers: usize) -> (u32, u32) {
@@ -84,4 +84,29 @@ pub fn read_sheet(sheet: &[u8], out: &mut [u32]) -> (u32, usize, [usize; 3]) {
         )
     };
     (number, count, [width, height, layers])
+}
+
+/// The number, the count of oriented keypoints and the cells read; six words of `out` for each.
+pub fn assign_orientations(
+    picture: &Picture,
+    keypoint: &[u32],
+    out: &mut [u32],
+) -> (u32, usize, usize) {
+    let (mut count, mut samples) = (0, 0);
+    // SAFETY: each pointer is good for its length, and what is written is lent to nobody else.
+    let number = unsafe {
+        ffi::bargeclover_assign_orientations(
+            picture.samples.as_ptr(),
+            picture.samples.len(),
+            picture.width,
+            picture.height,
+            keypoint.as_ptr(),
+            keypoint.len(),
+            out.as_mut_ptr(),
+            out.len(),
+            &mut count,
+            &mut samples,
+        )
+    };
+    (number, count, samples)
 }

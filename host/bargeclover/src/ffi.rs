@@ -55,4 +55,17 @@ unsafe extern "C" {
         height: *mut usize,
         layers: *mut usize,
     ) -> u32;
+
+    pub fn bargeclover_assign_orientations(
+        img: *const f32,
+        img_len: usize,
+        width: usize,
+        height: usize,
+        keypoint: *const u32,
+        keypoint_len: usize,
+        out: *mut u32,
+        out_len: usize,
+        count: *mut usize,
+        samples: *mut usize,
+    ) -> u32;
 }

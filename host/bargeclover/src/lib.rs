@@ -19,9 +19,11 @@ pub mod bits;
 mod detection;
 pub mod entries;
 pub mod ffi;
+mod orientation;
 mod refusal;
 mod sheet;
 
 pub use detection::{Keypoint, Settings, Stack, find_extrema, threshold};
+pub use orientation::{Orientations, Oriented, Picture, assign_orientations};
 pub use refusal::Refusal;
 pub use sheet::{Record, Sheet, read_sheet, write_sheet};

@@ -6,6 +6,7 @@
 
 mod detection;
 mod operations;
+mod orientation;
 mod report;
 mod sheet;
 
@@ -62,8 +63,11 @@ fn main() -> ExitCode {
     if oracle::FOUND {
         detection::thresholds(&mut rng, w.stacks, &mut r);
         detection::stacks(&mut rng, w.stacks, &mut r);
+        orientation::keypoints(&mut rng, w.stacks, &mut r);
     } else {
-        println!("SKIPPED: the published Rust was not found, so stacks were not compared");
+        println!(
+            "SKIPPED: the published Rust was not found, so stacks and keypoints were not compared"
+        );
         if env::var("CI").is_ok_and(|v| v == "true") {
             r.differs("with CI=true the published Rust must be there");
         }

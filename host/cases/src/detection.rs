@@ -1,6 +1,7 @@
 //! Stacks of difference planes of every kind that detection treats in its own way, whole and damaged.
 
 use crate::Rng;
+use crate::table;
 use bargeclover::{Settings, Stack};
 
 /// What `find_extrema` is handed. A damaged case may have any number anywhere.
@@ -379,4 +380,28 @@ pub fn damage(r: &mut Rng, c: &mut Case) {
             }
         }
     }
+}
+
+/// What stands in the lent words before a call, so that a word that is written or not shows.
+pub const BEFORE: u32 = 0xa5a5_a5a5;
+
+/// The answer that is right for so many words lent: the number, the count, and all the lent words afterwards. The table decides on
+/// refusals; of a case that it accepts, `find` gives the keypoints.
+pub fn expected(
+    c: &Case,
+    room: usize,
+    find: impl FnOnce(&Case) -> Vec<[u32; 10]>,
+) -> (u32, usize, Vec<u32>) {
+    let mut out = vec![BEFORE; room];
+    let fault = table::detection(c);
+    if fault != 0 {
+        return (fault, 0, out);
+    }
+    let found = find(c);
+    let words = found.as_flattened();
+    if words.len() > room {
+        return (7, found.len(), out);
+    }
+    out[..words.len()].copy_from_slice(words);
+    (0, found.len(), out)
 }

@@ -2,12 +2,9 @@
 
 use crate::report::Report;
 use bargeclover::entries;
-use cases::detection::{Case, Kind, accepted, damage};
+use cases::detection::{self, BEFORE, Case, Kind, accepted, damage};
 use cases::fate::{Fate, fates};
 use cases::{Rng, table};
-
-/// What stands in the lent words before a call, so that a word that is written or not shows.
-const BEFORE: u32 = 0xa5a5_a5a5;
 
 fn told(c: &Case) -> String {
     let head = format!(
@@ -27,18 +24,9 @@ fn told(c: &Case) -> String {
 
 /// The answer that is right, for so many words lent: the number, the count, and all the lent words afterwards.
 fn expected(c: &Case, room: usize) -> (u32, usize, Vec<u32>) {
-    let mut out = vec![BEFORE; room];
-    let fault = table::detection(c);
-    if fault != 0 {
-        return (fault, 0, out);
-    }
-    let found = oracle::find_extrema(&c.stack(), c.layer, c.octave, &c.settings);
-    let words = found.as_flattened();
-    if words.len() > room {
-        return (7, found.len(), out);
-    }
-    out[..words.len()].copy_from_slice(words);
-    (0, found.len(), out)
+    detection::expected(c, room, |c| {
+        oracle::find_extrema(&c.stack(), c.layer, c.octave, &c.settings)
+    })
 }
 
 fn answer(c: &Case, room: usize) -> (u32, usize, Vec<u32>) {

@@ -4,7 +4,7 @@
 //! before it. A case whose samples are not as many as its shape says can't be told in this form, so number 3 is not in the list.
 
 use bargeclover::Settings;
-use cases::detection::{Case, Kind, accepted, damage};
+use cases::detection::{self, Case, Kind, accepted, damage};
 use cases::fate::{Fate, fates};
 use cases::{Rng, table};
 use std::collections::BTreeMap;
@@ -12,7 +12,6 @@ use std::fs;
 use std::path::Path;
 
 const MARK: u32 = 0x4243_4c31;
-const BEFORE: u32 = 0xa5a5_a5a5;
 const MOST_SAMPLES: usize = 65_536;
 const MOST_ROOM: usize = 4_096;
 /// Of each fate of a candidate, each kind of stack and each number, at least so many cases.
@@ -26,18 +25,9 @@ fn put(to: &mut Vec<u8>, words: impl IntoIterator<Item = u32>) {
 
 /// The number, the count and the lent words afterwards.
 fn answer(c: &Case, room: usize) -> (u32, usize, Vec<u32>) {
-    let mut out = vec![BEFORE; room];
-    let fault = table::detection(c);
-    if fault != 0 {
-        return (fault, 0, out);
-    }
-    let found = oracle::find_extrema(&c.stack(), c.layer, c.octave, &c.settings);
-    let words = found.as_flattened();
-    if words.len() > room {
-        return (7, found.len(), out);
-    }
-    out[..words.len()].copy_from_slice(words);
-    (0, found.len(), out)
+    detection::expected(c, room, |c| {
+        oracle::find_extrema(&c.stack(), c.layer, c.octave, &c.settings)
+    })
 }
 
 fn case(to: &mut Vec<u8>, c: &Case, room: usize) {

@@ -2,15 +2,15 @@
 use Prim.Native.Nat.{ℕ, zero, suc, _+_, _-_, _*_, _<_, _≤_}
 use mathlib.Core.Path.{_≡_, refl, sym, ap, _∙_}
 use mathlib.Core.Bool.{Bool, true, false, _&&_, _||_, not, true≢false}
-use mathlib.Core.List.{List}
+use mathlib.Core.List.{List, _∷_}
 use native.Mathlib.Nat.{mul-le-mul}
 use native.Mathlib.Omega.{arith}
-use borrow.Author.Tests.{eq-eqb, ne-eqb, ltb-false, leb-true}
+use borrow.Author.Tests.{eqb-true, eq-eqb, ne-eqb, ltb-false, leb-true}
 use lib.Dec.{eqb, leb, ltb, T}
 use lib.ListN.{length}
 use lib.Ieee.{Float}
 use Rattle.params.specs.Limits.{maxSide, maxLayers, maxPlanes}
-use Rattle.params.specs.Table.{firstFault, sideWrong, shapeWrong, layersWrong, lengthWrong, contrastWrong, settingsWrong, allGood}
+use Rattle.params.specs.Table.{Line, line, firstFault, sideWrong, shapeWrong, layersWrong, lengthWrong, contrastWrong, settingsWrong, allGood}
 use Rattle.params.specs.declared.Settings.{Settings}
 use Rattle.params.proofs.Bools.{or-neither, in-range}
 use Rattle.params.proofs.Accepted.{accepted}
@@ -103,3 +103,32 @@ module _ (d : List Float) (w h planes layer octave : ℕ) (s : Settings) where
           pub fault-none : allGood d ≡ true → 0 ≡ fault
           unfolding faultOf firstFault lengthWrong
           fault-none a = rw (shape, layers, eq-eqb (length d) (planes * h * w) whole, settings, a)
+
+-- ---- what is known of a stack that no check refuses
+
+first-none : (n : ℕ) (b : Bool) (ls : List Line) → firstFault (line (suc n) b ∷ ls) ≡ 0 → (b ≡ false) × (firstFault ls ≡ 0)
+unfolding firstFault
+first-none n true ls h = absurd (omega arith)
+first-none n false ls h = (refl, h)
+
+pub record Right (d : List Float) (w h planes layer octave : ℕ) (s : Settings) : Type 0 where
+  pub stack : Stack (length d) w h planes (s .layers) octave layer
+  pub settings : settingsWrong s octave ≡ false
+  pub contrast : contrastWrong (s .contrast) ≡ false
+  pub good : allGood d ≡ true
+
+pub right : (d : List Float) (w h planes layer octave : ℕ) (s : Settings) → faultOf d w h planes layer octave s ≡ 0 → Right d w h planes layer octave s
+unfolding faultOf lengthWrong
+right d w h planes layer octave s z =
+    let a = first-none 0 (shapeWrong w h) _ z in
+    let b = first-none 1 (layersWrong planes layer (s .layers)) _ (a .1) in
+    let c = first-none 2 (not (eqb (length d) (planes * h * w))) _ (b .1) in
+    let e = first-none 3 (settingsWrong s octave) _ (c .1) in
+    let g = first-none 5 (not (allGood d)) _ (e .1) in
+    let whole : length d ≡ planes * h * w = eqb-true (length d) (planes * h * w) (not-is _ (c .0)) in
+    record {
+      stack = stack d w h planes layer octave s (a .0) (b .0) whole (e .0);
+      settings = e .0;
+      contrast = contrast-right d w h planes layer octave s (a .0) (b .0) whole (e .0);
+      good = not-is _ (g .0);
+    }

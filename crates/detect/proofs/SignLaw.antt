@@ -2,11 +2,11 @@
 -- Assumes nothing.
 use Prim.Native.Nat.{ℕ, zero, suc, _+_, _-_, _*_, _≤_}
 use mathlib.Core.Path.{_≡_, refl, ap, _∙_}
-use mathlib.Core.Bool.{Bool, true, false, not, _&&_, _||_, cond, true≢false}
+use mathlib.Core.Bool.{Bool, true, false, _&&_, _||_, cond}
 use mathlib.Core.List.{List, [], _∷_, _++_}
 use native.Mathlib.Omega.{arith}
-use borrow.Author.Tests.{leb-true, ltb-false}
-use lib.Dec.{leb, ltb}
+use borrow.Author.Tests.{leb-true}
+use lib.Dec.{leb}
 use lib.ListN.{length, getD, drop, length-map, List·getD-map}
 use lib.Ieee.{Float, nan, inf, fin, binary32, neg, le}
 use Rattle.ieee.specs.F32.{absOf}
@@ -16,13 +16,12 @@ use Rattle.ieee.proofs.TurnedOps.{zero-any, abs-turned, back-same, Signed, abov
 use Rattle.ieee.proofs.Order.{le-lt-trans}
 use Rattle.lists.specs.Ranges.{every, joined}
 use Rattle.lists.specs.Pasted.{pasted}
-use Rattle.params.specs.Limits.{border, maxLayers, maxPlanes, sampleLimit}
-use Rattle.params.specs.Table.{Line, line, firstFault, shapeWrong, layersWrong, lengthWrong, contrastWrong, settingsWrong, goodSample, allGood}
+use Rattle.params.specs.Limits.{border, sampleLimit}
+use Rattle.params.specs.Table.{goodSample, allGood}
 use Rattle.params.specs.Threshold.{thresholdOf}
 use Rattle.params.specs.Answers.{answerOf, landed}
 use Rattle.params.specs.declared.Settings.{Settings}
 use Rattle.params.specs.declared.Answer.the-variants.{Done, Short}
-use Rattle.params.proofs.Bools.{or-neither}
 use Rattle.params.proofs.Accepted.{threshold-bounds}
 use Rattle.picture.specs.Stack.{sample}
 use Rattle.refine.specs.Sign.{SameRefined, both-dropped, both-at}
@@ -32,6 +31,7 @@ use Rattle.refine.proofs.SignLaw.{at-opp, refine-same}
 use Rattle.detect.specs.Neighbours.{Rule, tied, larger, nought, keepsOver, centre, passes, isExtremum, loud, candidate}
 use Rattle.detect.specs.Scan.{kept, found, rowOf, keypoints, keypointWords, words}
 use Rattle.detect.specs.Entry.{faultOf, listOf, extremaAnswer, extremaOut}
+use Rattle.detect.proofs.Faults.{right}
 use Rattle.detect.specs.SignLaw.{negative, SameList, none, more, NegativesAgree, SameWords, rest, keypoint, TwoRuns}
 
 -- ---- a candidate
@@ -148,34 +148,15 @@ fault-same d w h planes layer octave s = rw (length-map d neg, all-good-same d)
 
 -- ---- what the table accepts
 
-first-none : (n : ℕ) (b : Bool) (ls : List Line) → firstFault (line (suc n) b ∷ ls) ≡ 0 → (b ≡ false) × (firstFault ls ≡ 0)
-unfolding firstFault
-first-none n true ls h = absurd (omega arith)
-first-none n false ls h = (refl, h)
-
-layers-in : (planes layer layers : ℕ) → layersWrong planes layer layers ≡ false → (1 ≤ layer) × (layer ≤ layers) × (layers ≤ maxLayers)
-unfolding layersWrong
-layers-in planes layer layers h = go (leb 1 layer) (leb layer layers) (leb (layers + 2) planes) refl refl (or-neither (not (leb 1 layer && (leb layer layers && leb (layers + 2) planes))) (ltb maxLayers layers || ltb maxPlanes planes) h)
-  where
-    go : (a b c : Bool) → leb 1 layer ≡ a → leb layer layers ≡ b → (not (a && (b && c)) ≡ false) × ((ltb maxLayers layers || ltb maxPlanes planes) ≡ false) → (1 ≤ layer) × (layer ≤ layers) × (layers ≤ maxLayers)
-    go true true c p q r = (leb-true 1 layer p, leb-true layer layers q, ltb-false maxLayers layers (or-neither (ltb maxLayers layers) (ltb maxPlanes planes) (r .1) .0))
-    go true false c p q r = absurd (true≢false (r .0))
-    go false b c p q r = absurd (true≢false (r .0))
-
 record Taken (layer : ℕ) (s : Settings) : Type 0 where
   first : 1 ≤ layer
   floor : le nought (thresholdOf (s .contrast) (s .layers)) ≡ true
 
 taken : (d : List Float) (w h planes layer octave : ℕ) (s : Settings) → faultOf d w h planes layer octave s ≡ 0 → Taken layer s
-unfolding faultOf settingsWrong
 taken d w h planes layer octave s z =
-    let a = first-none 0 (shapeWrong w h) _ z in
-    let b = first-none 1 (layersWrong planes layer (s .layers)) _ (a .1) in
-    let c = first-none 2 (lengthWrong (length d) (planes * h * w)) _ (b .1) in
-    let g = first-none 3 (settingsWrong s octave) _ (c .1) in
-    let l = layers-in planes layer (s .layers) (b .0) in
-    let q = or-neither (contrastWrong (s .contrast)) _ (g .0) in
-    record { first = l .0; floor = threshold-bounds (s .contrast) (q .0) (s .layers) (omega (arith, l)) (l .2) .low }
+    let a = right d w h planes layer octave s z in
+    let k = a .stack in
+    record { first = k .first; floor = threshold-bounds (s .contrast) (a .contrast) (s .layers) (omega arith) (k .many) .low }
 
 -- ---- the law
 

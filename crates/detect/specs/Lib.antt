@@ -3,3 +3,4 @@ pub mod Scan
 pub mod Entry
 pub mod Places
 pub mod SignLaw
+pub mod Rules

@@ -1,0 +1,5 @@
+pub mod Patterns
+pub mod Record
+pub mod Writer
+pub mod Oriented
+pub mod Rules

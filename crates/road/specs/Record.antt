@@ -1,0 +1,46 @@
+-- The sheet's record of a keypoint with an angle and its 128 values, as the words that the writer takes. Definitions only.
+use Prim.Native.Nat.{ℕ, _/_, _^_, _<_, _≤_}
+use mathlib.Core.Path.{_≡_}
+use mathlib.Core.Bool.{true}
+use mathlib.Core.List.{List, [], _∷_, _++_, map}
+use lib.Dec.{T}
+use lib.ListN.{length, getD}
+use lib.Ieee.{Float, nan, binary32, fits, toUnsigned}
+use lib.Ieee.Scale.{finite}
+use Rattle.ieee.specs.F32.{_<ᶠ_, _≤ᶠ_, f32, bitsOf, absOf}
+use Rattle.refine.specs.declared.RawKeypoint.{RawKeypoint}
+use Rattle.orient.specs.Keypoint.{octaveIn, layerIn}
+use Rattle.orient.specs.Entry.{orientedOf}
+use Rattle.orient.specs.declared.OrientedKeypoint.{OrientedKeypoint}
+use Rattle.sheet.specs.Layout.{valueCount}
+
+-- "code 8 (third byte of the octave word)"
+abbrev pub codeIn : ℕ → ℕ
+codeIn word = word / 2 ^ 16
+
+-- "Row and column are rr and cc; octave, layer and code the octave word's bytes"
+abbrev pub headOf : RawKeypoint → List ℕ
+headOf k = k .rr ∷ k .cc ∷ octaveIn (k .octave) ∷ layerIn (k .octave) ∷ codeIn (k .octave) ∷ []
+
+-- "the floats an oriented keypoint's"
+abbrev pub floatsOf : OrientedKeypoint → List ℕ
+floatsOf o = bitsOf (o .x) ∷ bitsOf (o .y) ∷ bitsOf (o .size) ∷ bitsOf (o .response) ∷ bitsOf (o .angle) ∷ []
+
+-- "the 128 values as whole numbers"
+abbrev pub wholesOf : List Float → List ℕ
+wholesOf values = map (toUnsigned 32) values
+
+unfoldable pub recordOf : RawKeypoint → Float → List Float → List ℕ
+recordOf k angle values = headOf k ++ (floatsOf (orientedOf k angle) ++ wholesOf values)
+
+-- an angle as orientation gives it: finite, with its sign bit clear, and below 360
+pub record Direction (angle : Float) : Type 0 where
+  pub held : T (fits binary32 angle)
+  pub ends : finite angle ≡ true
+  pub plain : absOf angle ≡ angle
+  pub below : (angle <ᶠ f32 0x43b4_0000) ≡ true
+
+-- values as the descriptor gives them: 128, each at most 255
+pub record Filled (values : List Float) : Type 0 where
+  pub all : length values ≡ valueCount
+  pub each : (i : ℕ) → i < valueCount → (getD values i nan ≤ᶠ f32 0x437f_0000) ≡ true

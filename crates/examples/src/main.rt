@@ -1,5 +1,8 @@
 // The marked examples of document 01, run through the public functions. Floats are shown by their bits; what a line says is what document 01 says of the example.
+ghost use Prim.Native.Nat.{_<_, _≤_};
 use libc::STDOUT_FILENO;
+use params::Answer;
+use params::Settings;
 use params::Threshold;
 
 fn print(text: &[u8]) {
@@ -74,7 +77,116 @@ fn thresholds() {
     threshold(b"threshold for contrast 0.04, layers 1 is 5", 0.04, 1, 5.0);
 }
 
+// Three planes of 121 samples, each of them `rest`, but for one of the middle plane's.
+fn planes(rest: f32, at: usize, value: f32) -> [f32; 363]
+    requires { ⌜ at < 121 ⌝ }
+{
+    let mut samples = [rest; 363];
+    samples[121 + at] = value;
+    samples
+}
+
+fn settings() -> Settings {
+    Settings {
+        contrast: 0.04,
+        edge: 10.0,
+        sigma: 1.6,
+        layers: 1,
+    }
+}
+
+// Detection in those planes, 11 × 11 each, at octave 0.
+fn detect_in(samples: &[f32; 363], out: &mut [u32; 10]) -> Answer {
+    detect::find_extrema(samples, 11, 11, 3, 1, 0, settings(), out)
+}
+
+// A line: the example, how many keypoints there are and how many are expected, and a mark where the two differ.
+fn show_count(example: &[u8], got: Answer, expected: usize) {
+    print(example);
+    print(b": ");
+    match got {
+        Answer::Done(n) => {
+            io::print_decimal(STDOUT_FILENO, n as u64);
+            print(b", expected ");
+            io::print_decimal(STDOUT_FILENO, expected as u64);
+            if n != expected {
+                print(b" DIFFERS");
+            }
+        }
+        Answer::Short(_) => print(b"no room DIFFERS"),
+        Answer::Refused(_) => print(b"refused DIFFERS"),
+    }
+    print(b"\n");
+}
+
+// How many keypoints there are where all samples are 0 but for 100 in one cell of the middle plane.
+fn found_at(at: usize) -> usize
+    requires { ⌜ at < 121 ⌝ }
+    ensures { λ n. ⌜ n ≤ 1 ⌝ }
+{
+    let mut out = [0u32; 10];
+    let samples = planes(0.0, at, 100.0);
+    let a = detect_in(&samples, &mut out);
+    match a {
+        Answer::Done(n) => { if n > 0 { 1 } else { 0 } }
+        Answer::Short(_) => 1,
+        Answer::Refused(_) => 1,
+    }
+}
+
+// In how many of the cells such a sample is found.
+fn cells_tried() -> usize {
+    let mut n = 0;
+    for at in 0..121 {
+        n += found_at(at);
+    }
+    n
+}
+
+// Zeros, and one value in the middle, the cell (5, 5).
+fn middle(example: &[u8], value: f32, expected: usize) {
+    let mut out = [0u32; 10];
+    let samples = planes(0.0, 60, value);
+    show_count(example, detect_in(&samples, &mut out), expected);
+}
+
+fn middle_fields(value: f32) {
+    let mut out = [0u32; 10];
+    let samples = planes(0.0, 60, value);
+    show_count(b" keypoints", detect_in(&samples, &mut out), 1);
+    show(b" x is 5", out[0], ieee::bits_of(5.0));
+    show(b" y is 5", out[1], ieee::bits_of(5.0));
+    show(b" octave word is 8388864", out[4], 8388864);
+    show(b" moves are 0", out[9], 0);
+}
+
+fn detection() {
+    let mut out = [0u32; 10];
+    let mut narrow = [0.0f32; 330];
+    narrow[165] = 100.0;
+    show_count(
+        b"width 10, 100 in the middle plane's cell (5, 5)",
+        detect::find_extrema(&narrow, 10, 11, 3, 1, 0, settings(), &mut out),
+        0,
+    );
+    show_count(
+        b"11 x 11, 100 in one cell of 121 in turn, found",
+        Answer::Done(cells_tried()),
+        1,
+    );
+    let tens = planes(10.0, 60, 10.0);
+    show_count(b"three planes of 10", detect_in(&tens, &mut out), 0);
+    print(b"zeros with 100 in the middle:\n");
+    middle_fields(100.0);
+    print(b"zeros with -100 in the middle:\n");
+    middle_fields(-100.0);
+    middle(b"with 5, no candidate", 5.0, 0);
+    middle(b"with 10, fails contrast", 10.0, 0);
+    middle(b"with 11, found", 11.0, 1);
+}
+
 fn main() {
     single_operations();
     thresholds();
+    detection();
 }

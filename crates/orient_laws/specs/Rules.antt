@@ -1,0 +1,34 @@
+-- What is proved of the angles that orientation gives: proofs/Rules.antt proves each. Definitions only.
+use Prim.Native.Nat.{ℕ, _<_, _≤_}
+use mathlib.Core.Path.{_≡_}
+use mathlib.Core.Bool.{true, false}
+use mathlib.Core.List.{List}
+use lib.ListN.{length, getD}
+use lib.IntN.{pos}
+use lib.Ieee.{Float, nan, fin}
+use lib.Ieee.Scale.{finite}
+use Rattle.ieee.specs.F32.{_<ᶠ_, _≤ᶠ_, bitsOf}
+use Rattle.sheet.specs.Layout.{largestAngle}
+use Rattle.refine.specs.declared.RawKeypoint.{RawKeypoint}
+use Rattle.tally.specs.Tally.{tallyOf}
+use Rattle.peaks.specs.Peaks.{bins, nought, turn}
+use Rattle.orient.specs.Entry.{windowAt, orientFault, orientedOf, orientedList}
+
+-- in 0 to below 360, and written with bits that a sheet takes: finite, with the sign bit clear, so that no angle is −0
+pub record Turn (angle : Float) : Type 0 where
+  pub least : (nought ≤ᶠ angle) ≡ true
+  pub below : (angle <ᶠ turn) ≡ true
+  pub ends : finite angle ≡ true
+  pub bits : bitsOf angle ≤ largestAngle
+
+-- the most that a bin of the tally holds: 2 ^ 46
+abbrev pub fullest : Float
+fullest = fin false 1 (pos 46)
+
+pub record AnglesRule : Type 0 where
+  -- of accepted arguments every bin of the tally lies in 0 to 2 ^ 46, however many samples there are
+  pub bin : (img : List Float) (width height : ℕ) (k : RawKeypoint) (i : ℕ) → orientFault img width height k ≡ 0 → i < bins
+      → ((nought ≤ᶠ getD (tallyOf img (windowAt width height k) .bins) i nan) ≡ true) × ((getD (tallyOf img (windowAt width height k) .bins) i nan ≤ᶠ fullest) ≡ true)
+  -- and the angle of every oriented keypoint lies in 0 to below 360
+  pub angle : (img : List Float) (width height : ℕ) (k : RawKeypoint) (i : ℕ) → orientFault img width height k ≡ 0 → i < length (orientedList img width height k)
+      → Turn (getD (orientedList img width height k) i (orientedOf k nan) .angle)

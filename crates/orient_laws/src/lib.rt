@@ -1,0 +1,1 @@
+// Laws of orientation's angles: nothing to run.

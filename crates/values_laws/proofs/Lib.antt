@@ -1,0 +1,4 @@
+pub mod Lists
+pub mod Signs
+pub mod Zeros
+pub mod Rules

@@ -12,7 +12,8 @@ use lib.Seq.{getD-append-add}
 use lib.IntN.{pos}
 use lib.Ieee.{Float, nan, fin, lt, ofBits}
 use Rattle.packing.proofs.Size.{le-or-lt}
-use Rattle.ieee.proofs.Order.{le-lt-trans}
+use Rattle.ieee.specs.F32.{absOf}
+use Rattle.ieee.proofs.Order.{le-lt-trans, Marked, endless, ended}
 use Rattle.ieee.proofs.Bounds.{bounds-finite, marked-nonneg}
 use Rattle.lists.specs.Ranges.{joined}
 use Rattle.lists.proofs.Ranges.{joined-start, joined-more}
@@ -139,9 +140,14 @@ module _ (img : List Float) (w h : ℕ) (k : RawKeypoint) (fine : orientFault im
       let a = aimed w h k (right .shape) (right .keypoint) in
       tally-filled img (length img) w h (k .rr) (k .cc) (scaleOf k) (ready-fits w h k (length img) (record { whole = same-length; aimed = a })) (a .row) (a .column) (a .scale) (right .good)
 
+  plain : {a : Float} → Marked false a → absOf a ≡ a
+  unfolding absOf
+  plain endless = refl
+  plain ended = refl
+
   turn-of : (a : Float) → Angle a → Turn a
   unfolding ofBits
-  turn-of a g = record { least = marked-nonneg (g .clear); below = g .below; ends = angle-finite a (g .clear) (g .below); bits = pattern a g }
+  turn-of a g = record { least = marked-nonneg (g .clear); below = g .below; ends = angle-finite a (g .clear) (g .below); plain = plain (g .clear); held = g .held; bits = pattern a g }
 
   angle : (i : ℕ) → i < length (orientedList img w h k) → Turn (getD (orientedList img w h k) i (orientedOf k nan) .angle)
   unfolding orientedList anglesAt Each

@@ -3,11 +3,12 @@ use Prim.Native.Nat.{ℕ, _<_, _≤_}
 use mathlib.Core.Path.{_≡_}
 use mathlib.Core.Bool.{true, false}
 use mathlib.Core.List.{List}
+use lib.Dec.{T}
 use lib.ListN.{length, getD}
 use lib.IntN.{pos}
-use lib.Ieee.{Float, nan, fin}
+use lib.Ieee.{Float, nan, fin, binary32, fits}
 use lib.Ieee.Scale.{finite}
-use Rattle.ieee.specs.F32.{_<ᶠ_, _≤ᶠ_, bitsOf}
+use Rattle.ieee.specs.F32.{_<ᶠ_, _≤ᶠ_, bitsOf, absOf}
 use Rattle.sheet.specs.Layout.{largestAngle}
 use Rattle.refine.specs.declared.RawKeypoint.{RawKeypoint}
 use Rattle.tally.specs.Tally.{tallyOf}
@@ -19,6 +20,8 @@ pub record Turn (angle : Float) : Type 0 where
   pub least : (nought ≤ᶠ angle) ≡ true
   pub below : (angle <ᶠ turn) ≡ true
   pub ends : finite angle ≡ true
+  pub plain : absOf angle ≡ angle
+  pub held : T (fits binary32 angle)
   pub bits : bitsOf angle ≤ largestAngle
 
 -- the most that a bin of the tally holds: 2 ^ 46

@@ -1,35 +1,38 @@
 -- The record of a sound keypoint keeps the sheet's rules. Assumes nothing.
 use Prim.Native.Nat.{ℕ, zero, suc, _+_, _-_, _^_, _<_, _≤_}
-use native.Mathlib.Nat.{zero-lt-suc}
+use native.Mathlib.Nat.{le-trans, lt-of-le-of-lt, zero-lt-suc}
 use native.Mathlib.Omega.{arith}
 use mathlib.Core.Path.{_≡_, refl, sym, ap, _∙_, subst}
 use mathlib.Core.Bool.{true, false, _&&_, false≢true}
 use mathlib.Core.List.{List, [], _∷_, _++_, map, append-nil}
-use lib.Dec.{T, leb, le→leb, lit≤}
+use lib.Dec.{T, leb, le→leb, lit<, lit≤}
+use lib.Ieee.Back.{unsigned-back}
 use lib.ListN.{length, getD, replicate, length-append}
-use lib.Ieee.{Float, nan, inf, fin, binary32, fits, toUnsigned, ofBits, lt, le}
+use lib.Ieee.{Float, nan, inf, fin, binary32, fits, toUnsigned, inFloat, lt}
 use lib.Ieee.Scale.{finite}
 use lib.Ieee.Bits.{is-true}
-use Rattle.ieee.specs.F32.{f32, bitsOf, absOf}
-use Rattle.ieee.proofs.Monotone.{nil, toUnsigned-le}
+use Rattle.ieee.specs.F32.{bitsOf, absOf}
+use Rattle.ieee.proofs.Monotone.{nil}
 use Rattle.ieee.proofs.Bounds.{zero-is}
 use Rattle.params.specs.Limits.{border, maxOctave}
 use Rattle.params.specs.declared.Settings.{Settings}
 use Rattle.refine.specs.Moves.{nought}
 use Rattle.refine.specs.Sound.{Sound, Number}
 use Rattle.refine.specs.declared.RawKeypoint.{RawKeypoint}
-use Rattle.orient.specs.Keypoint.{octaveIn, layerIn}
+use Rattle.orient.specs.Keypoint.{layerIn}
 use Rattle.orient.specs.Entry.{orientedOf}
+use Rattle.orient_laws.specs.Rules.{Turn}
+use Rattle.values_laws.specs.Rules.{Byte}
 use Rattle.sheet.specs.Pack.{Slot, slot, sound}
-use Rattle.sheet.specs.Layout.{Frame, edition1, valueCount, valueSlots, headSlots, floatSlots, largestFinite, leastPositive, largestAngle}
+use Rattle.sheet.specs.Layout.{Frame, edition1, valueCount, valueSlots, headSlots, floatSlots, largestFinite, leastPositive}
 use Rattle.sheet.specs.Sheet.{recordRight}
 use Rattle.sheet.specs.Words.{plainWords, headWords, filled}
 use Rattle.sheet.specs.Writes.{frameOf, wordsRight, layerRight}
 use Rattle.sheet.proofs.Words.{filled-is}
 use Rattle.sheet.proofs.Lawful.{lawful1}
 use Rattle.sheet.proofs.Runs.{right-runs}
-use Rattle.road.specs.Record.{codeIn, headOf, floatsOf, wholesOf, recordOf, Direction, Filled}
-use Rattle.road.proofs.Patterns.{finite-bits, bits-below, bits-above}
+use Rattle.road.specs.Record.{codeIn, headOf, floatsOf, wholesOf, recordOf, Filled}
+use Rattle.road.proofs.Patterns.{finite-bits, bits-above}
 
 -- ---- a slot at a time
 
@@ -50,15 +53,17 @@ length-map : (g : Float → ℕ) (xs : List Float) → length (map g xs) ≡ len
 length-map g [] = refl
 length-map g (x ∷ xs) = ap suc (length-map g xs)
 
-full-is : toUnsigned 32 (f32 0x437f_0000) ≡ 255
-unfolding toUnsigned ofBits
-full-is = refl
+-- a whole number from 0 to 255 is taken as itself
+byte-is : (v : Float) → Byte v → toUnsigned 32 v ≤ 255
+unfolding inFloat
+byte-is v b =
+    let n = unsigned-back binary32 32 (b .number) (le→leb (b .number) (2 ^ 24) (le-trans (b .small) (lit≤ tt))) (lt-of-le-of-lt (b .small) (lit< tt)) .1 in
+    subst (λ (m : ℕ). m ≤ 255) (sym (ap (toUnsigned 32) (b .is) ∙ n)) (b .small)
 
-each-right : (n : ℕ) (vs : List Float) → length vs ≡ n → ((i : ℕ) → i < n → le (getD vs i nan) (f32 0x437f_0000) ≡ true) → sound (replicate n (slot 8 0 255)) (wholesOf vs) ≡ true
+each-right : (n : ℕ) (vs : List Float) → length vs ≡ n → ((i : ℕ) → i < n → Byte (getD vs i nan)) → sound (replicate n (slot 8 0 255)) (wholesOf vs) ≡ true
 each-right zero [] e h = no-more
 each-right (suc n) (v ∷ vs) e h =
-    one-more (slot 8 0 255) (replicate n (slot 8 0 255)) (toUnsigned 32 v) (wholesOf vs) (omega arith)
-    (subst (λ (m : ℕ). toUnsigned 32 v ≤ m) full-is (toUnsigned-le 32 v (f32 0x437f_0000) (h 0 (zero-lt-suc n))))
+    one-more (slot 8 0 255) (replicate n (slot 8 0 255)) (toUnsigned 32 v) (wholesOf vs) (omega arith) (byte-is v (h 0 (zero-lt-suc n)))
     (each-right n vs (omega (arith, e)) (λ i l. h (suc i) (omega (arith, l))))
 each-right zero (v ∷ vs) e h = absurd (omega (arith, e))
 each-right (suc n) [] e h = absurd (omega (arith, e))
@@ -76,12 +81,9 @@ above-plain (fin true m e) l = absurd (false≢true l)
 above-right : (x : Float) → T (fits binary32 x) → finite x ≡ true → lt nil x ≡ true → (leastPositive ≤ bitsOf x) × (bitsOf x ≤ largestFinite)
 above-right x f n l = (bits-above x f n (above-plain x l) l, finite-bits x f n (above-plain x l))
 
-less-than : (n : ℕ) → n < 0x43b4_0000 → n ≤ largestAngle
-less-than n l = omega (arith, l)
-
 -- ---- the record of a sound keypoint, on the frame whose octave it is of
 
-module _ (w h : ℕ) (s : Settings) (o : ℕ) (k : RawKeypoint) (good : Sound w h s o k) (angle : Float) (turn : Direction angle) (values : List Float) (full : Filled values)
+module _ (w h : ℕ) (s : Settings) (o : ℕ) (k : RawKeypoint) (good : Sound w h s o k) (angle : Float) (turn : Turn angle) (values : List Float) (full : Filled values)
     (wide high : ℕ) (across : w ≤ wide) (down : h ≤ high) (octave : o ≤ maxOctave) where
   abbrev frame : Frame
   frame = frameOf wide high (s .layers)
@@ -114,7 +116,7 @@ module _ (w h : ℕ) (s : Settings) (o : ℕ) (k : RawKeypoint) (good : Sound w 
       (one-more _ _ _ _ (omega arith) (positive-right (k .y) (good .y-number) (good .y-above) .1)
       (one-more _ _ _ _ (positive-right (k .size) (good .size-number) (good .size-above) .0) (positive-right (k .size) (good .size-number) (good .size-above) .1)
       (one-more _ _ _ _ (omega arith) (finite-bits (k .response) (good .response-number .held) (good .response-number .ends) (good .response-plain))
-      (one-more _ _ _ _ (omega arith) (less-than (bitsOf angle) (bits-below angle (turn .held) (turn .ends) (turn .plain) 0x43b4_0000 (lit≤ tt) (turn .below))) no-more))))
+      (one-more _ _ _ _ (omega arith) (turn .bits) no-more))))
 
   values-right : sound valueSlots (wholesOf values) ≡ true
   values-right = each-right valueCount values (full .all) (full .each)

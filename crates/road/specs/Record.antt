@@ -1,17 +1,15 @@
 -- The sheet's record of a keypoint with an angle and its 128 values, as the words that the writer takes. Definitions only.
-use Prim.Native.Nat.{ℕ, _/_, _^_, _<_, _≤_}
+use Prim.Native.Nat.{ℕ, _/_, _^_, _<_}
 use mathlib.Core.Path.{_≡_}
-use mathlib.Core.Bool.{true}
 use mathlib.Core.List.{List, [], _∷_, _++_, map}
-use lib.Dec.{T}
 use lib.ListN.{length, getD}
-use lib.Ieee.{Float, nan, binary32, fits, toUnsigned}
-use lib.Ieee.Scale.{finite}
-use Rattle.ieee.specs.F32.{_<ᶠ_, _≤ᶠ_, f32, bitsOf, absOf}
+use lib.Ieee.{Float, nan, toUnsigned}
+use Rattle.ieee.specs.F32.{bitsOf}
 use Rattle.refine.specs.declared.RawKeypoint.{RawKeypoint}
 use Rattle.orient.specs.Keypoint.{octaveIn, layerIn}
 use Rattle.orient.specs.Entry.{orientedOf}
 use Rattle.orient.specs.declared.OrientedKeypoint.{OrientedKeypoint}
+use Rattle.values_laws.specs.Rules.{Byte}
 use Rattle.sheet.specs.Layout.{valueCount}
 
 -- "code 8 (third byte of the octave word)"
@@ -33,14 +31,7 @@ wholesOf values = map (toUnsigned 32) values
 unfoldable pub recordOf : RawKeypoint → Float → List Float → List ℕ
 recordOf k angle values = headOf k ++ (floatsOf (orientedOf k angle) ++ wholesOf values)
 
--- an angle as orientation gives it: finite, with its sign bit clear, and below 360
-pub record Direction (angle : Float) : Type 0 where
-  pub held : T (fits binary32 angle)
-  pub ends : finite angle ≡ true
-  pub plain : absOf angle ≡ angle
-  pub below : (angle <ᶠ f32 0x43b4_0000) ≡ true
-
--- values as the descriptor gives them: 128, each at most 255
+-- values as the descriptor gives them: 128 whole numbers from 0 to 255
 pub record Filled (values : List Float) : Type 0 where
   pub all : length values ≡ valueCount
-  pub each : (i : ℕ) → i < valueCount → (getD values i nan ≤ᶠ f32 0x437f_0000) ≡ true
+  pub each : (i : ℕ) → i < valueCount → Byte (getD values i nan)

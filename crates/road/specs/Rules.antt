@@ -11,10 +11,11 @@ use Rattle.refine.specs.Sound.{Sound}
 use Rattle.refine.specs.declared.RawKeypoint.{RawKeypoint}
 use Rattle.detect.specs.Entry.{faultOf, listOf}
 use Rattle.orient.specs.Entry.{orientFault}
+use Rattle.orient_laws.specs.Rules.{Turn}
 use Rattle.sheet.specs.Layout.{edition1}
 use Rattle.sheet.specs.Writes.{frameOf, wordsRight}
 use Rattle.road.specs.Planes.{Plane}
-use Rattle.road.specs.Record.{recordOf, Direction, Filled}
+use Rattle.road.specs.Record.{recordOf, Filled}
 
 pub record RoadRule : Type 0 where
   -- of an accepted stack, every keypoint found is accepted by orientation on every accepted picture of that size
@@ -22,5 +23,5 @@ pub record RoadRule : Type 0 where
       → (img : List Float) → Plane img w h → (past : RawKeypoint) (i : ℕ) → i < length (listOf d w h layer octave s)
       → orientFault img w h (getD (listOf d w h layer octave s) i past) ≡ 0
   -- the record of a sound keypoint keeps the sheet's rules on every frame that is no smaller than its octave's picture
-  pub recorded : (w h octave : ℕ) (s : Settings) (k : RawKeypoint) (angle : Float) (values : List Float) → octave ≤ maxOctave → Sound w h s octave k → Direction angle → Filled values
+  pub recorded : (w h octave : ℕ) (s : Settings) (k : RawKeypoint) (angle : Float) (values : List Float) → octave ≤ maxOctave → Sound w h s octave k → Turn angle → Filled values
       → (wide high : ℕ) → w ≤ wide → h ≤ high → wordsRight edition1 (frameOf wide high (s .layers)) (recordOf k angle values) ≡ true

@@ -1,9 +1,8 @@
-# run: the main job. test: the gate (`rt ci` and the host side), which ends with the line 'N passed, 0 failed'.
+# run: the main job on the shipped frame. test: the gate (`rt ci` and the host side), which ends with the line 'N passed, 0 failed'.
 .PHONY: run test
 
 run:
-	rt check examples
-	target/bin/examples
+	host/run
 
 test:
 	host/gate

@@ -1,0 +1,74 @@
+//! Files in and out; `-` is standard input or output.
+
+use crate::Trouble;
+use crate::pgm::{self, Frame};
+use bargeclover::{Refusal, Sheet, read_sheet};
+use std::fs::{self, File};
+use std::io::{self, Read, Write};
+use std::path::Path;
+
+/// More than any plain PGM of 8,192 by 8,192 samples of 16 bits needs.
+const MOST_FRAME: u64 = 1 << 30;
+
+/// One byte more than the longest sheet has.
+const MOST_SHEET: u64 = 8 + 154 * 1_048_575 + 1;
+
+fn is_dash(path: &Path) -> bool {
+    path.as_os_str() == "-"
+}
+
+/// The file's bytes, up to a number of them.
+fn read(path: &Path, most: u64) -> Result<Vec<u8>, Trouble> {
+    let mut bytes = Vec::new();
+    let taken = if is_dash(path) {
+        io::stdin().lock().take(most).read_to_end(&mut bytes)
+    } else {
+        File::open(path).and_then(|f| f.take(most).read_to_end(&mut bytes))
+    };
+    taken.map_err(|e| Trouble::reading(path, e))?;
+    Ok(bytes)
+}
+
+pub fn frame(path: &Path) -> Result<Frame, Trouble> {
+    let bytes = read(path, MOST_FRAME)?;
+    pgm::read(&bytes).map_err(|f| Trouble::Refused(format!("{}: {f}", path.display())))
+}
+
+/// A sheet's bytes, whatever they are.
+pub fn sheet_bytes(path: &Path) -> Result<Vec<u8>, Trouble> {
+    read(path, MOST_SHEET)
+}
+
+/// A sound sheet, and which of its records are all zero.
+pub fn sheet(path: &Path) -> Result<(Sheet, Vec<bool>), Trouble> {
+    let bytes = sheet_bytes(path)?;
+    read_sheet(&bytes).map_err(|r| unsound(path, &bytes, r))
+}
+
+/// Why a sheet is refused: the library's number and words, and what a look at its fields finds.
+pub fn unsound(path: &Path, bytes: &[u8], refusal: Refusal) -> Trouble {
+    let why =
+        crate::table::fault(bytes).unwrap_or("no fault was found by looking at its fields".into());
+    Trouble::Refused(format!("{}: {refusal}: {why}", path.display()))
+}
+
+/// Writes a file whole or not at all: beside it first, and then in its place. What is no plain file, as a pipe, is written to.
+pub fn write(path: &Path, bytes: &[u8]) -> Result<(), Trouble> {
+    let to = |e| Trouble::writing(path, e);
+    if is_dash(path) {
+        let mut out = io::stdout().lock();
+        return out.write_all(bytes).and_then(|()| out.flush()).map_err(to);
+    }
+    let place = fs::canonicalize(path).unwrap_or(path.into());
+    if fs::metadata(&place).is_ok_and(|m| !m.is_file()) {
+        return fs::write(&place, bytes).map_err(to);
+    }
+    let mut name = place.file_name().unwrap_or_default().to_os_string();
+    name.push(format!(".{}.part", std::process::id()));
+    let part = place.with_file_name(name);
+    let written = fs::write(&part, bytes).and_then(|()| fs::rename(&part, &place));
+    if written.is_err() {
+        let _ = fs::remove_file(&part);
+    }
+    written.map_err(to)
+}

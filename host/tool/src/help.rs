@@ -1,0 +1,179 @@
+//! What the tool says of itself.
+
+use crate::args::Opt;
+use std::fmt::Write;
+
+/// A command, as its help shows it.
+pub struct Command {
+    pub name: &'static str,
+    pub files: &'static str,
+    pub about: &'static str,
+    pub options: &'static [&'static [Opt]],
+    pub more: &'static str,
+}
+
+const fn opt(
+    name: &'static str,
+    letter: Option<char>,
+    value: Option<&'static str>,
+    about: &'static str,
+) -> Opt {
+    Opt {
+        name,
+        letter,
+        value,
+        about,
+    }
+}
+
+const HELP: &[Opt] = &[opt("help", Some('h'), None, "show this and end")];
+
+const SEARCH: &[Opt] = &[
+    opt(
+        "contrast",
+        None,
+        Some("NUMBER"),
+        "drop weaker extrema, 0 to 1 [0.04]",
+    ),
+    opt(
+        "edge",
+        None,
+        Some("NUMBER"),
+        "drop what lies along an edge, 1 to 1000 [10]",
+    ),
+    opt(
+        "sigma",
+        None,
+        Some("NUMBER"),
+        "blur of the first plane, 0.5 to 16 [1.6]",
+    ),
+    opt(
+        "layers",
+        None,
+        Some("NUMBER"),
+        "layers searched in an octave, 1 to 15 [3]",
+    ),
+    opt(
+        "double",
+        None,
+        None,
+        "search the frame at twice its width and height first",
+    ),
+    opt("quiet", Some('q'), None, "show no progress"),
+];
+
+const CSV: &[Opt] = &[opt(
+    "csv",
+    None,
+    None,
+    "comma-separated lines, every number exact",
+)];
+
+const PLANES: &str = "\
+The frame is a PGM file (P5 or P2, 8 or 16 bits); its samples are scaled to 0 to 255. The planes that are searched are made by
+this tool and are not part of what is proved; what the library does with them is.
+With --double the octaves, cells, x, y and size are those of the doubled frame: octave 0 is twice as wide and high as the file.";
+
+pub const FIND: Command = Command {
+    name: "find",
+    files: "FRAME.pgm",
+    about: "list the keypoints of a frame with their directions",
+    options: &[CSV, SEARCH, HELP],
+    more: PLANES,
+};
+
+pub const SHOW: Command = Command {
+    name: "show",
+    files: "SHEET",
+    about: "print a sheet as a table",
+    options: &[
+        &[opt("record", Some('r'), Some("NUMBER"), "one record in full, counted from 0")],
+        CSV,
+        HELP,
+    ],
+    more: "\
+The table's numbers are rounded; --csv has them exact, with the 128 values. x, y and size are in cells of octave 0, row and column
+are the keypoint's cell in its own octave, the angle is in degrees, clockwise from the right. \"all zero\" marks records whose 128
+values are all zero: the patch was flat or no cell of it was read, and a sheet of edition 1 can't say which.",
+};
+
+pub const CHECK: Command = Command {
+    name: "check",
+    files: "SHEET..",
+    about: "say whether sheets are sound",
+    options: &[HELP],
+    more: "\
+One line for each sheet: that it is sound, or the library's number and the first field found at fault. Ends with 0 where all
+are sound and with 1 where one is not.",
+};
+
+pub const DRAW: Command = Command {
+    name: "draw",
+    files: "FRAME.pgm [SHEET]",
+    about: "draw keypoints over their frame, as PNG or SVG",
+    options: &[
+        &[
+            opt("output", Some('o'), Some("FILE"), "the picture, a name that ends in .png or .svg"),
+            opt("zoom", Some('z'), Some("NUMBER"), "cells of the picture for each of the frame, 1 to 16"),
+        ],
+        SEARCH,
+        HELP,
+    ],
+    more: "\
+A circle is as large as the keypoint's size, its line shows the direction, its colour the octave. Records whose 128 values are
+all zero are dashed and crossed. Without a SHEET the frame is searched, as `bargeclover find` does, and the options for that apply.
+A SHEET of the doubled frame is drawn on the frame itself.",
+};
+
+pub const COMMANDS: &[&Command] = &[&FIND, &SHOW, &CHECK, &DRAW];
+
+impl Command {
+    /// All its options.
+    pub fn known(&self) -> Vec<Opt> {
+        self.options.concat()
+    }
+
+    pub fn help(&self) -> String {
+        let mut s = format!(
+            "bargeclover {}: {}\n\n  bargeclover {} {} [OPTIONS]\n\n",
+            self.name, self.about, self.name, self.files
+        );
+        for o in self.known() {
+            let letter = o.letter.map_or("    ".into(), |l| format!("-{l}, "));
+            let value = o.value.map_or(String::new(), |v| format!(" {v}"));
+            let left = format!("{letter}--{}{value}", o.name);
+            let _ = writeln!(s, "  {left:<26}{}", o.about);
+        }
+        let _ = write!(s, "\n{}\n", self.more);
+        s
+    }
+}
+
+pub fn general() -> String {
+    let mut s = String::from(
+        "bargeclover: keypoints for tying frames of aerial film together\n\n  bargeclover COMMAND FILES [OPTIONS]\n\n",
+    );
+    for c in COMMANDS {
+        let left = format!("{} {}", c.name, c.files);
+        let _ = writeln!(s, "  {left:<26}{}", c.about);
+    }
+    for (left, about) in [
+        (
+            "help [COMMAND]",
+            "what a command does and its options; also COMMAND --help",
+        ),
+        ("--version", "the version"),
+    ] {
+        let _ = writeln!(s, "  {left:<26}{about}");
+    }
+    s += "
+A file named - is standard input or output. What is printed goes to standard output, complaints and progress to standard error.
+Ends with 0 where all is done, 1 where a frame, a sheet or a setting is refused, 2 where the command is written wrongly, and 3 where
+a file can't be read or written.
+";
+    s
+}
+
+pub fn version() -> String {
+    format!("bargeclover {}\n", env!("CARGO_PKG_VERSION"))
+}

@@ -1,0 +1,20 @@
+//! The command-line tool `bargeclover`: from a frame to a sheet of keypoints, and tables and pictures of it. The proved library does
+//! the work on keypoints and sheets; this crate reads frames, makes the planes, and prints and draws. Nothing in it is trusted.
+
+pub mod args;
+pub mod canvas;
+pub mod commands;
+pub mod draw;
+pub mod files;
+pub mod find;
+pub mod font;
+pub mod help;
+pub mod pgm;
+pub mod png;
+pub mod progress;
+pub mod pyramid;
+pub mod svg;
+pub mod table;
+pub mod trouble;
+
+pub use trouble::Trouble;

@@ -1,0 +1,129 @@
+//! The picture as SVG: the frame inside it as a grey PNG, the marks as shapes that say their fields where a pointer rests on them.
+
+use crate::draw::{Entry, ZERO, colour, in_order, legend, place, shade};
+use crate::pgm::Frame;
+use crate::png::{self, Kind};
+use crate::table::Mark;
+use std::fmt::Write;
+
+/// The letters of base 64.
+fn base64(bytes: &[u8]) -> String {
+    const LETTERS: &[u8; 64] = b"ABCDEFGHIJKLMNOPQRSTUVWXYZabcdefghijklmnopqrstuvwxyz0123456789+/";
+    let mut out = String::with_capacity(bytes.len().div_ceil(3) * 4);
+    for part in bytes.chunks(3) {
+        let n = part.iter().fold(0u32, |n, b| n << 8 | u32::from(*b)) << (8 * (3 - part.len()));
+        for k in 0..4 {
+            out.push(if k <= part.len() {
+                LETTERS[(n >> (18 - 6 * k)) as usize & 63] as char
+            } else {
+                '='
+            });
+        }
+    }
+    out
+}
+
+fn hex([r, g, b]: [u8; 3]) -> String {
+    format!("#{r:02x}{g:02x}{b:02x}")
+}
+
+fn shape(m: &Mark, doubled: bool) -> String {
+    let p = place(m, doubled);
+    let (x, y, r) = (p.x, p.y, p.radius);
+    let mut path = format!(
+        "M{:.2} {y:.2}a{r:.2} {r:.2} 0 1 0 {:.2} 0a{r:.2} {r:.2} 0 1 0 {:.2} 0M{x:.2} {y:.2}L{:.2} {:.2}",
+        x - r,
+        2.0 * r,
+        -2.0 * r,
+        p.end.0,
+        p.end.1
+    );
+    if m.blank {
+        let a = (r * 0.5).min(3.0);
+        let _ = write!(
+            path,
+            "M{:.2} {:.2}l{:.2} {:.2}m0 {:.2}l{:.2} {:.2}",
+            x - a,
+            y - a,
+            2.0 * a,
+            2.0 * a,
+            -2.0 * a,
+            -2.0 * a,
+            2.0 * a
+        );
+    }
+    let (look, zero) = if m.blank {
+        (
+            format!("stroke=\"{}\" stroke-dasharray=\"1.5 1\"", hex(ZERO)),
+            ", all zero",
+        )
+    } else {
+        (format!("stroke=\"{}\"", hex(colour(m.octave))), "")
+    };
+    format!(
+        "<path d=\"{path}\" {look}><title>x {}, y {}, size {}, response {}, angle {}, octave {}, layer {}, row {}, column {}{zero}</title></path>\n",
+        m.x, m.y, m.size, m.response, m.angle, m.octave, m.layer, m.row, m.column
+    )
+}
+
+pub fn to_svg(frame: &Frame, marks: &[Mark], doubled: bool, zoom: usize) -> String {
+    let (w, h) = (frame.width, frame.height);
+    let grey: Vec<u8> = frame.samples.iter().map(|v| shade(*v)).collect();
+    let inside = base64(&png::encode(w, h, Kind::Grey, &grey));
+    // a line of the legend for each entry, in a size that goes with the frame
+    let letter = (w as f32 / 45.0).clamp(3.0, 60.0);
+    let entries = legend(marks);
+    let below = letter * 1.6 * entries.len() as f32 + letter;
+    let high = h as f32 + below;
+    let mut s = format!(
+        "<svg xmlns=\"http://www.w3.org/2000/svg\" viewBox=\"0 0 {w} {high:.2}\" width=\"{}\" height=\"{:.0}\">\n\
+         <rect width=\"{w}\" height=\"{high:.2}\" fill=\"#0c1016\"/>\n\
+         <image width=\"{w}\" height=\"{h}\" style=\"image-rendering:pixelated\" href=\"data:image/png;base64,{inside}\"/>\n\
+         <clipPath id=\"frame\"><rect width=\"{w}\" height=\"{h}\"/></clipPath>\n\
+         <g fill=\"none\" stroke-width=\"0.5\" pointer-events=\"all\" clip-path=\"url(#frame)\">\n",
+        w * zoom,
+        high * zoom as f32,
+    );
+    for m in in_order(marks) {
+        s += &shape(m, doubled);
+    }
+    s += "</g>\n";
+    let _ = writeln!(
+        s,
+        "<g font-family=\"sans-serif\" font-size=\"{letter:.2}\">"
+    );
+    for (k, e) in entries.iter().enumerate() {
+        let (fill, words) = match e {
+            Entry::Words(w) => ("#e2e6eb".into(), w),
+            Entry::Octave(o, w) => (hex(colour(*o)), w),
+            Entry::Zero(w) => (hex(ZERO), w),
+        };
+        let y = h as f32 + letter * 1.6 * (k as f32 + 1.0);
+        let _ = writeln!(
+            s,
+            "<text x=\"{letter:.2}\" y=\"{y:.2}\" fill=\"{fill}\">{words}</text>"
+        );
+    }
+    s += "</g>\n</svg>\n";
+    s
+}
+
+#[cfg(test)]
+mod tests {
+    use super::*;
+
+    #[test]
+    fn base64_as_in_its_standard() {
+        for (bytes, words) in [
+            ("", ""),
+            ("f", "Zg=="),
+            ("fo", "Zm8="),
+            ("foo", "Zm9v"),
+            ("foob", "Zm9vYg=="),
+            ("fooba", "Zm9vYmE="),
+            ("foobar", "Zm9vYmFy"),
+        ] {
+            assert_eq!(base64(bytes.as_bytes()), words);
+        }
+    }
+}

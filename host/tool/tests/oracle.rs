@@ -1,0 +1,113 @@
+//! From a frame to oriented keypoints, the tool beside the published Rust on the same planes, word for word.
+
+use bargeclover::Settings;
+use cases::Rng;
+use tool::find::{self, Wanted};
+use tool::pgm::{self, Frame};
+use tool::progress::Progress;
+use tool::pyramid::Pyramid;
+
+type Words = ([u32; 10], [u32; 6]);
+
+fn coast(width: usize, height: usize, seed: u64) -> Frame {
+    pgm::read(&coast::frame(width, height, seed).to_pgm()).unwrap()
+}
+
+fn noise(width: usize, height: usize, seed: u64) -> Frame {
+    let mut rng = Rng::new(seed);
+    Frame {
+        width,
+        height,
+        samples: (0..width * height).map(|_| rng.below(256) as f32).collect(),
+    }
+}
+
+/// What the published Rust finds, layer by layer of where a keypoint settled.
+fn theirs(f: &Frame, w: &Wanted) -> Vec<Words> {
+    let s = &w.settings;
+    let mut all = Vec::new();
+    for octave in Pyramid::new(&f.samples, f.width, f.height, s, w.double) {
+        let found: Vec<[u32; 10]> = (1..=s.layers)
+            .flat_map(|layer| oracle::find_extrema(&octave.stack(), layer, octave.number, s))
+            .collect();
+        for layer in 1..=s.layers {
+            for k in found.iter().filter(|k| k[5] as usize == layer) {
+                let plane = &octave.gaussian[layer];
+                let (list, _) = oracle::assign_orientations(plane, octave.width, octave.height, k);
+                all.extend(list.into_iter().map(|o| (*k, o)));
+            }
+        }
+    }
+    all
+}
+
+fn ours(f: &Frame, w: &Wanted) -> Vec<Words> {
+    let mut all = Vec::new();
+    find::each(f, w, &mut Progress::none(), |_, k, o| {
+        all.push((k.to_words(), o.to_words()));
+        Ok(())
+    })
+    .unwrap();
+    all
+}
+
+fn hold(f: &Frame, w: &Wanted) -> usize {
+    let all = ours(f, w);
+    let wanted = std::env::var("CI").is_ok_and(|v| v == "true");
+    assert!(
+        oracle::FOUND || !wanted,
+        "with CI=true the published Rust must be there"
+    );
+    if oracle::FOUND {
+        assert!(all == theirs(f, w), "{} x {}, {w:?}", f.width, f.height);
+    }
+    all.len()
+}
+
+#[test]
+fn the_shipped_frame() {
+    let path = concat!(env!("CARGO_MANIFEST_DIR"), "/../../frames/coast.pgm");
+    let frame = pgm::read(&std::fs::read(path).unwrap()).unwrap();
+    let many = hold(&frame, &Wanted::default());
+    assert!(many > 100, "{many}");
+    let double = Wanted {
+        double: true,
+        ..Wanted::default()
+    };
+    assert!(hold(&frame, &double) > 2 * many);
+}
+
+#[test]
+fn frames_of_every_kind() {
+    let mut rng = Rng::new(21);
+    let mut many = 0;
+    for k in 0..24 {
+        let (w, h) = (rng.from_to(1, 150), rng.from_to(1, 120));
+        let frame = if k % 2 == 0 {
+            coast(w, h, k)
+        } else {
+            noise(w, h, k)
+        };
+        let wanted = Wanted {
+            settings: Settings {
+                contrast: rng.pick(&[0.0, 0.01, 0.04, 0.1]),
+                edge: rng.pick(&[2.0, 10.0, 1000.0]),
+                sigma: rng.pick(&[0.5, 1.2, 1.6, 3.0]),
+                layers: rng.pick(&[1, 2, 3, 3, 5, 15]),
+            },
+            double: rng.one_in(3),
+        };
+        many += hold(&frame, &wanted);
+    }
+    assert!(many > 5000, "{many}");
+}
+
+#[test]
+fn a_flat_frame_has_none() {
+    let flat = Frame {
+        width: 64,
+        height: 64,
+        samples: vec![52.0; 64 * 64],
+    };
+    assert_eq!(hold(&flat, &Wanted::default()), 0);
+}

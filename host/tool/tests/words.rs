@@ -1,0 +1,247 @@
+//! The program as it is called: what it prints and the status that it ends with.
+
+use std::fs;
+use std::io::Write;
+use std::path::{Path, PathBuf};
+use std::process::{Command, Output, Stdio};
+
+fn bargeclover(words: &[&str]) -> Output {
+    let mut program = Command::new(env!("CARGO_BIN_EXE_bargeclover"));
+    program.args(words).stdin(Stdio::null()).output().unwrap()
+}
+
+fn text(bytes: &[u8]) -> &str {
+    std::str::from_utf8(bytes).unwrap()
+}
+
+/// Runs and holds to a status; answers what was printed and what was complained.
+fn run(words: &[&str], status: i32) -> (String, String) {
+    let o = bargeclover(words);
+    let (said, complained) = (text(&o.stdout), text(&o.stderr));
+    assert_eq!(
+        o.status.code(),
+        Some(status),
+        "{words:?}: {said}{complained}"
+    );
+    (said.into(), complained.into())
+}
+
+fn place(name: &str) -> PathBuf {
+    Path::new(env!("CARGO_TARGET_TMPDIR")).join(name)
+}
+
+fn file(name: &str, bytes: &[u8]) -> String {
+    let path = place(name);
+    fs::write(&path, bytes).unwrap();
+    path.to_str().unwrap().into()
+}
+
+const COAST: &str = concat!(env!("CARGO_MANIFEST_DIR"), "/../../frames/coast.pgm");
+
+/// A sheet of two records, the second all zero.
+fn sheet() -> Vec<u8> {
+    let mut record = bargeclover::Record {
+        row: 100,
+        column: 50,
+        octave: 0,
+        layer: 1,
+        code: 128,
+        x: 50.25,
+        y: 100.5,
+        size: 12.5,
+        response: 0.0625,
+        angle: 90.0,
+        values: [0; 128],
+    };
+    let blank = record;
+    record.values[3] = 255;
+    let sheet = bargeclover::Sheet {
+        width: 320,
+        height: 240,
+        layers: 3,
+        records: vec![record, blank],
+    };
+    bargeclover::write_sheet(&sheet).unwrap()
+}
+
+#[test]
+fn help_and_version() {
+    let (said, _) = run(&["--help"], 0);
+    assert_eq!(run(&["help"], 0).0, said);
+    assert_eq!(run(&["-h"], 0).0, said);
+    for command in ["find", "show", "check", "draw"] {
+        assert!(said.contains(command));
+        let (own, _) = run(&[command, "--help"], 0);
+        assert_eq!(run(&["help", command], 0).0, own);
+        assert!(own.starts_with(&format!("bargeclover {command}: ")));
+    }
+    assert!(run(&["--version"], 0).0.starts_with("bargeclover 0."));
+}
+
+#[test]
+fn wrong_commands_end_with_2() {
+    for words in [
+        &[][..],
+        &["fly"],
+        &["help", "fly"],
+        &["show"],
+        &["show", "a", "b"],
+        &["check"],
+        &["find"],
+        &["find", COAST, "--contrast", "much"],
+        &["find", COAST, "--layers", "-1"],
+        &["draw", COAST],
+        &["draw", COAST, "-o", "x.gif"],
+        &["draw", COAST, "-o", "x.png", "--zoom", "0"],
+        &[
+            "draw",
+            COAST,
+            "-o",
+            "x.png",
+            "--zoom",
+            "99999999999999999999",
+        ],
+        &["draw", COAST, "s", "-o", "x.png", "--edge", "5"],
+        &["draw", "a", "b", "c", "-o", "x.png"],
+        &["find", COAST, "--wings"],
+    ] {
+        let (said, complained) = run(words, 2);
+        assert_eq!(said, "");
+        assert!(complained.starts_with("bargeclover: "), "{complained}");
+    }
+}
+
+#[test]
+fn what_is_refused_ends_with_1_and_says_what_to_change() {
+    let refused = |words: &[&str], part: &str| {
+        let (_, complained) = run(words, 1);
+        assert!(complained.contains(part), "{complained}");
+    };
+    refused(&["find", COAST, "--contrast", "1.5"], "number 4");
+    refused(
+        &["find", COAST, "--contrast", "nan"],
+        "--contrast from 0 to 1",
+    );
+    refused(&["find", COAST, "--edge", "0.5"], "--edge from 1 to 1000");
+    refused(&["find", COAST, "--sigma", "inf"], "--sigma from 0.5 to 16");
+    refused(&["find", COAST, "--layers", "16"], "number 2");
+    refused(&["find", COAST, "--layers", "0"], "--layers from 1 to 15");
+    refused(
+        &["find", COAST, "--layers", "18446744073709551615"],
+        "--layers from 1 to 15",
+    );
+    let no = file("no.pgm", b"P6 1 1 255 abc");
+    refused(&["find", &no], "not a PGM picture");
+    let wide = file("wide.pgm", b"P5 9000 1 255 abc");
+    refused(&["find", &wide], "number 1");
+    let long = file("long.pgm", &[b"P5 5000 1 255 ", &[0; 5000][..]].concat());
+    refused(&["find", &long, "--double"], "leave out --double");
+    let other = file("other.sheet", &sheet());
+    refused(&["draw", &no, &other, "-o", "x.png"], "not a PGM picture");
+    let small = file("small.pgm", b"P5 1 1 255 a");
+    refused(
+        &["draw", &small, &other, "-o", "x.png"],
+        "the frame that the sheet was made from",
+    );
+}
+
+#[test]
+fn what_is_not_there_ends_with_3() {
+    for words in [
+        &["find", "no/such.pgm"][..],
+        &["show", "no/such.sheet"],
+        &["check", "no/such.sheet"],
+        &["check", "."],
+        &["draw", COAST, "-o", "no/such/x.png"],
+        &["draw", COAST, "no/such.sheet", "-o", "x.png"],
+    ] {
+        let (_, complained) = run(words, 3);
+        assert!(complained.contains("can't be"), "{complained}");
+    }
+}
+
+#[test]
+fn a_sheet_is_shown_and_checked() {
+    let good = file("good.sheet", &sheet());
+    let (said, _) = run(&["show", &good], 0);
+    assert!(
+        said.contains("edition 1, 320 x 240 cells, 3 layers, 2 records, 1 of them all zero"),
+        "{said}"
+    );
+    assert_eq!(said.lines().count(), 5);
+    assert_eq!(said.matches("  all zero").count(), 1);
+    let (csv, _) = run(&["show", &good, "--csv"], 0);
+    assert_eq!(csv.lines().count(), 3);
+    assert!(
+        csv.contains("\n0,50.25,100.5,12.5,0.0625,90,0,1,128,100,50,0,0,0,255,0,"),
+        "{csv}"
+    );
+    let (one, _) = run(&["show", &good, "--record", "0"], 0);
+    assert!(one.contains("response  0.0625") && one.contains("255"));
+    run(&["show", &good, "--record", "2"], 2);
+    assert!(run(&["check", &good], 0).0.contains("sound: edition 1"));
+
+    let mut bytes = sheet();
+    bytes.pop();
+    let short = file("short.sheet", &bytes);
+    let (said, _) = run(&["check", &good, &short], 1);
+    assert!(
+        said.contains("number 8") && said.contains("cut short"),
+        "{said}"
+    );
+    assert!(said.contains("sound: "));
+    assert!(run(&["show", &short], 1).1.contains("number 8"));
+}
+
+#[test]
+fn pictures_are_written_whole() {
+    let good = file("drawn.sheet", &sheet());
+    for (name, starts) in [
+        ("a.png", &b"\x89PNG\r\n\x1a\n"[..]),
+        ("a.svg", b"<svg xmlns="),
+    ] {
+        let out = place(name);
+        let to = out.to_str().unwrap();
+        for words in [
+            &["draw", COAST, "-o", to][..],
+            &["draw", COAST, "-o", to, "--double", "-z", "1"],
+            &["draw", COAST, &good, "-o", to],
+        ] {
+            run(words, 0);
+            assert!(fs::read(&out).unwrap().starts_with(starts));
+            fs::remove_file(&out).unwrap();
+        }
+    }
+    let svg = place("b.svg");
+    run(&["draw", COAST, &good, "-o", svg.to_str().unwrap()], 0);
+    let svg = fs::read_to_string(svg).unwrap();
+    assert_eq!(svg.matches("<path ").count(), 2);
+    assert_eq!(svg.matches(", all zero</title>").count(), 1);
+}
+
+#[test]
+fn standard_input_and_a_reader_that_stops() {
+    let mut child = Command::new(env!("CARGO_BIN_EXE_bargeclover"))
+        .args(["find", "-", "--csv"])
+        .stdin(Stdio::piped())
+        .stdout(Stdio::piped())
+        .spawn()
+        .unwrap();
+    let frame = fs::read(COAST).unwrap();
+    child.stdin.take().unwrap().write_all(&frame).unwrap();
+    let o = child.wait_with_output().unwrap();
+    assert!(o.status.success());
+    assert_eq!(text(&o.stdout), run(&["find", COAST, "--csv"], 0).0);
+
+    // nobody reads: no complaint and no panic
+    let mut child = Command::new(env!("CARGO_BIN_EXE_bargeclover"))
+        .args(["find", COAST, "--double", "--contrast", "0"])
+        .stdout(Stdio::piped())
+        .stderr(Stdio::piped())
+        .spawn()
+        .unwrap();
+    drop(child.stdout.take());
+    let o = child.wait_with_output().unwrap();
+    assert_eq!(o.status.code(), Some(0));
+    assert_eq!(text(&o.stderr), "");
+}

@@ -118,6 +118,18 @@ struct Head {
     at: usize,
 }
 
+impl Head {
+    /// That the sample at a place of the list is larger than the head's largest.
+    fn above(&self, k: usize, value: usize) -> Fault {
+        Fault::Above {
+            row: k / self.width,
+            column: k % self.width,
+            value,
+            top: self.top,
+        }
+    }
+}
+
 fn head(bytes: &[u8]) -> Result<Head, Fault> {
     let plain = match bytes {
         [b'P', b'5', ..] => false,
@@ -161,13 +173,16 @@ fn head(bytes: &[u8]) -> Result<Head, Fault> {
 }
 
 /// The samples of a plain picture; the file has at least a byte for each, so no more room is made than the file is long.
-fn plain(h: &Head, bytes: &[u8]) -> Result<Vec<usize>, Fault> {
+fn plain(h: &Head, bytes: &[u8]) -> Result<Vec<u16>, Fault> {
     let need = h.width * h.height;
     let mut words = Words { bytes, at: h.at };
     let mut all = Vec::with_capacity(need.min(bytes.len()));
     while all.len() < need {
         match words.number() {
-            Some(n) => all.push(n),
+            Some(n) => {
+                let value = u16::try_from(n).ok();
+                all.push(value.ok_or_else(|| h.above(all.len(), n))?);
+            }
             None if words.at >= bytes.len() => {
                 return Err(Fault::Short {
                     have: all.len(),
@@ -190,7 +205,7 @@ fn plain(h: &Head, bytes: &[u8]) -> Result<Vec<usize>, Fault> {
 }
 
 /// The samples of a binary picture, one byte each or, where the largest is above 255, two, the high one first.
-fn binary(h: &Head, bytes: &[u8]) -> Result<Vec<usize>, Fault> {
+fn binary(h: &Head, bytes: &[u8]) -> Result<Vec<u16>, Fault> {
     let need = h.width * h.height;
     let body = &bytes[h.at..];
     let each = if h.top < 256 { 1 } else { 2 };
@@ -205,13 +220,10 @@ fn binary(h: &Head, bytes: &[u8]) -> Result<Vec<usize>, Fault> {
         return Err(Fault::Long { extra: rest.len() });
     }
     Ok(if each == 1 {
-        body.iter().map(|b| usize::from(*b)).collect()
+        body.iter().map(|b| u16::from(*b)).collect()
     } else {
         let (pairs, _) = body.as_chunks();
-        pairs
-            .iter()
-            .map(|p| usize::from(u16::from_be_bytes(*p)))
-            .collect()
+        pairs.iter().map(|p| u16::from_be_bytes(*p)).collect()
     })
 }
 
@@ -223,15 +235,10 @@ pub fn read(bytes: &[u8]) -> Result<Frame, Fault> {
     } else {
         binary(&h, bytes)?
     };
-    if let Some(k) = values.iter().position(|v| *v > h.top) {
-        return Err(Fault::Above {
-            row: k / h.width,
-            column: k % h.width,
-            value: values[k],
-            top: h.top,
-        });
+    if let Some(k) = values.iter().position(|v| usize::from(*v) > h.top) {
+        return Err(h.above(k, values[k].into()));
     }
-    let scaled = |v: usize| (v as f64 * 255.0 / h.top as f64) as f32;
+    let scaled = |v: u16| (f64::from(v) * 255.0 / h.top as f64) as f32;
     Ok(Frame {
         width: h.width,
         height: h.height,
@@ -309,6 +316,15 @@ mod tests {
             Fault::Plain { row: 1, column: 1 }
         );
         assert_eq!(refused(b"P2 1 1 9 4 4"), Fault::Long { extra: 1 });
+        assert_eq!(
+            refused(b"P2 1 1 65535 99999999999"),
+            Fault::Above {
+                row: 0,
+                column: 0,
+                value: 1 << 32,
+                top: 65535
+            }
+        );
         assert_eq!(refused(b"P5 1 1 255 ab"), Fault::Long { extra: 1 });
         assert_eq!(
             refused(b"P5 2 1 9 \x04\x0a"),

@@ -17,7 +17,7 @@ pub struct Octave {
     pub number: u32,
     pub width: usize,
     pub height: usize,
-    /// layers + 3 Gaussian planes.
+    /// layers + 3 Gaussian planes, of which only 1 to layers, those that are read, are kept; the others are empty.
     pub gaussian: Vec<Vec<f32>>,
     /// layers + 2 differences, plane after plane.
     pub differences: Vec<f32>,
@@ -207,13 +207,18 @@ impl Iterator for Pyramid {
         }
         let mut gaussian = vec![first];
         let mut differences = Vec::with_capacity(self.kernels.len() * width * height);
-        for (below, k) in self.kernels.iter().enumerate() {
-            let below = &gaussian[below];
+        for (i, k) in self.kernels.iter().enumerate() {
+            let below = &gaussian[i];
             let above = blurred(below, width, height, k);
             differences.extend(above.iter().zip(below).map(|(a, b)| a - b));
             gaussian.push(above);
+            if i == 0 || i > self.layers {
+                gaussian[i] = Vec::new();
+            }
         }
         let start = halved(&gaussian[self.layers], width, height);
+        gaussian.truncate(self.layers + 1);
+        gaussian.resize(self.kernels.len() + 1, Vec::new());
         self.next = Some((start, width / 2, height / 2));
         let number = self.number;
         self.number += 1;

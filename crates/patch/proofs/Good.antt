@@ -1,0 +1,39 @@
+-- What is read is good where each row's is. Assumes nothing.
+use Prim.Native.Nat.{ℕ, _+_, _≤_}
+use mathlib.Core.Path.{_≡_, refl, sym, ap, _∙_}
+use mathlib.Core.Bool.{Bool, true, false, not, _&&_, _||_, cond}
+use mathlib.Core.List.{List, [], _∷_, _++_}
+use lib.Ieee.{Float}
+use Rattle.lists.specs.Ranges.{joined}
+use Rattle.lists.proofs.Ranges.{joined-start, joined-more}
+use Rattle.params.specs.Table.{goodSample, allGood}
+
+and-true : (b : Bool) → (b && true) ≡ b
+and-true true = refl
+and-true false = refl
+
+pub good-append : (xs ys : List Float) → allGood (xs ++ ys) ≡ (allGood xs && allGood ys)
+unfolding allGood
+good-append [] ys = refl
+good-append (x ∷ xs) ys = rw (good-append xs ys) (assoc (goodSample x) (allGood xs) (allGood ys))
+  where
+    assoc : (a b c : Bool) → (a && (b && c)) ≡ ((a && b) && c)
+    assoc true b c = refl
+    assoc false b c = refl
+
+pub four-good : (a b c d : Float) → (goodSample a && (goodSample b && (goodSample c && goodSample d))) ≡ allGood (a ∷ b ∷ c ∷ d ∷ [])
+unfolding allGood
+four-good a b c d = rw (and-true (goodSample d))
+
+-- of a cell that is not used nothing is read
+pub good-where : (g : Bool) (xs : List Float) → (not g || allGood xs) ≡ allGood (cond g xs [])
+unfolding allGood
+good-where true xs = refl
+good-where false xs = refl
+
+pub good-none : (lo : ℕ) (f : ℕ → List Float) → true ≡ allGood (joined lo lo f)
+unfolding allGood
+good-none lo f = rw (joined-start lo f)
+
+pub good-more : (lo hi : ℕ) (f : ℕ → List Float) (ok b : Bool) → lo ≤ hi → ok ≡ allGood (joined lo hi f) → b ≡ allGood (f hi) → (ok && b) ≡ allGood (joined lo (hi + 1) f)
+good-more lo hi f ok b h p q = rw (joined-more lo hi f h, good-append (joined lo hi f) (f hi), p, q)

@@ -1,0 +1,5 @@
+pub mod Whole
+pub mod Reach
+pub mod Runs
+pub mod Good
+pub mod Rules

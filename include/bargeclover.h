@@ -88,6 +88,14 @@ uint32_t bargeclover_assign_orientations(const float *img, size_t img_len, size_
     size_t keypoint_len, uint32_t *out, size_t out_len, size_t *count, size_t *samples);
 
 /*
+ * What the descriptor is asked with for an oriented keypoint, six words as assign_orientations gives them, in its octave: x, y and
+ * scale in the octave's cells, and the angle turned round, 360 - angle. They go out as four words, by their float bits.
+ * Refused with 4 (octave not in 0 to 15), 5 (oriented_len is not 6, a word is the pattern of a not-a-number, the position or the size
+ * is not finite, the size is below 0, or the angle is not in 0 to 360) or 7 (out_len is not 4).
+ */
+uint32_t bargeclover_descriptor_inputs(const uint32_t *oriented, size_t oriented_len, int32_t octave, uint32_t *out, size_t out_len);
+
+/*
  * The sheet of keypoints, edition 1: bits packed most significant first, a header of 8 bytes, then 154 bytes a record.
  * A record is handed over as 138 words: row, column, octave, layer, code; x, y, size, response and angle by their float bits; the 128
  * values. Row and column lie in the picture, octave is 0 to 15, layer 1 to layers, code 0 to 255; the five floats are finite with sign

@@ -9,14 +9,18 @@ ghost use Rattle.params.specs.Answers.{numberOf, countOf};
 ghost use Rattle.params.specs.Threshold.{thresholdAnswer, thresholdNumber, thresholdValue};
 ghost use Rattle.detect.specs.Entry.{extremaAnswer, extremaOut};
 ghost use Rattle.orient.specs.Entry.{orientAnswer, orientOut};
+ghost use Rattle.inputs.specs.Inputs.{inputsOf};
 ghost use Rattle.sheet.specs.Layout.{edition1};
 ghost use Rattle.sheet.specs.Writes.{frameOf, writeAnswer, writeOut};
 ghost use Rattle.sheet.specs.Reads.{readAnswer, readOut};
 ghost use Rattle.bargeclover.specs.Given.{settingsOf, wordsIn, broken, keypointIn};
+ghost use Rattle.bargeclover.specs.Oriented.{unoriented, sixIn, orientedIn, inputWords, wordsOut, inputsNumber, inputsLeft};
 ghost use Rattle.hal.specs.Exp.{exp2Of, expOf};
 ghost use Rattle.hal.specs.Turn.{sinOf, cosOf};
 ghost use Rattle.hal.specs.Angle.{angleOf};
 ghost use Rattle.hal.specs.Magnitude.{magnitudeOf};
+use inputs::Inputs;
+use orient::OrientedKeypoint;
 use params::Answer;
 use params::Settings;
 use params::Threshold;
@@ -278,6 +282,84 @@ pub extern "C" fn bargeclover_assign_orientations(
     *count = count_of(a);
     *samples = r.samples;
     number_of(a)
+}
+
+// ---- the descriptor's inputs
+
+// An oriented keypoint that no entry takes.
+fn unoriented_keypoint() -> OrientedKeypoint
+    ensures { λ r. ⌜ r ≡ unoriented ⌝ }
+{
+    let x = not_a_number();
+    OrientedKeypoint {
+        x: x,
+        y: x,
+        size: x,
+        response: x,
+        octave: 0,
+        angle: x,
+    }
+}
+
+// The oriented keypoint of six words.
+fn whole_oriented(o: &[u32]) -> OrientedKeypoint
+    requires { ⌜ length (now o) ≡ 6 ⌝ }
+    ensures { λ r. ⌜ r ≡ sixIn (now (o .entry)) ⌝ }
+{
+    OrientedKeypoint {
+        x: ieee::of_bits(o[0]),
+        y: ieee::of_bits(o[1]),
+        size: ieee::of_bits(o[2]),
+        response: ieee::of_bits(o[3]),
+        octave: o[4],
+        angle: ieee::of_bits(o[5]),
+    }
+}
+
+// The oriented keypoint of words, whole or not.
+fn oriented_in(o: &[u32]) -> OrientedKeypoint
+    ensures { λ r. ⌜ r ≡ orientedIn (now (o .entry)) ⌝ }
+{
+    if o.len() == 6 {
+        let k = whole_oriented(o);
+        if k.response == k.response {
+            k
+        } else {
+            unoriented_keypoint()
+        }
+    } else {
+        unoriented_keypoint()
+    }
+}
+
+fn put_inputs(i: Inputs, out: &mut [u32])
+    requires { ⌜ length (now out) ≡ inputWords ⌝ }
+    ensures { λ _. ⌜ now (out .exit) ≡ wordsOut i ⌝ }
+{
+    out[0] = ieee::bits_of(i.x);
+    out[1] = ieee::bits_of(i.y);
+    out[2] = ieee::bits_of(i.scale);
+    out[3] = ieee::bits_of(i.angle);
+}
+
+#[no_mangle]
+pub extern "C" fn bargeclover_descriptor_inputs(
+    oriented: &[u32],
+    octave: i32,
+    out: &mut [u32],
+) -> u32
+    ensures { λ r. ⌜ r ≡ inputsNumber (inputsOf (orientedIn (now (oriented .entry))) octave) (length (now (out .entry))) ⌝ }
+    ensures { λ _. ⌜ now (out .exit) ≡ inputsLeft (inputsOf (orientedIn (now (oriented .entry))) octave) (now (out .entry)) ⌝ }
+{
+    let i = inputs::descriptor_inputs(oriented_in(oriented), octave);
+    if i.number != 0 {
+        return i.number;
+    }
+    if out.len() != 4 {
+        return 7;
+    }
+    put_inputs(i, out);
+    0
 }
 
 // ---- the sheet

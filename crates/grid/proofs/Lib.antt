@@ -1,0 +1,4 @@
+pub mod Steps
+pub mod Floors
+pub mod Spots
+pub mod Scatters

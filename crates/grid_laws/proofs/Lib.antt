@@ -1,0 +1,5 @@
+pub mod Eaches
+pub mod Parts
+pub mod Sums
+pub mod Places
+pub mod Rules

@@ -21,12 +21,12 @@ use Rattle.refine.specs.declared.RawKeypoint.{RawKeypoint}
 use Rattle.refine.specs.declared.Refined.{Refined}
 use Rattle.refine.specs.declared.Refined.the-variants.{Dropped, At}
 use Rattle.refine.proofs.Sounds.{refine-sound}
-use Rattle.detect.specs.Neighbours.{tied, candidate}
-use Rattle.detect.specs.Scan.{kept, found, rowOf, keypoints}
+use Rattle.extrema.specs.Neighbours.{tied, candidate}
+use Rattle.extrema.specs.Scan.{kept, found, rowOf, keypoints}
 use Rattle.detect.specs.Entry.{faultOf, listOf}
 use Rattle.detect.specs.Rules.{DetectRule}
 use Rattle.detect.proofs.Faults.{Right, right}
-use Rattle.detect.proofs.Rows.{rows-bound}
+use Rattle.extrema.proofs.Rows.{rows-bound}
 
 -- ---- how many
 few : (d : List Float) (w h layer octave : ℕ) (s : Settings) → length (listOf d w h layer octave s) ≤ (w - 2 * border) * (h - 2 * border)

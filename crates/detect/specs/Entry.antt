@@ -9,8 +9,8 @@ use Rattle.params.specs.Answers.{answerOf, landed}
 use Rattle.params.specs.declared.Settings.{Settings}
 use Rattle.params.specs.declared.Answer.{Answer}
 use Rattle.refine.specs.declared.RawKeypoint.{RawKeypoint}
-use Rattle.detect.specs.Neighbours.{tied}
-use Rattle.detect.specs.Scan.{keypoints, keypointWords, words}
+use Rattle.extrema.specs.Neighbours.{tied}
+use Rattle.extrema.specs.Scan.{keypoints, keypointWords, words}
 
 -- the checks in the order of the table; 5 has no argument here
 unfoldable pub faultOf : List Float → ℕ → ℕ → ℕ → ℕ → ℕ → Settings → ℕ

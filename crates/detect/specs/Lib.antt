@@ -1,5 +1,3 @@
-pub mod Neighbours
-pub mod Scan
 pub mod Entry
 pub mod Places
 pub mod SignLaw

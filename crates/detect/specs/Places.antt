@@ -1,5 +1,5 @@
 -- What the functions of the scan ask of where they stand, and what they find. Definitions only.
-use Prim.Native.Nat.{ℕ, _+_, _-_, _*_, _<_, _≤_}
+use Prim.Native.Nat.{ℕ, _-_, _*_, _<_, _≤_}
 use mathlib.Core.Path.{_≡_}
 use mathlib.Core.List.{List}
 use lib.ListN.{length}
@@ -7,41 +7,14 @@ use Rattle.lists.specs.Ranges.{joined}
 use Rattle.params.specs.Answers.{answerOf}
 use Rattle.params.specs.declared.Answer.{Answer}
 use Rattle.refine.specs.declared.RawKeypoint.{RawKeypoint}
-use Rattle.detect.specs.Scan.{keypointWords}
+use Rattle.extrema.specs.Scan.{keypointWords}
 use Rattle.detect.specs.declared.Scanned.{Scanned}
-use Rattle.params.specs.Limits.{maxSide, maxLayers, maxOctave, border}
-
--- the list, `len` long, is n planes of h rows of w, and the 27 places about (p, r, c) lie in it
-pub record Around (len w h n p r c : ℕ) : Type 0 where
-  pub whole : len ≡ n * h * w
-  pub before : 1 ≤ p
-  pub after : p + 1 < n
-  pub above : 1 ≤ r
-  pub below : r + 1 < h
-  pub left : 1 ≤ c
-  pub right : c + 1 < w
-
--- the list, `len` long, is n planes of h rows of w within the limits, p is one of its layers, and the octave is within its limit
-pub record Stack (len w h n layers octave p : ℕ) : Type 0 where
-  pub whole : len ≡ n * h * w
-  pub wide : w ≤ maxSide
-  pub high : h ≤ maxSide
-  pub planes : layers + 2 ≤ n
-  pub many : layers ≤ maxLayers
-  pub low : octave ≤ maxOctave
-  pub first : 1 ≤ p
-  pub last : p < layers + 1
+use Rattle.params.specs.Limits.{border}
 
 -- there is a cell at least the border from every edge
 pub record Wide (w h : ℕ) : Type 0 where
   pub broad : 2 * border < w
   pub tall : 2 * border < h
-
--- r is a row at least the border from both edges
-pub record Row (w h r : ℕ) : Type 0 where
-  pub broad : 2 * border < w
-  pub top : border ≤ r
-  pub bottom : r < h - border
 
 -- a scan holds back the words of at most so many keypoints
 abbrev pub maxHeld : ℕ

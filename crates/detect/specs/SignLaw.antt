@@ -2,24 +2,18 @@
 -- `proofs/SignLaw.antt` shows `SignLaw` and `TwoRuns`. Definitions only.
 use Prim.Native.Nat.{ℕ}
 use mathlib.Core.Path.{_≡_}
-use mathlib.Core.List.{List, [], _∷_, map}
+use mathlib.Core.List.{List, _∷_, map}
 use lib.ListN.{length}
 use lib.Ieee.{Float, neg}
 use Rattle.ieee.specs.F32.{f32}
 use Rattle.ieee.specs.Sign.{Same}
 use Rattle.params.specs.declared.Settings.{Settings}
-use Rattle.refine.specs.Sign.{SameKeypoint}
-use Rattle.refine.specs.declared.RawKeypoint.{RawKeypoint}
+use Rattle.extrema.specs.SameList.{SameList}
 use Rattle.detect.specs.Entry.{faultOf, listOf, extremaAnswer, extremaOut}
 
 -- the stack with every sample negated
 abbrev pub negative : List Float → List Float
 negative d = map neg d
-
--- equally many keypoints, in the same order, each the same as its partner: whole numbers equal, floats equal but for the sign of a zero
-pub data SameList : List RawKeypoint → List RawKeypoint → Type 0 where
-  none : SameList [] []
-  more : {k l : RawKeypoint} {ks ls : List RawKeypoint} → SameKeypoint k l → SameList ks ls → SameList (k ∷ ks) (l ∷ ls)
 
 -- what holds of a stack d and its negative, with the same shape, layer, octave, settings and room
 pub record SignLaw (d : List Float) (w h planes layer octave : ℕ) (s : Settings) (room : ℕ) : Type 0 where

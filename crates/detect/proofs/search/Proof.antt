@@ -3,10 +3,10 @@ use mathlib.Core.Path.{refl}
 use native.Mathlib.Omega.{arith}
 use denote.Ref.{now}
 use borrow.Author.Needs.{needs}
-use Rattle.detect.specs.Neighbours.{tied}
-use Rattle.detect.specs.Scan.{keypoints}
-use Rattle.detect.proofs.Words.{written}
-use Rattle.detect.proofs.Rows.{rows-few}
+use Rattle.extrema.specs.Neighbours.{tied}
+use Rattle.extrema.specs.Scan.{keypoints}
+use Rattle.extrema.proofs.Words.{written}
+use Rattle.extrema.proofs.Rows.{rows-few}
 use Rattle.detect.proofs.Answers.{short, done}
 use Rattle.detect.proofs.search.Statement.{statement}
 use Rattle.detect.proofs.search.Tie as tie

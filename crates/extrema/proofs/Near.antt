@@ -1,6 +1,6 @@
 -- The places about a cell, by one index and two steps: from the corner, so many planes, rows and columns on. Assumes nothing.
-use Prim.Native.Nat.{ℕ, suc, _+_, _-_, _*_, _<_, _≤_}
-use mathlib.Core.Path.{_≡_, refl, sym, ap, _∙_}
+use Prim.Native.Nat.{ℕ, _+_, _-_, _*_, _<_, _≤_}
+use mathlib.Core.Path.{_≡_, _∙_}
 use mathlib.Core.List.{List}
 use native.Mathlib.Nat.{mul-assoc, mul-comm, add-mul, le-mul-of-pos-right}
 use native.Mathlib.Omega.{arith}
@@ -8,7 +8,7 @@ use lib.ListN.{length, getD}
 use lib.Ieee.{Float, nan}
 use Rattle.picture.specs.Stack.{sample, Inside}
 use Rattle.picture.proofs.Index.{Index, index}
-use Rattle.detect.specs.Places.{Around}
+use Rattle.extrema.specs.Places.{Around}
 
 -- the index of the place i, j, k steps on from (p, r, c)
 abbrev pub along : ℕ → ℕ → ℕ → ℕ → ℕ → ℕ → ℕ → ℕ → ℕ

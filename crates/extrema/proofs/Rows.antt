@@ -1,8 +1,8 @@
 -- How many keypoints cells, rows and the whole give. Assumes nothing.
-use Prim.Native.Nat.{ℕ, zero, suc, _+_, _-_, _*_, _<_, _≤_}
-use mathlib.Core.Path.{_≡_, refl, sym, ap, _∙_}
+use Prim.Native.Nat.{ℕ, _-_, _*_, _≤_}
+use mathlib.Core.Path.{_≡_}
 use mathlib.Core.Bool.{Bool, true, false, cond}
-use mathlib.Core.List.{List, [], _∷_, _++_}
+use mathlib.Core.List.{List, []}
 use native.Mathlib.Nat.{mul-le-mul, mul-one, le-trans}
 use native.Mathlib.Omega.{arith}
 use lib.ListN.{length}
@@ -14,8 +14,8 @@ use Rattle.params.specs.declared.Settings.{Settings}
 use Rattle.refine.specs.Keypoint.{refineOf}
 use Rattle.refine.specs.declared.Refined.{Refined}
 use Rattle.refine.specs.declared.Refined.the-variants.{Dropped, At}
-use Rattle.detect.specs.Neighbours.{Rule, candidate}
-use Rattle.detect.specs.Scan.{kept, found, rowOf, keypoints}
+use Rattle.extrema.specs.Neighbours.{Rule, candidate}
+use Rattle.extrema.specs.Scan.{kept, found, rowOf, keypoints}
 use Rattle.params.specs.Threshold.{thresholdOf}
 
 kept-one : (x : Refined) → length (kept x) ≤ 1

@@ -2,12 +2,12 @@ use mathlib.Core.Path.{_≡_, sym, ap, _∙_}
 use mathlib.Core.Bool.{Bool}
 use borrow.Author.Tests.{not-true, not-false}
 use lib.Ieee.{Float}
-use Rattle.detect.specs.Neighbours.{loud}
-use Rattle.detect.specs.Scan.{kept}
-use Rattle.detect.proofs.Cells.{found-quiet, found-yes, found-no}
+use Rattle.extrema.specs.Neighbours.{loud}
+use Rattle.extrema.specs.Scan.{kept}
+use Rattle.extrema.proofs.Cells.{found-quiet, found-yes, found-no}
 use borrow.Author.Needs.{needs}
-use Rattle.detect.proofs.cell.Statement.{statement}
-use Rattle.detect.proofs.cell.Tie as tie
+use Rattle.extrema.proofs.cell.Statement.{statement}
+use Rattle.extrema.proofs.cell.Tie as tie
 
 -- what the code tested is what the definition tests
 quiet : (b : Bool) (t v t' v' : Float) → b ≡ loud t v → t ≡ t' → v ≡ v' → loud t' v' ≡ b

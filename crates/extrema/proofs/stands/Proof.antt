@@ -7,14 +7,14 @@ use borrow.Author.Tests.{not-true, not-false}
 use Rattle.lists.specs.Ranges.{every}
 use Rattle.lists.proofs.Every.{every-none, every-more, every-stop}
 use Rattle.picture.specs.Stack.{sample}
-use Rattle.detect.specs.Neighbours.{tied, keepsOver, passes, isExtremum}
+use Rattle.extrema.specs.Neighbours.{tied, keepsOver, passes, isExtremum}
 use denote.Ref.{now}
 use lib.ListN.{length}
 use Rattle.picture.proofs.Index.{Index}
-use Rattle.detect.proofs.Near.{along, corner-index, plane-below, near-below, near-sample}
-use Rattle.detect.proofs.Cells.{pass-centre, pass-kept, pass-none, kept-as}
-use Rattle.detect.proofs.stands.Statement.{statement}
-use Rattle.detect.proofs.stands.Tie as tie
+use Rattle.extrema.proofs.Near.{along, corner-index, plane-below, near-below, near-sample}
+use Rattle.extrema.proofs.Cells.{pass-centre, pass-kept, pass-none, kept-as}
+use Rattle.extrema.proofs.stands.Statement.{statement}
+use Rattle.extrema.proofs.stands.Tie as tie
 
 abbrev Inv-loop2 : tie.InvT-loop2
 Inv-loop2 dog w h n p r c val up plane first ok₀ i j k₀ ok k =

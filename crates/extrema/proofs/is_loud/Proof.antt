@@ -1,7 +1,7 @@
 use borrow.Author.Needs.{needs}
-use Rattle.detect.specs.Neighbours.{loud}
-use Rattle.detect.proofs.is_loud.Statement.{statement}
-use Rattle.detect.proofs.is_loud.Tie as tie
+use Rattle.extrema.specs.Neighbours.{loud}
+use Rattle.extrema.proofs.is_loud.Statement.{statement}
+use Rattle.extrema.proofs.is_loud.Tie as tie
 
 abs-requires : tie.Need-abs-requires
 abs-requires c κs = search needs

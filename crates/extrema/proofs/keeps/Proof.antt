@@ -1,5 +1,5 @@
-use Rattle.detect.proofs.keeps.Statement.{statement}
-use Rattle.detect.proofs.keeps.Tie as tie
+use Rattle.extrema.proofs.keeps.Statement.{statement}
+use Rattle.extrema.proofs.keeps.Tie as tie
 
 returns : tie.Need-returns
 returns c = rw (c .if1 .taken)

@@ -1,6 +1,6 @@
 -- What is decided of one cell: how a neighbour passes, and what the cell gives. Assumes nothing.
 use Prim.Native.Nat.{ℕ, _+_, _-_}
-use mathlib.Core.Path.{_≡_, refl, sym, ap, subst, _∙_}
+use mathlib.Core.Path.{_≡_, refl, sym, subst}
 use mathlib.Core.Bool.{Bool, true, false, _||_, cond}
 use mathlib.Core.List.{List, []}
 use lib.Ieee.{Float}
@@ -9,8 +9,8 @@ use Rattle.params.specs.Threshold.{thresholdOf}
 use Rattle.params.specs.declared.Settings.{Settings}
 use Rattle.picture.specs.Stack.{sample}
 use Rattle.refine.specs.Keypoint.{refineOf}
-use Rattle.detect.specs.Neighbours.{tied, nought, keepsOver, centre, passes, isExtremum, loud, candidate}
-use Rattle.detect.specs.Scan.{kept, found}
+use Rattle.extrema.specs.Neighbours.{tied, nought, keepsOver, centre, passes, isExtremum, loud, candidate}
+use Rattle.extrema.specs.Scan.{kept, found}
 
 or-right : (a b : Bool) → b ≡ true → (a || b) ≡ true
 or-right true b e = refl

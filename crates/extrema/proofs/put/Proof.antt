@@ -1,7 +1,7 @@
 use mathlib.Core.Path.{_∙_}
 use borrow.Author.Needs.{needs}
-use Rattle.detect.proofs.put.Statement.{statement}
-use Rattle.detect.proofs.put.Tie as tie
+use Rattle.extrema.proofs.put.Statement.{statement}
+use Rattle.extrema.proofs.put.Tie as tie
 
 bits-of-requires : tie.Need-bits-of-requires
 bits-of-requires c κs = search needs

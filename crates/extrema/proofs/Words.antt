@@ -1,17 +1,17 @@
 -- Keypoints as words: how long they are, and how they are written row after row. Assumes nothing.
 use Prim.Native.Nat.{ℕ, zero, suc, _+_, _-_, _*_, _<_, _≤_}
-use mathlib.Core.Path.{_≡_, refl, sym, ap, _∙_}
+use mathlib.Core.Path.{_≡_, refl, ap, _∙_}
 use mathlib.Core.List.{List, [], _∷_, _++_}
-use native.Mathlib.Nat.{add-zero, zero-add}
+use native.Mathlib.Nat.{zero-add}
 use native.Mathlib.Numerals.{add-one}
 use native.Mathlib.Omega.{arith}
-use lib.ListN.{length, getD, take, drop, set, length-append}
-use lib.Seq.{sets, length-sets, take-suc, take-append-le, take-at, length-take-le}
+use lib.ListN.{length, getD, take, set, length-append}
+use lib.Seq.{sets, take-suc, take-at, length-take-le}
 use Rattle.lists.specs.Ranges.{joined}
 use Rattle.lists.specs.Pasted.{pasted}
 use Rattle.lists.proofs.Ranges.{joined-more, joined-split, sets-append, sets-front}
 use Rattle.refine.specs.declared.RawKeypoint.{RawKeypoint}
-use Rattle.detect.specs.Scan.{words, wordsOf}
+use Rattle.extrema.specs.Scan.{words, wordsOf}
 
 pub length-words : (ks : List RawKeypoint) → length (words ks) ≡ 10 * length ks
 unfolding words

@@ -1,7 +1,7 @@
 use mathlib.Core.Path.{sym}
 use borrow.Author.Needs.{needs}
-use Rattle.detect.proofs.is_extremum.Statement.{statement}
-use Rattle.detect.proofs.is_extremum.Tie as tie
+use Rattle.extrema.proofs.is_extremum.Statement.{statement}
+use Rattle.extrema.proofs.is_extremum.Tie as tie
 
 at-requires : tie.Need-at-requires
 at-requires c κs = search needs

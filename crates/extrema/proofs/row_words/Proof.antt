@@ -7,11 +7,11 @@ use lib.Seq.{sets, length-sets}
 use borrow.Author.Needs.{needs}
 use Rattle.lists.specs.Ranges.{joined}
 use Rattle.lists.proofs.Ranges.{joined-start, counted}
-use Rattle.detect.specs.Neighbours.{tied}
-use Rattle.detect.specs.Scan.{found, kept, rowOf, words}
-use Rattle.detect.proofs.Words.{filled-none, filled-one, words-none}
-use Rattle.detect.proofs.row_words.Statement.{statement}
-use Rattle.detect.proofs.row_words.Tie as tie
+use Rattle.extrema.specs.Neighbours.{tied}
+use Rattle.extrema.specs.Scan.{found, kept, rowOf, words}
+use Rattle.extrema.proofs.Words.{filled-none, filled-one, words-none}
+use Rattle.extrema.proofs.row_words.Statement.{statement}
+use Rattle.extrema.proofs.row_words.Tie as tie
 
 abbrev Inv-loop : tie.InvT-loop
 Inv-loop dog w h n s octave threshold p r out₀ from k₀ c₀ c-end out k c =

@@ -1,5 +1,5 @@
 -- The keypoints of one layer, row by row, and the words that they go out as. Definitions only.
-use Prim.Native.Nat.{ℕ, _+_, _-_, _*_}
+use Prim.Native.Nat.{ℕ, _+_, _-_}
 use mathlib.Core.Bool.{cond}
 use mathlib.Core.List.{List, [], _∷_, _++_}
 use lib.Ieee.{Float}
@@ -12,7 +12,7 @@ use Rattle.refine.specs.Keypoint.{refineOf}
 use Rattle.refine.specs.declared.RawKeypoint.{RawKeypoint}
 use Rattle.refine.specs.declared.Refined.{Refined}
 use Rattle.refine.specs.declared.Refined.the-variants.{Dropped, At}
-use Rattle.detect.specs.Neighbours.{Rule, candidate}
+use Rattle.extrema.specs.Neighbours.{Rule, candidate}
 
 abbrev pub kept : Refined → List RawKeypoint
 kept Dropped = []

@@ -1,0 +1,4 @@
+pub mod Neighbours
+pub mod Scan
+pub mod Places
+pub mod SameList

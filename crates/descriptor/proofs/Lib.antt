@@ -1,0 +1,5 @@
+pub mod Cells
+pub mod Checks
+pub mod Answers
+pub mod Flat
+pub mod Rules

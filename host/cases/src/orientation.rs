@@ -1,6 +1,7 @@
 //! What `assign_orientations` is handed, and document 01's table for it.
 
 use crate::Rng;
+use crate::detection::BEFORE;
 use crate::picture::{self, Picture, misshape, scale, spoil};
 
 /// The keypoint has ten words where it is whole.
@@ -99,7 +100,7 @@ pub fn damage(r: &mut Rng, c: &mut Case) {
 }
 
 /// size × 0.5 / 2^octave
-fn scale_of(keypoint: &[u32]) -> f32 {
+pub fn scale_of(keypoint: &[u32]) -> f32 {
     float(keypoint[2]) * 0.5 / (1u64 << (keypoint[4] & 0xff)) as f32
 }
 
@@ -135,4 +136,46 @@ fn keypoint_wrong(c: &Case) -> bool {
 /// The number that `assign_orientations` gives before it looks at its room.
 pub fn fault(c: &Case) -> u32 {
     picture::fault(&c.picture, || keypoint_wrong(c), || cells(c))
+}
+
+/// The answer that is right for so many words lent.
+#[derive(Debug, PartialEq)]
+pub struct Expected {
+    pub number: u32,
+    pub count: usize,
+    /// The cells read.
+    pub samples: usize,
+    /// All the lent words afterwards.
+    pub out: Vec<u32>,
+}
+
+/// The table decides on refusals; of a case that it accepts, `assign` gives the oriented keypoints and the cells read.
+pub fn expected(
+    c: &Case,
+    room: usize,
+    assign: impl FnOnce(&Picture, &[u32; 10]) -> (Vec<[u32; 6]>, usize),
+) -> Expected {
+    let mut out = vec![BEFORE; room];
+    let refused = |number, count, out| Expected {
+        number,
+        count,
+        samples: 0,
+        out,
+    };
+    let fault = fault(c);
+    if fault != 0 {
+        return refused(fault, 0, out);
+    }
+    let (found, samples) = assign(&c.picture, c.keypoint.as_slice().try_into().unwrap());
+    let (count, words) = (found.len(), found.as_flattened());
+    if words.len() > room {
+        return refused(7, count, out);
+    }
+    out[..words.len()].copy_from_slice(words);
+    Expected {
+        number: 0,
+        count,
+        samples,
+        out,
+    }
 }

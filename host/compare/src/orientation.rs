@@ -2,9 +2,8 @@
 
 use crate::report::Report;
 use bargeclover::{Picture, entries};
+use cases::detection::BEFORE;
 use cases::{Rng, orientation, picture};
-
-const BEFORE: u32 = 0xa5a5_a5a5;
 
 fn lent(p: &picture::Picture) -> Picture<'_> {
     Picture {
@@ -15,30 +14,19 @@ fn lent(p: &picture::Picture) -> Picture<'_> {
 }
 
 fn hold_orientation(r: &mut Report, c: &orientation::Case, room: usize) {
-    let p = &c.picture;
-    let mut theirs = vec![BEFORE; room];
-    let expected = match orientation::fault(c) {
-        0 => {
-            let keypoint = c.keypoint.as_slice().try_into().unwrap();
-            let (found, n) = oracle::assign_orientations(&p.samples, p.width, p.height, keypoint);
-            r.tried(format!("keypoint with {} peaks", found.len()));
-            let words = found.as_flattened();
-            if words.len() > room {
-                (7, found.len(), 0)
-            } else {
-                theirs[..words.len()].copy_from_slice(words);
-                (0, found.len(), n)
-            }
-        }
-        fault => (fault, 0, 0),
-    };
+    let right = orientation::expected(c, room, |p, keypoint| {
+        let all = oracle::assign_orientations(&p.samples, p.width, p.height, keypoint);
+        r.tried(format!("keypoint with {} peaks", all.0.len()));
+        all
+    });
     let mut ours = vec![BEFORE; room];
-    let answer = entries::assign_orientations(&lent(p), &c.keypoint, &mut ours);
+    let answer = entries::assign_orientations(&lent(&c.picture), &c.keypoint, &mut ours);
     let about = || format!("{c:?}, room {room}");
-    if r.same("assign_orientations", &answer, &expected, about) {
-        r.same("words of assign_orientations", &ours, &theirs, about);
+    let numbers = (right.number, right.count, right.samples);
+    if r.same("assign_orientations", &answer, &numbers, about) {
+        r.same("words of assign_orientations", &ours, &right.out, about);
     }
-    r.tried(format!("assign_orientations answered {}", expected.0));
+    r.tried(format!("assign_orientations answered {}", right.number));
 }
 
 /// `many` keypoints, with room or too little, and half as many damaged ones.

@@ -3,12 +3,11 @@
 //! height × width samples as f32; as u32 the words lent once more, and all of them as they stand after the call, each 0xA5A5A5A5
 //! before it. A case whose samples are not as many as its shape says can't be told in this form, so number 3 is not in the list.
 
+use crate::list::{List, put};
 use bargeclover::Settings;
 use cases::detection::{self, Case, Kind, accepted, damage};
 use cases::fate::{Fate, fates};
 use cases::{Rng, table};
-use std::collections::BTreeMap;
-use std::fs;
 use std::path::Path;
 
 const MARK: u32 = 0x4243_4c31;
@@ -16,12 +15,6 @@ const MOST_SAMPLES: usize = 65_536;
 const MOST_ROOM: usize = 4_096;
 /// Of each fate of a candidate, each kind of stack and each number, at least so many cases.
 const EACH: usize = 12;
-
-fn put(to: &mut Vec<u8>, words: impl IntoIterator<Item = u32>) {
-    for w in words {
-        to.extend(w.to_le_bytes());
-    }
-}
 
 /// The number, the count and the lent words afterwards.
 fn answer(c: &Case, room: usize) -> (u32, usize, Vec<u32>) {
@@ -119,52 +112,32 @@ fn marked() -> Vec<Case> {
 
 pub fn write(folder: &Path, seed: u64) {
     let mut r = Rng::new(seed);
-    let mut many: BTreeMap<String, usize> = BTreeMap::new();
     let wanted = Fate::ALL
         .iter()
         .map(|f| format!("candidate {f:?}"))
         .chain(Kind::ALL.iter().map(|k| format!("stack {k:?}")))
         .chain([0, 1, 2, 4, 6, 7].iter().map(|n| format!("number {n}")));
-    let wanted: Vec<String> = wanted.collect();
-    let (mut list, mut cases) = (Vec::new(), 0u32);
+    let mut list = List::new(wanted.collect(), EACH);
     for c in marked() {
-        case(&mut list, &c, 12);
-        cases += 1;
+        case(&mut list.bytes, &c, 12);
+        list.cases += 1;
     }
-    while wanted
-        .iter()
-        .any(|w| many.get(w).copied().unwrap_or(0) < EACH)
-    {
+    while !list.whole() {
         let (c, kind, room) = next(&mut r);
         if !tellable(&c) || c.samples.len() > 2_500 || room > MOST_ROOM {
             continue;
         }
-        // A case is taken for what the list still lacks.
-        let why = reasons(&c, kind, room);
-        let lacks = |w: &String| wanted.contains(w) && many.get(w).copied().unwrap_or(0) < EACH;
-        if !why.iter().any(lacks) {
-            continue;
+        if list.takes(reasons(&c, kind, room)) {
+            case(&mut list.bytes, &c, room);
+            list.cases += 1;
         }
-        for w in why {
-            *many.entry(w).or_default() += 1;
-        }
-        case(&mut list, &c, room);
-        cases += 1;
     }
-    let mut file = Vec::new();
-    put(&mut file, [MARK, cases]);
-    file.extend(list);
-    fs::create_dir_all(folder).unwrap();
-    fs::write(folder.join("cases.bin"), &file).unwrap();
-    let mut note = format!(
+    let cases = list.cases;
+    let note = format!(
         "`cases.bin`: {cases} stacks, document 01's marked examples first, with the answers of the published Rust (kornia-rs at\n\
          285a3cc7f0), and of document 01's table for refusals; `host/record/src/detection.rs` has its form. Made in `host/` by\n\n    \
          cargo run --release -p record -- detection {seed}\n\n\
          The cases drawn at random, by number, by kind of stack, and their candidates by what becomes of them:\n\n"
     );
-    for (what, n) in &many {
-        note += &format!("- {what}: {n}\n");
-    }
-    fs::write(folder.join("README.md"), note).unwrap();
-    println!("{cases} cases, {} bytes", file.len());
+    list.write(folder, MARK, &note);
 }

@@ -1,7 +1,10 @@
-//! record detection [SEED]: writes the fixed list of stacks that the Rattle program `detect_replay` replays, and a note beside it
-//! with the seed and the command. Expected answers are the published Rust's; refusals are those of the table rendered a second time.
+//! record detection [SEED], record orientation [SEED]: writes the fixed list of stacks or of keypoints that the Rattle program
+//! `detect_replay` or `orient_replay` replays, and a note beside it with the seed and the command. Expected answers are the
+//! published Rust's; refusals are those of the table rendered a second time.
 
 mod detection;
+mod list;
+mod orientation;
 
 use std::env;
 use std::path::{Path, PathBuf};
@@ -25,8 +28,9 @@ fn main() -> ExitCode {
     };
     match what.as_str() {
         "detection" => detection::write(&data_folder("detect_replay"), seed),
+        "orientation" => orientation::write(&data_folder("orient_replay"), seed),
         _ => {
-            eprintln!("record: which list? detection");
+            eprintln!("record: which list? detection or orientation");
             return ExitCode::from(2);
         }
     }

@@ -1,7 +1,7 @@
 use borrow.Author.Needs.{needs}
 use Prim.Native.Nat.{_≤_}
-use Rattle.detect_replay.proofs.replay.Statement.{statement}
-use Rattle.detect_replay.proofs.replay.Tie as tie
+use Rattle.detect_replay.proofs.replay_all.Statement.{statement}
+use Rattle.detect_replay.proofs.replay_all.Tie as tie
 
 abbrev Inv-loop : tie.InvT-loop
 Inv-loop fd counts₀ cases left₀ counts left = left ≤ cases
@@ -12,11 +12,8 @@ abbrev μ-loop : tie.MeasureT-loop
 loop-holds : tie.Need-loop-holds Inv-loop μ-loop
 loop-holds c = search needs
 
-element-copy-out-if1 : tie.Need-element-copy-out-if1 Inv-loop μ-loop
-element-copy-out-if1 c = search needs
-
-element-copy-out-if1-2 : tie.Need-element-copy-out-if1-2 Inv-loop μ-loop
-element-copy-out-if1-2 c = search needs
+readable-requires : tie.Need-readable-requires Inv-loop μ-loop
+readable-requires c κs = search needs
 
 step-requires : tie.Need-step-requires Inv-loop μ-loop
 step-requires c κs = search needs
@@ -36,15 +33,14 @@ returns c = search needs
 returns-2 : tie.Need-returns-2 Inv-loop μ-loop
 returns-2 c = search needs
 
-pub replay-spec : {M : Type 1} → statement M
-replay-spec =
+pub replay-all-spec : {M : Type 1} → statement M
+replay-all-spec =
     tie.close
     (tie.spec
     Inv-loop
     μ-loop
     loop-holds
-    element-copy-out-if1
-    element-copy-out-if1-2
+    readable-requires
     step-requires
     sub-left
     loop-less

@@ -2,8 +2,8 @@ use borrow.Author.Needs.{needs}
 use Prim.Native.Nat.{ℕ, _*_, _≤_}
 use native.Mathlib.Nat.{mul-le-mul}
 use native.Mathlib.Omega.{arith}
-use Rattle.detect_replay.proofs.times.Statement.{statement}
-use Rattle.detect_replay.proofs.times.Tie as tie
+use Rattle.replay.proofs.times.Statement.{statement}
+use Rattle.replay.proofs.times.Tie as tie
 
 bounded : (a b : ℕ) → a ≤ 65536 → b ≤ 65536 → a * b ≤ 4294967296
 bounded a b p q = mul-le-mul {n₁ = a} {m₁ = b} {n₂ = 65536} {m₂ = 65536} p q

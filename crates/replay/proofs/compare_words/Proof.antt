@@ -1,7 +1,7 @@
 use borrow.Author.Needs.{needs}
 use Prim.Native.Nat.{_-_, _≤_}
-use Rattle.detect_replay.proofs.compare_words.Statement.{statement}
-use Rattle.detect_replay.proofs.compare_words.Tie as tie
+use Rattle.replay.proofs.compare_words.Statement.{statement}
+use Rattle.replay.proofs.compare_words.Tie as tie
 
 abbrev Inv-loop : tie.InvT-loop
 Inv-loop fd counts₀ out n i₀ counts i = i ≤ n

@@ -1,7 +1,7 @@
 use borrow.Author.Needs.{needs}
 use Prim.Native.Nat.{_-_, _≤_}
-use Rattle.detect_replay.proofs.read_samples.Statement.{statement}
-use Rattle.detect_replay.proofs.read_samples.Tie as tie
+use Rattle.replay.proofs.read_samples.Statement.{statement}
+use Rattle.replay.proofs.read_samples.Tie as tie
 
 abbrev Inv-loop : tie.InvT-loop
 Inv-loop fd counts₀ n to₀ i₀ counts to i = i ≤ n
@@ -12,11 +12,8 @@ abbrev μ-loop : tie.MeasureT-loop
 loop-holds : tie.Need-loop-holds Inv-loop μ-loop
 loop-holds c = search needs
 
-next-requires : tie.Need-next-requires Inv-loop μ-loop
-next-requires c κs = search needs
-
-of-bits-requires : tie.Need-of-bits-requires Inv-loop μ-loop
-of-bits-requires c κs = search needs
+next-float-requires : tie.Need-next-float-requires Inv-loop μ-loop
+next-float-requires c κs = search needs
 
 mul-to : tie.Need-mul-to Inv-loop μ-loop
 mul-to c = search needs
@@ -43,8 +40,7 @@ read-samples-spec =
     Inv-loop
     μ-loop
     loop-holds
-    next-requires
-    of-bits-requires
+    next-float-requires
     mul-to
     array-write-to
     add-i

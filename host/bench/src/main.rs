@@ -1,12 +1,14 @@
 //! The library and the published Rust's scalar path in one process, on the same buffers, in turns; medians, and their ratio.
 //!
-//! Build it with --release. Figures are kept in docs/SPEED.md.
+//! Build it with --release. `bench`, or `bench` with some of the words calls, detection, orientation. Figures are kept in
+//! docs/SPEED.md.
 
 mod detection;
 mod operations;
+mod orientation;
 mod timing;
 
-use std::fs;
+use std::{env, fs};
 
 /// The processor by its model, as the system names it.
 fn processor() -> String {
@@ -19,11 +21,20 @@ fn processor() -> String {
 }
 
 fn main() {
+    let words: Vec<String> = env::args().skip(1).collect();
+    let asked = |what: &str| words.is_empty() || words.iter().any(|w| w == what);
     println!("Processor: {}.\n", processor());
-    operations::print();
+    if asked("calls") {
+        operations::print();
+    }
     if oracle::FOUND {
-        detection::print();
+        if asked("detection") {
+            detection::print();
+        }
+        if asked("orientation") {
+            orientation::print();
+        }
     } else {
-        println!("The published Rust was not found: detection is not timed.");
+        println!("The published Rust was not found: the entries are not timed.");
     }
 }

@@ -142,15 +142,8 @@ mod found {
             .collect()
     }
 
-    /// The oriented keypoints of one keypoint, six words each, and the cells read.
-    pub fn assign_orientations(
-        img: &[f32],
-        width: usize,
-        height: usize,
-        keypoint: &[u32; 10],
-    ) -> (Vec<[u32; 6]>, usize) {
-        let k = keypoint;
-        let raw = RawKeypoint {
+    fn raw(k: &[u32; 10]) -> RawKeypoint {
+        RawKeypoint {
             x: f32::from_bits(k[0]),
             y: f32::from_bits(k[1]),
             size: f32::from_bits(k[2]),
@@ -161,31 +154,57 @@ mod found {
             cc: k[7] as i32,
             rr: k[8] as i32,
             moves: k[9] as usize,
-        };
-        let mut out = Vec::new();
-        let n = orient::assign_orientations(
-            img,
-            width,
-            height,
-            &raw,
-            &SiftConfig::default(),
-            &mut out,
-            &mut OrientScratch::new(),
-        );
-        let words = out
-            .iter()
-            .map(|o| {
-                [
-                    word(o.x),
-                    word(o.y),
-                    word(o.size),
-                    word(o.response),
-                    o.octave as u32,
-                    word(o.angle),
-                ]
-            })
-            .collect();
-        (words, n)
+        }
+    }
+
+    /// The source's orientation with its list and scratch, which are kept from run to run, to be timed.
+    #[derive(Default)]
+    pub struct Orientation(Vec<OrientedKeypoint>, OrientScratch);
+
+    impl Orientation {
+        /// The cells read.
+        fn assign(&mut self, img: &[f32], width: usize, height: usize, k: &[u32; 10]) -> usize {
+            self.0.clear();
+            let config = SiftConfig::default();
+            orient::assign_orientations(
+                img,
+                width,
+                height,
+                &raw(k),
+                &config,
+                &mut self.0,
+                &mut self.1,
+            )
+        }
+
+        /// How many directions the keypoint has.
+        pub fn run(&mut self, img: &[f32], width: usize, height: usize, k: &[u32; 10]) -> usize {
+            self.assign(img, width, height, k);
+            self.0.len()
+        }
+    }
+
+    /// The oriented keypoints of one keypoint, six words each, and the cells read.
+    pub fn assign_orientations(
+        img: &[f32],
+        width: usize,
+        height: usize,
+        keypoint: &[u32; 10],
+    ) -> (Vec<[u32; 6]>, usize) {
+        let mut orientation = Orientation::default();
+        let n = orientation.assign(img, width, height, keypoint);
+        let words = orientation.0.iter();
+        let words = words.map(|o| {
+            [
+                word(o.x),
+                word(o.y),
+                word(o.size),
+                word(o.response),
+                o.octave as u32,
+                word(o.angle),
+            ]
+        });
+        (words.collect(), n)
     }
 
     /// A descriptor's position, scale and angle by their bits.
@@ -248,6 +267,15 @@ mod missing {
 
     pub fn own_magnitude(_: f32, _: f32) -> f32 {
         panic!("{MISSING}")
+    }
+
+    #[derive(Default)]
+    pub struct Orientation;
+
+    impl Orientation {
+        pub fn run(&mut self, _: &[f32], _: usize, _: usize, _: &[u32; 10]) -> usize {
+            panic!("{MISSING}")
+        }
     }
 
     #[derive(Default)]

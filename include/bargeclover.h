@@ -96,6 +96,17 @@ uint32_t bargeclover_assign_orientations(const float *img, size_t img_len, size_
 uint32_t bargeclover_descriptor_inputs(const uint32_t *oriented, size_t oriented_len, int32_t octave, uint32_t *out, size_t out_len);
 
 /*
+ * The descriptor of the patch about a position of a picture: 128 values, each a whole number from 0 to 255.
+ * img has height * width samples. x, y, scale and angle are as descriptor_inputs gives them: the position, rounded, must lie in the
+ * picture, the scale in 0.125 to 64, the angle in 0 to 360 degrees, and all must be finite. count is 128 beside 0 and 7, and else 0.
+ * samples is the number of cells used, 0 beside every other number than 0: values that are all zero are those of a flat patch where it
+ * is above 0, and of a patch of which nothing was read where it is 0.
+ * Refused with 1, 3, 5, 6 (only the four neighbours of each cell used) or 7 (out_len is not 128).
+ */
+uint32_t bargeclover_compute_descriptor(const float *img, size_t img_len, size_t width, size_t height, float x, float y, float scale,
+    float angle, float *out, size_t out_len, size_t *count, size_t *samples);
+
+/*
  * The sheet of keypoints, edition 1: bits packed most significant first, a header of 8 bytes, then 154 bytes a record.
  * A record is handed over as 138 words: row, column, octave, layer, code; x, y, size, response and angle by their float bits; the 128
  * values. Row and column lie in the picture, octave is 0 to 15, layer 1 to layers, code 0 to 255; the five floats are finite with sign

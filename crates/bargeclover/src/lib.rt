@@ -10,6 +10,7 @@ ghost use Rattle.params.specs.Threshold.{thresholdAnswer, thresholdNumber, thre
 ghost use Rattle.detect.specs.Entry.{extremaAnswer, extremaOut};
 ghost use Rattle.orient.specs.Entry.{orientAnswer, orientOut};
 ghost use Rattle.inputs.specs.Inputs.{inputsOf};
+ghost use Rattle.descriptor.specs.Entry.{numberOf as describedNumber, countOf as describedCount, usedOf, describedOf, describedOut};
 ghost use Rattle.sheet.specs.Layout.{edition1};
 ghost use Rattle.sheet.specs.Writes.{frameOf, writeAnswer, writeOut};
 ghost use Rattle.sheet.specs.Reads.{readAnswer, readOut};
@@ -19,6 +20,7 @@ ghost use Rattle.hal.specs.Exp.{exp2Of, expOf};
 ghost use Rattle.hal.specs.Turn.{sinOf, cosOf};
 ghost use Rattle.hal.specs.Angle.{angleOf};
 ghost use Rattle.hal.specs.Magnitude.{magnitudeOf};
+use descriptor::Described;
 use inputs::Inputs;
 use orient::OrientedKeypoint;
 use params::Answer;
@@ -360,6 +362,62 @@ pub extern "C" fn bargeclover_descriptor_inputs(
     }
     put_inputs(i, out);
     0
+}
+
+// ---- the descriptor
+
+fn described_number(a: Described) -> u32
+    ensures { λ r. ⌜ r ≡ describedNumber a ⌝ }
+{
+    match a {
+        Described::Done(_) => 0,
+        Described::Short => 7,
+        Described::Refused(k) => k,
+    }
+}
+
+fn described_count(a: Described) -> usize
+    ensures { λ r. ⌜ r ≡ describedCount a ⌝ }
+{
+    match a {
+        Described::Done(_) => 128,
+        Described::Short => 128,
+        Described::Refused(_) => 0,
+    }
+}
+
+fn described_used(a: Described) -> usize
+    ensures { λ r. ⌜ r ≡ usedOf a ⌝ }
+{
+    match a {
+        Described::Done(n) => n,
+        Described::Short => 0,
+        Described::Refused(_) => 0,
+    }
+}
+
+#[no_mangle]
+pub extern "C" fn bargeclover_compute_descriptor(
+    img: &[f32],
+    width: usize,
+    height: usize,
+    x: f32,
+    y: f32,
+    scale: f32,
+    angle: f32,
+    out: &mut [f32],
+    count: &mut usize,
+    samples: &mut usize,
+) -> u32
+    ensures { λ r. ⌜ r ≡ describedNumber (describedOf (now (img .entry)) width height x y scale angle (length (now (out .entry)))) ⌝ }
+    ensures { λ _. ⌜ now (count .exit) ≡ describedCount (describedOf (now (img .entry)) width height x y scale angle (length (now (out .entry)))) ⌝ }
+    ensures { λ _. ⌜ now (samples .exit) ≡ usedOf (describedOf (now (img .entry)) width height x y scale angle (length (now (out .entry)))) ⌝ }
+    ensures { λ _. ⌜ now (out .exit) ≡ describedOut (now (img .entry)) width height x y scale angle (now (out .entry)) ⌝ }
+{
+    let a = descriptor::compute_descriptor(img, width, height, x, y, scale, angle, out);
+    *count = described_count(a);
+    *samples = described_used(a);
+    described_number(a)
 }
 
 // ---- the sheet

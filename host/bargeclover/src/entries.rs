@@ -1,7 +1,7 @@
 //! The entries as they are in C, made safe by slices: numbers, counts and words, and nothing allocated. Each answers document
 //! 01's number and what it carries. On a refusal nothing is written and all else is 0, but for the count needed beside a 7.
 
-use crate::{Picture, Settings, Stack, ffi};
+use crate::{Aim, Picture, Settings, Stack, ffi};
 
 /// The number, and the threshold by its bits.
 pub fn threshold(contrast: f64, layers: usize) -> (u32, u32) {
@@ -102,6 +102,43 @@ pub fn assign_orientations(
             picture.height,
             keypoint.as_ptr(),
             keypoint.len(),
+            out.as_mut_ptr(),
+            out.len(),
+            &mut count,
+            &mut samples,
+        )
+    };
+    (number, count, samples)
+}
+
+/// The number; four words of `out`, which has four: x, y, scale and angle by their bits.
+pub fn descriptor_inputs(oriented: &[u32], octave: i32, out: &mut [u32]) -> u32 {
+    // SAFETY: each pointer is good for its length, and what is written is lent to nobody else.
+    unsafe {
+        ffi::bargeclover_descriptor_inputs(
+            oriented.as_ptr(),
+            oriented.len(),
+            octave,
+            out.as_mut_ptr(),
+            out.len(),
+        )
+    }
+}
+
+/// The number, the count of values and the samples used; `out` has 128.
+pub fn compute_descriptor(picture: &Picture, aim: &Aim, out: &mut [f32]) -> (u32, usize, usize) {
+    let (mut count, mut samples) = (0, 0);
+    // SAFETY: each pointer is good for its length, and what is written is lent to nobody else.
+    let number = unsafe {
+        ffi::bargeclover_compute_descriptor(
+            picture.samples.as_ptr(),
+            picture.samples.len(),
+            picture.width,
+            picture.height,
+            aim.x,
+            aim.y,
+            aim.scale,
+            aim.angle,
             out.as_mut_ptr(),
             out.len(),
             &mut count,

@@ -68,4 +68,27 @@ unsafe extern "C" {
         count: *mut usize,
         samples: *mut usize,
     ) -> u32;
+
+    pub fn bargeclover_descriptor_inputs(
+        oriented: *const u32,
+        oriented_len: usize,
+        octave: i32,
+        out: *mut u32,
+        out_len: usize,
+    ) -> u32;
+
+    pub fn bargeclover_compute_descriptor(
+        img: *const f32,
+        img_len: usize,
+        width: usize,
+        height: usize,
+        x: f32,
+        y: f32,
+        scale: f32,
+        angle: f32,
+        out: *mut f32,
+        out_len: usize,
+        count: *mut usize,
+        samples: *mut usize,
+    ) -> u32;
 }

@@ -16,6 +16,7 @@
 //! ```
 
 pub mod bits;
+mod descriptor;
 mod detection;
 pub mod entries;
 pub mod ffi;
@@ -23,6 +24,7 @@ mod orientation;
 mod refusal;
 mod sheet;
 
+pub use descriptor::{Aim, Descriptor, compute_descriptor, descriptor_inputs};
 pub use detection::{Keypoint, Settings, Stack, find_extrema, threshold};
 pub use orientation::{Orientations, Oriented, Picture, assign_orientations};
 pub use refusal::Refusal;

@@ -1,8 +1,9 @@
 //! The library and the published Rust's scalar path in one process, on the same buffers, in turns; medians, and their ratio.
 //!
-//! Build it with --release. `bench`, or `bench` with some of the words calls, detection, orientation. Figures are kept in
-//! docs/SPEED.md.
+//! Build it with --release. `bench`, or `bench` with some of the words calls, detection, orientation, descriptor. Figures are
+//! kept in docs/SPEED.md.
 
+mod descriptor;
 mod detection;
 mod operations;
 mod orientation;
@@ -33,6 +34,9 @@ fn main() {
         }
         if asked("orientation") {
             orientation::print();
+        }
+        if asked("descriptor") {
+            descriptor::print();
         }
     } else {
         println!("The published Rust was not found: the entries are not timed.");

@@ -4,6 +4,7 @@
 //! with the refusal table rendered a second time where it is not, and single operations with the processor. It prints what it
 //! tried and what differs, and ends with status 1 where anything does.
 
+mod descriptor;
 mod detection;
 mod operations;
 mod orientation;
@@ -64,9 +65,11 @@ fn main() -> ExitCode {
         detection::thresholds(&mut rng, w.stacks, &mut r);
         detection::stacks(&mut rng, w.stacks, &mut r);
         orientation::keypoints(&mut rng, w.stacks, &mut r);
+        descriptor::inputs(&mut rng, w.stacks, &mut r);
+        descriptor::descriptors(&mut rng, w.stacks, &mut r);
     } else {
         println!(
-            "SKIPPED: the published Rust was not found, so stacks and keypoints were not compared"
+            "SKIPPED: the published Rust was not found, so stacks, keypoints and descriptors were not compared"
         );
         if env::var("CI").is_ok_and(|v| v == "true") {
             r.differs("with CI=true the published Rust must be there");

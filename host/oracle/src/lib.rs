@@ -224,25 +224,34 @@ mod found {
         [word(x), word(y), word(scale), word(angle)]
     }
 
+    /// The source's descriptor and its scratch, which is kept from run to run, to be timed.
+    #[derive(Default)]
+    pub struct Describe(DescriptorScratch);
+
+    impl Describe {
+        /// The samples used.
+        pub fn run(
+            &mut self,
+            img: &[f32],
+            width: usize,
+            height: usize,
+            [x, y, scale, angle]: [f32; 4],
+            out: &mut [f32; 128],
+        ) -> usize {
+            let sc = &mut self.0;
+            descriptor::compute_descriptor(img, width, height, x, y, scale, angle, out, sc)
+        }
+    }
+
     /// The 128 values by their bits, and the samples used.
     pub fn compute_descriptor(
         img: &[f32],
         width: usize,
         height: usize,
-        [x, y, scale, angle]: [f32; 4],
+        at: [f32; 4],
     ) -> ([u32; 128], usize) {
         let mut out = [0.0; 128];
-        let n = descriptor::compute_descriptor(
-            img,
-            width,
-            height,
-            x,
-            y,
-            scale,
-            angle,
-            &mut out,
-            &mut DescriptorScratch::new(),
-        );
+        let n = Describe::default().run(img, width, height, at, &mut out);
         (out.map(word), n)
     }
 }
@@ -306,6 +315,22 @@ mod missing {
 
     pub fn descriptor_inputs(_: &[u32; 6], _: i32) -> [u32; 4] {
         panic!("{MISSING}")
+    }
+
+    #[derive(Default)]
+    pub struct Describe;
+
+    impl Describe {
+        pub fn run(
+            &mut self,
+            _: &[f32],
+            _: usize,
+            _: usize,
+            _: [f32; 4],
+            _: &mut [f32; 128],
+        ) -> usize {
+            panic!("{MISSING}")
+        }
     }
 
     pub fn compute_descriptor(_: &[f32], _: usize, _: usize, _: [f32; 4]) -> ([u32; 128], usize) {

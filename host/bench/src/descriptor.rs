@@ -1,0 +1,67 @@
+//! `compute_descriptor` by keypoint.
+
+use crate::timing::medians;
+use bargeclover::{Aim, Picture, entries};
+use cases::Rng;
+use oracle::Describe;
+
+const WIDTH: usize = 640;
+const HEIGHT: usize = 480;
+const KEYPOINTS: usize = 64;
+const ROUNDS: usize = 15;
+
+pub fn print() {
+    let mut r = Rng::new(9);
+    let grain: Vec<f32> = (0..WIDTH * HEIGHT)
+        .map(|_| (255.0 * r.unit()) as f32)
+        .collect();
+    let picture = Picture {
+        samples: &grain,
+        width: WIDTH,
+        height: HEIGHT,
+    };
+    println!("### Descriptor\n");
+    println!(
+        "`compute_descriptor`, {KEYPOINTS} places of a picture of {WIDTH} x {HEIGHT}, turned by any angle; microseconds for each.\n"
+    );
+    println!("| scale | samples | library | published Rust | ratio |");
+    println!("|---|---|---|---|---|");
+    for scale in [1.6, 2.0, 2.5, 3.2, 6.4] {
+        let aims: Vec<Aim> = (0..KEYPOINTS)
+            .map(|_| Aim {
+                x: (WIDTH as f64 * (0.2 + 0.6 * r.unit())) as f32,
+                y: (HEIGHT as f64 * (0.2 + 0.6 * r.unit())) as f32,
+                scale,
+                angle: (360.0 * r.unit()) as f32,
+            })
+            .collect();
+        let mut values = [0.0; 128];
+        let mut ours = || {
+            let each = aims.iter();
+            each.map(|a| entries::compute_descriptor(&picture, a, &mut values).2 as u64)
+                .sum()
+        };
+        let mut out = [0.0; 128];
+        let mut describe = Describe::default();
+        let mut theirs = || {
+            let each = aims.iter();
+            each.map(|a| {
+                let at = [a.x, a.y, a.scale, a.angle];
+                describe.run(&grain, WIDTH, HEIGHT, at, &mut out) as u64
+            })
+            .sum()
+        };
+        let used: u64 = ours();
+        assert_eq!(used, theirs());
+        let [a, b] = medians(ROUNDS, [&mut ours, &mut theirs]);
+        let each = 1000.0 * KEYPOINTS as f64;
+        println!(
+            "| {scale} | {:.0} | {:.1} | {:.1} | {:.2} |",
+            used as f64 / KEYPOINTS as f64,
+            a / each,
+            b / each,
+            a / b
+        );
+    }
+    println!();
+}

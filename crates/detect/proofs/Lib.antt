@@ -1,4 +1,5 @@
 pub mod Faults
 pub mod Answers
+pub mod Room
 pub mod SignLaw
 pub mod Rules

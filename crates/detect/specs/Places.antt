@@ -1,5 +1,5 @@
 -- What the functions of the scan ask of where they stand, and what they find. Definitions only.
-use Prim.Native.Nat.{ℕ, _-_, _*_, _<_, _≤_}
+use Prim.Native.Nat.{ℕ, _+_, _-_, _*_, _<_, _≤_}
 use mathlib.Core.Path.{_≡_}
 use mathlib.Core.List.{List}
 use lib.ListN.{length}
@@ -9,7 +9,7 @@ use Rattle.params.specs.declared.Answer.{Answer}
 use Rattle.refine.specs.declared.RawKeypoint.{RawKeypoint}
 use Rattle.extrema.specs.Scan.{keypointWords}
 use Rattle.detect.specs.declared.Scanned.{Scanned}
-use Rattle.params.specs.Limits.{border}
+use Rattle.params.specs.Limits.{border, maxSide}
 
 -- there is a cell at least the border from every edge
 pub record Wide (w h : ℕ) : Type 0 where
@@ -20,13 +20,24 @@ pub record Wide (w h : ℕ) : Type 0 where
 abbrev pub maxHeld : ℕ
 maxHeld = 2048
 
--- what a scan of h rows found: the number of all keypoints, and, of the rows before one, few enough to be held
+-- what a scan of h rows holds: of the rows before one all keypoints, few enough
 pub record ScannedOf (h : ℕ) (row : ℕ → List RawKeypoint) (t : Scanned) : Type 0 where
-  pub all : t .count ≡ length (joined border (h - border) row)
   pub some : t .held ≡ length (joined border (t .row) row)
   pub few : t .held ≤ maxHeld
   pub from : border ≤ t .row
   pub to : t .row ≤ h - border
+
+-- the rows from `row` on, in the plane p of n, at least the border from the edges
+pub record Rows (len w h n p row : ℕ) : Type 0 where
+  pub whole : len ≡ n * h * w
+  pub wide : w ≤ maxSide
+  pub high : h ≤ maxSide
+  pub broad : 2 * border < w
+  pub tall : 2 * border < h
+  pub before : 1 ≤ p
+  pub after : p + 1 < n
+  pub from : border ≤ row
+  pub to : row ≤ h - border
 
 -- the answer where no check before that of room fails
 abbrev pub roomAnswer : List RawKeypoint → ℕ → Answer

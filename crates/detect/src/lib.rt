@@ -3,7 +3,7 @@
 ghost use mathlib.Core.Path.{_≡_};
 ghost use mathlib.Core.Bool.{false};
 ghost use Prim.Native.Nat.{ℕ, _+_, _-_, _*_, _^_, _<_, _≤_};
-ghost use lib.ListN.{length};
+ghost use lib.ListN.{length, take};
 ghost use lib.Seq.{sets};
 ghost use Rattle.lists.specs.Ranges.{joined};
 ghost use Rattle.params.specs.Limits.{border};
@@ -13,22 +13,22 @@ ghost use Rattle.params.specs.Threshold.{thresholdOf};
 ghost use Rattle.extrema.specs.Neighbours.{tied};
 ghost use Rattle.extrema.specs.Scan.{rowOf, keypoints, words};
 ghost use Rattle.extrema.specs.Places.{Stack};
+ghost use Rattle.extrema.specs.Hints.{leftOf};
 ghost use Rattle.detect.specs.Entry.{faultOf, extremaAnswer, extremaOut};
-ghost use Rattle.detect.specs.Places.{Wide, ScannedOf, roomAnswer};
+ghost use Rattle.detect.specs.Places.{Wide, Rows, maxHeld, ScannedOf, roomAnswer};
 use params::Answer;
 use params::Settings;
 
 // How many keypoints a scan holds back, until it is known that all fit in what is lent.
 const HELD: usize = 2048;
 
-// What a scan found: how many keypoints in all, and how many are held, of the rows before `row`.
+// What a scan holds: so many keypoints, those of the rows before `row`.
 pub struct Scanned {
-    pub count: usize,
     pub held: usize,
     pub row: usize,
 }
 
-// Counts all keypoints, and holds the words of the first of them.
+// Holds the words of the first keypoints, up to the row whose keypoints would not all fit.
 fn scan(
     dog: &[f32],
     w: usize,
@@ -43,27 +43,25 @@ fn scan(
     requires { ⌜ Stack (length (now dog)) w h n (s .layers) octave p ⌝ }
     requires { ⌜ threshold ≡ thresholdOf (s .contrast) (s .layers) ⌝ }
     requires { ⌜ Wide w h ⌝ }
+    requires { ⌜ 10 * maxHeld ≤ length (now hold) ⌝ }
     ensures { λ t. ⌜ ScannedOf h (λ r. rowOf tied (now (dog .entry)) w h s octave p r) t ⌝ }
-    ensures { λ t. ⌜ now (hold .exit) ≡ sets (now (hold .entry)) 0 (words (keypoints tied (now (dog .entry)) w h s octave p)) ⌝ }
+    ensures { λ t. ⌜ take (10 * t .held) (now (hold .exit)) ≡ words (joined border (t .row) (λ r. rowOf tied (now (dog .entry)) w h s octave p r)) ⌝ }
 {
-    let mut count: usize = 0;
     let mut held: usize = 0;
-    let mut row: usize = 5;
     for r in 5..h - 5 {
-        count += extrema::row_words(dog, w, h, n, s, octave, threshold, p, r, hold, 10 * count);
-        if count <= HELD {
-            held = count;
-            row = r + 1;
+        let k = extrema::row_words(dog, w, h, n, s, octave, threshold, p, r, hold, 10 * held);
+        if held + k > HELD {
+            return Scanned { held: held, row: r };
         }
+        held += k;
     }
     Scanned {
-        count: count,
         held: held,
-        row: row,
+        row: h - 5,
     }
 }
 
-// Writes the keypoints of the rows from `row` on.
+// Writes the keypoints of the rows from `row` on, as far as there is room, and counts them.
 fn fill(
     dog: &[f32],
     w: usize,
@@ -76,17 +74,66 @@ fn fill(
     row: usize,
     out: &mut [u32],
     from: usize,
-)
+) -> usize
     requires { ⌜ Stack (length (now dog)) w h n (s .layers) octave p ⌝ }
     requires { ⌜ threshold ≡ thresholdOf (s .contrast) (s .layers) ⌝ }
     requires { ⌜ Wide w h ⌝ }
     requires { ⌜ (border ≤ row) × (row ≤ h - border) × (from < 2 ^ 38) ⌝ }
-    ensures { λ _. ⌜ now (out .exit) ≡ sets (now (out .entry)) from (words (joined row (h - border) (λ r. rowOf tied (now (dog .entry)) w h s octave p r))) ⌝ }
+    ensures { λ k. ⌜ k ≡ length (joined row (h - border) (λ r. rowOf tied (now (dog .entry)) w h s octave p r)) ⌝ }
+    ensures { λ k. ⌜ now (out .exit) ≡ sets (now (out .entry)) from (words (joined row (h - border) (λ r. rowOf tied (now (dog .entry)) w h s octave p r))) ⌝ }
 {
-    let mut at = from;
+    let mut k: usize = 0;
     for r in row..h - 5 {
-        at += 10 * extrema::row_words(dog, w, h, n, s, octave, threshold, p, r, out, at);
+        k += extrema::row_words(dog, w, h, n, s, octave, threshold, p, r, out, from + 10 * k);
     }
+    k
+}
+
+// How many cells of the rows from `row` on the first look leaves: no fewer than there are keypoints.
+fn most(dog: &[f32], w: usize, h: usize, n: usize, threshold: f32, p: usize, row: usize) -> usize
+    requires { ⌜ Rows (length (now dog)) w h n p row ⌝ }
+    ensures { λ k. ⌜ k ≡ length (joined row (h - border) (λ r. leftOf threshold (now (dog .entry)) w h p r)) ⌝ }
+{
+    let mut k: usize = 0;
+    for r in row..h - 5 {
+        k += extrema::row_most(dog, w, h, n, threshold, p, r);
+    }
+    k
+}
+
+// The number of all keypoints where they do not fit in `room` words, else 0. `held` is the number of those in the rows before `row`.
+// Where even as many keypoints fit as the first look leaves cells, nothing is searched for it.
+fn too_many(
+    dog: &[f32],
+    w: usize,
+    h: usize,
+    n: usize,
+    s: Settings,
+    octave: u32,
+    threshold: f32,
+    p: usize,
+    held: usize,
+    row: usize,
+    room: usize,
+) -> usize
+    requires { ⌜ Stack (length (now dog)) w h n (s .layers) octave p ⌝ }
+    requires { ⌜ threshold ≡ thresholdOf (s .contrast) (s .layers) ⌝ }
+    requires { ⌜ Wide w h ⌝ }
+    requires { ⌜ (border ≤ row) × (row ≤ h - border) × (held ≤ maxHeld) ⌝ }
+    requires { ⌜ held ≡ length (joined border row (λ r. rowOf tied (now dog) w h s octave p r)) ⌝ }
+    ensures { λ k. ⌜ (k ≡ 0 → 10 * length (keypoints tied (now (dog .entry)) w h s octave p) ≤ room) ⌝ }
+    ensures { λ k. ⌜ (0 < k → (k ≡ length (keypoints tied (now (dog .entry)) w h s octave p)) × (room < 10 * k)) ⌝ }
+{
+    let bound = held + most(dog, w, h, n, threshold, p, row);
+    if 10 * bound <= room {
+        return 0;
+    }
+    let mut none = [0u32; 1];
+    let all = held + fill(dog, w, h, n, s, octave, threshold, p, row, &mut none, 0);
+    if 10 * all <= room {
+        return 0;
+    }
+    all
 }
 
 // The answer for a stack that no check before that of room refuses, where there are cells to search.
@@ -109,11 +156,24 @@ fn search(
     let threshold = params::threshold_of(s.contrast, s.layers);
     let mut hold = [0; HELD * 10];
     let t = scan(dog, w, h, n, s, octave, threshold, p, &mut hold);
-    if out.len() < 10 * t.count {
-        return Answer::Short(t.count);
+    let lacking = too_many(
+        dog,
+        w,
+        h,
+        n,
+        s,
+        octave,
+        threshold,
+        p,
+        t.held,
+        t.row,
+        out.len(),
+    );
+    if lacking > 0 {
+        return Answer::Short(lacking);
     }
     extrema::copy(&hold, 10 * t.held, out, 0);
-    fill(
+    let k = fill(
         dog,
         w,
         h,
@@ -126,7 +186,7 @@ fn search(
         out,
         10 * t.held,
     );
-    Answer::Done(t.count)
+    Answer::Done(t.held + k)
 }
 
 // The number of the first check that fails, or 0.

@@ -77,24 +77,49 @@ module _ (lo hi : ℕ) (f : ℕ → List RawKeypoint) (l out out' : List ℕ) (f
   pub filled-one : (x : RawKeypoint) → f hi ≡ x ∷ [] → out' ≡ sets out (from + 10 * k) (wordsOf x) → out' ≡ sets l from (words (joined lo (hi + 1) f))
   filled-one x e q = filled lo hi f l out out' from (from + 10 * k) k (x ∷ []) h e n refl o (q ∙ rw words-one)
 
--- the parts up to one held, and those from it on written behind them, are all parts written
-pub written : (lo mid hi : ℕ) (f : ℕ → List RawKeypoint) (l hold hold' out out' : List ℕ) (k at : ℕ)
+-- the parts up to one and those from it on: counted, and written behind each other
+pub counted-on : {A : Type 0} (lo mid hi : ℕ) (f : ℕ → List A) (k x : ℕ) → lo ≤ mid → mid ≤ hi → k ≡ length (joined lo mid f) → x ≡ length (joined mid hi f) → k + x ≡ length (joined lo hi f)
+counted-on lo mid hi f k x a b n e = rw (← joined-split lo mid hi f a b, length-append) (omega arith)
+
+pub filled-on : (lo mid hi : ℕ) (f : ℕ → List RawKeypoint) (l out out' : List ℕ) (from k : ℕ)
+    → lo ≤ mid
+    → mid ≤ hi
+    → k ≡ length (joined lo mid f)
+    → out ≡ sets l from (words (joined lo mid f))
+    → out' ≡ sets out (from + 10 * k) (words (joined mid hi f))
+    → out' ≡ sets l from (words (joined lo hi f))
+filled-on lo mid hi f l out out' from k a b n o o' =
+    let w : words (joined lo hi f) ≡ words (joined lo mid f) ++ words (joined mid hi f) = rw (← joined-split lo mid hi f a b, words-append) in
+    let z : from + 10 * k ≡ from + length (words (joined lo mid f)) = omega (arith, length-words (joined lo mid f)) in
+    o' ∙ rw (o, z, w, sets-append (words (joined lo mid f)) (words (joined mid hi f)) l from)
+
+-- the front of what was written of all parts is the parts up to one
+pub taken : (lo mid hi : ℕ) (f : ℕ → List RawKeypoint) (hold hold' : List ℕ) (k at : ℕ)
     → lo ≤ mid
     → mid ≤ hi
     → k ≡ length (joined lo mid f)
     → at ≡ 10 * k
     → at ≤ length hold
     → hold' ≡ sets hold 0 (words (joined lo hi f))
-    → out ≡ sets l 0 (take at hold')
-    → out' ≡ sets out at (words (joined mid hi f))
-    → out' ≡ sets l 0 (words (joined lo hi f))
-written lo mid hi f l hold hold' out out' k at a b n q room e o o' =
+    → take at hold' ≡ words (joined lo mid f)
+taken lo mid hi f hold hold' k at a b n q room e =
     let w : words (joined lo hi f) ≡ words (joined lo mid f) ++ words (joined mid hi f) = rw (← joined-split lo mid hi f a b, words-append) in
     let z : length (words (joined lo mid f)) ≡ at = omega (arith, length-words (joined lo mid f)) in
     let m : at ≤ length (words (joined lo hi f)) = rw (w, length-append) (omega arith) in
-    let t : take at hold' ≡ words (joined lo mid f) =
-    rw e (take-sets at hold (words (joined lo hi f)) room m
-    ∙ ap (take at) w
-    ∙ take-at (words (joined lo mid f)) (words (joined mid hi f)) at z) in
+    rw e (take-sets at hold (words (joined lo hi f)) room m ∙ ap (take at) w ∙ take-at (words (joined lo mid f)) (words (joined mid hi f)) at z)
+
+-- the parts up to one held, and those from it on written behind them, are all parts written
+pub written : (lo mid hi : ℕ) (f : ℕ → List RawKeypoint) (l hold out out' : List ℕ) (k at : ℕ)
+    → lo ≤ mid
+    → mid ≤ hi
+    → k ≡ length (joined lo mid f)
+    → at ≡ 10 * k
+    → take at hold ≡ words (joined lo mid f)
+    → out ≡ sets l 0 (take at hold)
+    → out' ≡ sets out at (words (joined mid hi f))
+    → out' ≡ sets l 0 (words (joined lo hi f))
+written lo mid hi f l hold out out' k at a b n q t o o' =
+    let w : words (joined lo hi f) ≡ words (joined lo mid f) ++ words (joined mid hi f) = rw (← joined-split lo mid hi f a b, words-append) in
+    let z : length (words (joined lo mid f)) ≡ at = omega (arith, length-words (joined lo mid f)) in
     let s = sets-append (words (joined lo mid f)) (words (joined mid hi f)) l 0 in
     o' ∙ rw (o, t, w, ← s, zero-add, z)

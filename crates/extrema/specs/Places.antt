@@ -29,3 +29,22 @@ pub record Row (w h r : ℕ) : Type 0 where
   pub broad : 2 * border < w
   pub top : border ≤ r
   pub bottom : r < h - border
+
+-- the columns from lo to below hi lie in the row r of the plane p, with all their neighbours
+pub record Run (len w h n p r lo hi : ℕ) : Type 0 where
+  pub whole : len ≡ n * h * w
+  pub before : 1 ≤ p
+  pub after : p + 1 < n
+  pub above : 1 ≤ r
+  pub below : r + 1 < h
+  pub left : 1 ≤ lo
+  pub right : hi < w
+
+-- the columns from lo to below hi, at most 64, are at least the border from both edges, in a row that is
+pub record Part (w h r lo hi : ℕ) : Type 0 where
+  pub top : border ≤ r
+  pub bottom : r < h - border
+  pub start : border ≤ lo
+  pub order : lo ≤ hi
+  pub end : hi ≤ w - border
+  pub few : hi ≤ lo + 64

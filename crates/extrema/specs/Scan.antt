@@ -23,9 +23,13 @@ unfoldable pub found : Rule → List Float → ℕ → ℕ → Settings → ℕ 
 found rule d w h s octave p r c =
     cond (candidate rule (thresholdOf (s .contrast) (s .layers)) d w h p r c) (kept (refineOf d w h s octave p r c)) []
 
--- the cells of a row that are at least the border from both edges, from left to right
+-- the cells of a row from column lo to below hi, from left to right
+abbrev pub cellsOf : Rule → List Float → ℕ → ℕ → Settings → ℕ → ℕ → ℕ → ℕ → ℕ → List RawKeypoint
+cellsOf rule d w h s octave p r lo hi = joined lo hi (λ c. found rule d w h s octave p r c)
+
+-- those that are at least the border from both edges
 unfoldable pub rowOf : Rule → List Float → ℕ → ℕ → Settings → ℕ → ℕ → ℕ → List RawKeypoint
-rowOf rule d w h s octave p r = joined border (w - border) (λ c. found rule d w h s octave p r c)
+rowOf rule d w h s octave p r = cellsOf rule d w h s octave p r border (w - border)
 
 -- the rows that are at least the border from both edges, from top to bottom
 unfoldable pub keypoints : Rule → List Float → ℕ → ℕ → Settings → ℕ → ℕ → List RawKeypoint

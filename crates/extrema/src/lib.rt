@@ -1,8 +1,8 @@
 // The cells of one layer of a stack of difference planes: the search among a cell's neighbours, and what a row of cells gives, as words.
 
 ghost use mathlib.Core.Path.{_≡_};
-ghost use mathlib.Core.Bool.{cond};
-ghost use Prim.Native.Nat.{_+_, _-_, _*_, _^_, _<_, _≤_};
+ghost use mathlib.Core.Bool.{false, cond};
+ghost use Prim.Native.Nat.{ℕ, _+_, _-_, _*_, _^_, _<_, _≤_};
 ghost use lib.ListN.{length, set, take};
 ghost use lib.Seq.{sets};
 ghost use Rattle.ieee.specs.F32.{_<ᶠ_, _≤ᶠ_};
@@ -11,8 +11,9 @@ ghost use Rattle.params.specs.Threshold.{thresholdOf};
 ghost use Rattle.picture.specs.Stack.{sample};
 ghost use Rattle.refine.specs.Keypoint.{Place};
 ghost use Rattle.extrema.specs.Neighbours.{tied, nought, centre, isExtremum, loud};
-ghost use Rattle.extrema.specs.Scan.{kept, found, rowOf, wordsOf, words};
-ghost use Rattle.extrema.specs.Places.{Around, Stack, Row};
+ghost use Rattle.extrema.specs.Scan.{kept, found, cellsOf, rowOf, wordsOf, words};
+ghost use Rattle.extrema.specs.Places.{Around, Stack, Row, Run, Part};
+ghost use Rattle.extrema.specs.Hints.{hint, hintAt, Marked, leftOf};
 use params::Settings;
 use refine::RawKeypoint;
 use refine::Refined;
@@ -154,6 +155,209 @@ fn put(out: &mut [u32], at: usize, k: RawKeypoint)
     copy(&row, 10, out, at);
 }
 
+// A first look: whether v is loud and not beaten by its six nearest neighbours.
+fn may_be(threshold: f32, v: f32, a: f32, b: f32, c: f32, d: f32, e: f32, f: f32) -> bool
+    ensures { λ x. ⌜ x ≡ hint threshold v a b c d e f ⌝ }
+{
+    let up = v > 0.0;
+    let row = keeps(up, v, a) & keeps(up, v, b);
+    let column = keeps(up, v, c) & keeps(up, v, d);
+    let planes = keeps(up, v, e) & keeps(up, v, f);
+    is_loud(threshold, v) & (row & (column & planes))
+}
+
+// The first look at the cell (p, r, c).
+fn may_be_at(
+    dog: &[f32],
+    w: usize,
+    h: usize,
+    n: usize,
+    threshold: f32,
+    p: usize,
+    r: usize,
+    c: usize,
+) -> bool
+    requires { ⌜ Around (length (now dog)) w h n p r c ⌝ }
+    ensures { λ x. ⌜ x ≡ hintAt threshold (now (dog .entry)) w h p r c ⌝ }
+{
+    may_be(
+        threshold,
+        picture::at(dog, w, h, n, p, r, c),
+        picture::at(dog, w, h, n, p, r, c - 1),
+        picture::at(dog, w, h, n, p, r, c + 1),
+        picture::at(dog, w, h, n, p, r - 1, c),
+        picture::at(dog, w, h, n, p, r + 1, c),
+        picture::at(dog, w, h, n, p - 1, r, c),
+        picture::at(dog, w, h, n, p + 1, r, c),
+    )
+}
+
+// So many cells of a row are looked at before the first of them is searched.
+const BLOCK: usize = 64;
+
+// Whether one of the cells from column lo to below hi is loud. No branch depends on a sample, so that the machine looks at several at once; so in `mark` and `row_most`.
+fn any_loud(
+    dog: &[f32],
+    w: usize,
+    h: usize,
+    n: usize,
+    threshold: f32,
+    p: usize,
+    r: usize,
+    lo: usize,
+    hi: usize,
+) -> bool
+    requires { ⌜ Run (length (now dog)) w h n p r lo hi ⌝ }
+    ensures { λ x. ⌜ (x ≡ false → (c : ℕ) → lo ≤ c → c < hi → loud threshold (sample (now (dog .entry)) w h p r c) ≡ false) ⌝ }
+{
+    let mut any = false;
+    for c in lo..hi {
+        any = any | is_loud(threshold, picture::at(dog, w, h, n, p, r, c));
+    }
+    any
+}
+
+// Takes the first look at the cells from column lo to below hi.
+fn mark(
+    dog: &[f32],
+    w: usize,
+    h: usize,
+    n: usize,
+    threshold: f32,
+    p: usize,
+    r: usize,
+    lo: usize,
+    hi: usize,
+    marks: &mut [bool; 64],
+)
+    requires { ⌜ Run (length (now dog)) w h n p r lo hi ⌝ }
+    requires { ⌜ (hi ≤ lo + 64) × (length (now marks) ≡ 64) ⌝ }
+    ensures { λ _. ⌜ Marked threshold (now (dog .entry)) w h p r lo hi (now (marks .exit)) ⌝ }
+{
+    for c in lo..hi {
+        marks[c - lo] = may_be_at(dog, w, h, n, threshold, p, r, c);
+    }
+}
+
+// What a cell gives after the first look at it, whose result is `mark`.
+fn seen(
+    mark: bool,
+    dog: &[f32],
+    w: usize,
+    h: usize,
+    n: usize,
+    s: Settings,
+    octave: u32,
+    threshold: f32,
+    p: usize,
+    r: usize,
+    c: usize,
+) -> Refined
+    requires { ⌜ Place (length (now dog)) w h n (s .layers) p r c ⌝ }
+    requires { ⌜ octave ≤ maxOctave ⌝ }
+    requires { ⌜ threshold ≡ thresholdOf (s .contrast) (s .layers) ⌝ }
+    requires { ⌜ mark ≡ hintAt threshold (now dog) w h p r c ⌝ }
+    ensures { λ x. ⌜ kept x ≡ found tied (now (dog .entry)) w h s octave p r c ⌝ }
+{
+    if mark {
+        cell(dog, w, h, n, s, octave, threshold, p, r, c)
+    } else {
+        Refined::Dropped
+    }
+}
+
+// Finds the keypoints of the cells from column lo to below hi, which are marked, and writes their words from the place `from` on, as far as there is room.
+fn marked_words(
+    dog: &[f32],
+    w: usize,
+    h: usize,
+    n: usize,
+    s: Settings,
+    octave: u32,
+    threshold: f32,
+    p: usize,
+    r: usize,
+    lo: usize,
+    hi: usize,
+    marks: &[bool; 64],
+    out: &mut [u32],
+    from: usize,
+) -> usize
+    requires { ⌜ Stack (length (now dog)) w h n (s .layers) octave p ⌝ }
+    requires { ⌜ threshold ≡ thresholdOf (s .contrast) (s .layers) ⌝ }
+    requires { ⌜ Part w h r lo hi ⌝ }
+    requires { ⌜ Marked threshold (now dog) w h p r lo hi (now marks) ⌝ }
+    requires { ⌜ from < 2 ^ 39 + 2 ^ 20 ⌝ }
+    ensures { λ k. ⌜ k ≡ length (cellsOf tied (now (dog .entry)) w h s octave p r lo hi) ⌝ }
+    ensures { λ k. ⌜ now (out .exit) ≡ sets (now (out .entry)) from (words (cellsOf tied (now (dog .entry)) w h s octave p r lo hi)) ⌝ }
+{
+    let mut k: usize = 0;
+    for c in lo..hi {
+        match seen(marks[c - lo], dog, w, h, n, s, octave, threshold, p, r, c) {
+            Refined::Dropped => {}
+            Refined::At(found) => {
+                put(out, from + 10 * k, found);
+                k += 1;
+            }
+        }
+    }
+    k
+}
+
+// Finds the keypoints of the cells from column lo to below hi: a first look at all of them, then a search of those that it leaves.
+fn block_words(
+    dog: &[f32],
+    w: usize,
+    h: usize,
+    n: usize,
+    s: Settings,
+    octave: u32,
+    threshold: f32,
+    p: usize,
+    r: usize,
+    lo: usize,
+    hi: usize,
+    out: &mut [u32],
+    from: usize,
+) -> usize
+    requires { ⌜ Stack (length (now dog)) w h n (s .layers) octave p ⌝ }
+    requires { ⌜ threshold ≡ thresholdOf (s .contrast) (s .layers) ⌝ }
+    requires { ⌜ Part w h r lo hi ⌝ }
+    requires { ⌜ from < 2 ^ 39 + 2 ^ 20 ⌝ }
+    ensures { λ k. ⌜ k ≡ length (cellsOf tied (now (dog .entry)) w h s octave p r lo hi) ⌝ }
+    ensures { λ k. ⌜ now (out .exit) ≡ sets (now (out .entry)) from (words (cellsOf tied (now (dog .entry)) w h s octave p r lo hi)) ⌝ }
+{
+    if !any_loud(dog, w, h, n, threshold, p, r, lo, hi) {
+        return 0;
+    }
+    let mut marks = [false; 64];
+    mark(dog, w, h, n, threshold, p, r, lo, hi, &mut marks);
+    marked_words(
+        dog,
+        w,
+        h,
+        n,
+        s,
+        octave,
+        threshold,
+        p,
+        r,
+        lo,
+        hi,
+        &marks,
+        out,
+        from,
+    )
+}
+
+// Where the block that starts at c ends: a whole block on, or at the end of the row's cells.
+fn block_end(c: usize, end: usize) -> usize
+    requires { ⌜ c < end ⌝ }
+    ensures { λ to. ⌜ (c < to) × (to ≤ end) × (to ≤ c + 64) ⌝ }
+{
+    if end - c > BLOCK { c + BLOCK } else { end }
+}
+
 // Finds a row's keypoints, and writes their words from the place `from` on, as far as there is room.
 pub fn row_words(
     dog: &[f32],
@@ -175,15 +379,54 @@ pub fn row_words(
     ensures { λ k. ⌜ k ≡ length (rowOf tied (now (dog .entry)) w h s octave p r) ⌝ }
     ensures { λ k. ⌜ now (out .exit) ≡ sets (now (out .entry)) from (words (rowOf tied (now (dog .entry)) w h s octave p r)) ⌝ }
 {
+    let end = w - 5;
+    let mut k: usize = 0;
+    let mut c: usize = 5;
+    while c < end {
+        let to = block_end(c, end);
+        k += block_words(
+            dog,
+            w,
+            h,
+            n,
+            s,
+            octave,
+            threshold,
+            p,
+            r,
+            c,
+            to,
+            out,
+            from + 10 * k,
+        );
+        c = to;
+    }
+    k
+}
+
+fn one_if(b: bool) -> usize
+    ensures { λ x. ⌜ (x ≡ cond b 1 0) × (x ≤ 1) ⌝ }
+{
+    if b { 1 } else { 0 }
+}
+
+// How many of a row's cells the first look leaves: no fewer than the row has keypoints.
+pub fn row_most(
+    dog: &[f32],
+    w: usize,
+    h: usize,
+    n: usize,
+    threshold: f32,
+    p: usize,
+    r: usize,
+) -> usize
+    requires { ⌜ Run (length (now dog)) w h n p r 5 (w - 5) ⌝ }
+    requires { ⌜ 10 < w ⌝ }
+    ensures { λ k. ⌜ k ≡ length (leftOf threshold (now (dog .entry)) w h p r) ⌝ }
+{
     let mut k: usize = 0;
     for c in 5..w - 5 {
-        match cell(dog, w, h, n, s, octave, threshold, p, r, c) {
-            Refined::Dropped => {}
-            Refined::At(found) => {
-                put(out, from + 10 * k, found);
-                k += 1;
-            }
-        }
+        k += one_if(may_be_at(dog, w, h, n, threshold, p, r, c));
     }
     k
 }

@@ -1,5 +1,5 @@
-use Prim.Native.Nat.{_≤_, _-_, _+_, _*_}
-use mathlib.Core.Path.{_≡_, refl, ap, _∙_}
+use Prim.Native.Nat.{ℕ, _≤_, _-_, _+_, _*_}
+use mathlib.Core.Path.{_≡_, refl, sym, ap, _∙_}
 use native.Mathlib.Omega.{arith}
 use denote.Ref.{now}
 use lib.ListN.{length}
@@ -16,16 +16,16 @@ use Rattle.detect.proofs.fill.Statement.{statement}
 use Rattle.detect.proofs.fill.Tie as tie
 
 abbrev Inv-loop : tie.InvT-loop
-Inv-loop dog w h n s octave threshold p row out₀ from at₀ r₀ r-end out at r =
+Inv-loop dog w h n s octave threshold p row out₀ from k₀ r₀ r-end out k r =
     (row ≤ r) × (r ≤ h - 5) × (r-end ≡ h - 5)
-    × (at ≡ from + 10 * length (joined row r (λ r. rowOf tied dog w h s octave p r)))
+    × (k ≡ length (joined row r (λ r. rowOf tied dog w h s octave p r)))
     × (out ≡ sets out₀ from (words (joined row r (λ r. rowOf tied dog w h s octave p r))))
 
 abbrev μ-loop : tie.MeasureT-loop
-μ-loop dog w h n s octave threshold p row out₀ from at₀ r₀ r-end out at r = h - r
+μ-loop dog w h n s octave threshold p row out₀ from k₀ r₀ r-end out k r = h - r
 
 -- so many rows give a number that no step of the count can wrap
-bounded : (c : tie.At-loop Inv-loop μ-loop) → c .loop .at ≤ c .before .before .before .args .from + 10 * (maxSide * maxSide)
+bounded : (c : tie.At-loop Inv-loop μ-loop) → c .loop .k ≤ maxSide * maxSide
 bounded c =
     let a = c .before .before .before .args in
     omega (arith, rows-few tied (now (a .dog)) (a .w) (a .h) (a .s) (a .octave) (a .p) (a .row) (c .loop .r) (omega arith) (omega arith))
@@ -34,20 +34,21 @@ sub-r-end : tie.Need-sub-r-end Inv-loop μ-loop
 sub-r-end c = search needs
 
 loop-holds : tie.Need-loop-holds Inv-loop μ-loop
-loop-holds c = (omega arith, omega arith, refl, rw joined-start (omega arith), rw (joined-start, words-none))
+loop-holds c = (omega arith, omega arith, refl, sym (ap length (joined-start _ _)), rw (joined-start, words-none))
+
+mul-row-words : tie.Need-mul-row-words Inv-loop μ-loop
+mul-row-words c = omega (arith, bounded (c .before .before))
+
+add-row-words : tie.Need-add-row-words Inv-loop μ-loop
+add-row-words c = omega (arith, bounded (c .before .before))
 
 row-words-requires : tie.Need-row-words-requires Inv-loop μ-loop
 row-words-requires c κs = (search needs, (search needs, (search needs, omega (arith, bounded (c .before .before)))))
 
-mul-at : tie.Need-mul-at Inv-loop μ-loop
-mul-at c =
+add-k : tie.Need-add-k Inv-loop μ-loop
+add-k c =
     let a = c .before .before .before .before .before .before .before .before .args in
-    omega (arith, bounded (c .before .before .before .before .before), row-bound tied (now (a .dog)) (a .w) (a .h) (a .s) (a .octave) (a .p) (c .before .before .before .before .before .loop .r))
-
-add-at : tie.Need-add-at Inv-loop μ-loop
-add-at c =
-    let a = c .before .before .before .before .before .before .before .before .args in
-    omega (arith, bounded (c .before .before .before .before .before), row-bound tied (now (a .dog)) (a .w) (a .h) (a .s) (a .octave) (a .p) (c .before .before .before .before .before .loop .r))
+    omega (arith, bounded (c .before .before .before .before .before), c .before .before .row-words .ensures .0, row-bound tied (now (a .dog)) (a .w) (a .h) (a .s) (a .octave) (a .p) (c .before .before .before .before .before .loop .r))
 
 add-r : tie.Need-add-r Inv-loop μ-loop
 add-r c = search needs
@@ -59,10 +60,9 @@ loop-again : tie.Need-loop-again Inv-loop μ-loop
 loop-again c =
     let l = c .before .before .before .before .before .loop in
     let g = c .before .before .row-words .ensures in
-    let a = c .before .before .before .before .before .before .before .before .args in
-    let n = counted (a .row) (l .r) (λ r. rowOf tied (now (a .dog)) (a .w) (a .h) (a .s) (a .octave) (a .p) r) _ _ _ (l .inv .0) refl refl refl in
-    let o = filled _ _ _ _ _ _ _ _ _ _ (l .inv .0) refl refl (l .inv .3) (l .inv .4) (g .1) in
-    (omega arith, omega arith, refl, omega (arith, n, g .0), o)
+    let n = counted _ _ _ _ _ _ (l .inv .0) refl (l .inv .3) (ap (λ (x : ℕ). l .k + x) (g .0)) in
+    let o = filled _ _ _ _ _ _ _ _ _ _ (l .inv .0) refl (l .inv .3) refl (l .inv .4) (g .1) in
+    (omega arith, omega arith, refl, n, o)
 
 same-length : tie.Need-same-length Inv-loop μ-loop
 same-length c = ap length (c .before .loop .inv .4) ∙ simp length-sets
@@ -71,7 +71,7 @@ returns : tie.Need-returns Inv-loop μ-loop
 returns c =
     let l = c .before .loop in
     let e : l .r ≡ c .before .before .before .before .args .h - 5 = omega arith in
-    rw e at (l .inv .4)
+    (rw e at (l .inv .3), rw e at (l .inv .4))
 
 pub fill-spec : {M : Type 1} → statement M
 fill-spec =
@@ -81,9 +81,10 @@ fill-spec =
     μ-loop
     sub-r-end
     loop-holds
+    mul-row-words
+    add-row-words
     row-words-requires
-    mul-at
-    add-at
+    add-k
     add-r
     loop-less
     loop-again

@@ -1,13 +1,15 @@
-use Prim.Native.Nat.{_-_}
-use mathlib.Core.Path.{refl}
+use Prim.Native.Nat.{_-_, _≤_}
+use mathlib.Core.Path.{_≡_, refl}
 use native.Mathlib.Omega.{arith}
 use denote.Ref.{now}
 use borrow.Author.Needs.{needs}
+use Rattle.params.specs.Limits.{maxSide}
 use Rattle.extrema.specs.Neighbours.{tied}
 use Rattle.extrema.specs.Scan.{keypoints}
 use Rattle.extrema.proofs.Words.{written}
 use Rattle.extrema.proofs.Rows.{rows-few}
 use Rattle.detect.proofs.Answers.{short, done}
+use Rattle.detect.proofs.Room.{total}
 use Rattle.detect.proofs.search.Statement.{statement}
 use Rattle.detect.proofs.search.Tie as tie
 
@@ -18,18 +20,18 @@ slice-aggregate-scan : tie.Need-slice-aggregate-scan
 slice-aggregate-scan c = search needs
 
 scan-requires : tie.Need-scan-requires
-scan-requires c κs = search needs
+scan-requires c κs = (search needs, (search needs, (search needs, omega arith)))
 
-mul-if1 : tie.Need-mul-if1
-mul-if1 c =
-    let a = c .before .before .before .before .before .before .before .args in
-    omega (arith, c .before .before .scan .ensures .0 .all, rows-few tied (now (a .dog)) (a .w) (a .h) (a .s) (a .octave) (a .p) 5 (a .h - 5) (omega arith) (omega arith))
+too-many-requires : tie.Need-too-many-requires
+too-many-requires c κs =
+    let t = c .before .scan .ensures .0 in
+    (search needs, (search needs, (search needs, ((t .from, t .to, t .few), t .some))))
 
 returns : tie.Need-returns
-unfolding keypoints
 returns c =
     let a = c .before .before .before .before .before .before .before .before .args in
-    let g = short (keypoints tied (now (a .dog)) (a .w) (a .h) (a .s) (a .octave) (a .p)) _ _ (c .before .before .before .scan .ensures .0 .all) (c .if1 .taken) in
+    let q = c .before .too-many .ensures .1 (c .if1 .taken) in
+    let g = short (keypoints tied (now (a .dog)) (a .w) (a .h) (a .s) (a .octave) (a .p)) (now (a .out)) _ (q .0) (q .1) in
     (g .answer, g .left)
 
 slice-aggregate-copy : tie.Need-slice-aggregate-copy
@@ -49,17 +51,29 @@ fill-requires c κs =
     let t = c .before .before .before .before .before .before .before .before .before .before .before .scan .ensures .0 in
     (search needs, (search needs, (search needs, (t .from, t .to, omega (arith, t .few)))))
 
+add-t16 : tie.Need-add-t16
+add-t16 c =
+    let a = c .before .before .before .before .before .before .before .before .before .before .before .before .before .before .before .before .before .before .before .before .args in
+    let k = c .before .before .before .before .before .before .before .before .before .before .before .before .before .before .before .before .before .before .before .before .pre .0 in
+    let t = c .before .before .before .before .before .before .before .before .before .before .before .before .before .before .before .scan .ensures .0 in
+    let high : a .h - 5 ≤ maxSide = omega (arith, k .high) in
+    omega (arith, t .few, c .before .before .before .fill .ensures .0, rows-few tied (now (a .dog)) (a .w) (a .h) (a .s) (a .octave) (a .p) (c .before .before .before .before .before .before .before .before .before .before .before .before .before .before .before .scan .result .row) (a .h - 5) high (k .wide))
+
 same-length : tie.Need-same-length
 same-length c = search needs
 
 returns-2 : tie.Need-returns-2
 unfolding keypoints
 returns-2 c =
-    let t = c .before .before .before .before .before .before .before .before .before .before .before .before .before .before .scan .ensures .0 in
-    let held = c .before .before .before .before .before .before .before .before .before .before .before .before .before .before .scan .ensures .1 in
-    let w = written _ _ _ _ _ _ _ _ _ _ _ (t .from) (t .to) (t .some) refl (omega (arith, t .few)) held (c .before .before .before .before .before .before .before .copy .ensures) (c .before .before .fill .ensures) in
-    let a = c .before .before .before .before .before .before .before .before .before .before .before .before .before .before .before .before .before .before .before .args in
-    let g = done (keypoints tied (now (a .dog)) (a .w) (a .h) (a .s) (a .octave) (a .p)) _ _ (t .all) _ (c .before .before .before .before .before .before .before .before .before .before .before .if1 .left) w in
+    let a = c .before .before .before .before .before .before .before .before .before .before .before .before .before .before .before .before .before .before .before .before .args in
+    let scanned = c .before .before .before .before .before .before .before .before .before .before .before .before .before .before .before .scan .ensures in
+    let t = scanned .0 in
+    let filled = c .before .before .before .fill .ensures in
+    let none : c .before .before .before .before .before .before .before .before .before .before .before .before .before .too-many .result ≡ 0 = omega (arith, c .before .before .before .before .before .before .before .before .before .before .before .before .if1 .left) in
+    let fits = c .before .before .before .before .before .before .before .before .before .before .before .before .before .too-many .ensures .0 none in
+    let all = total (now (a .dog)) (a .w) (a .h) (a .s) (a .octave) (a .p) _ _ (t .from) (t .to) (t .some) _ (filled .0) in
+    let w = written _ _ _ _ _ _ _ _ _ _ (t .from) (t .to) (t .some) refl (scanned .1) (c .before .before .before .before .before .before .before .before .copy .ensures) (filled .1) in
+    let g = done (keypoints tied (now (a .dog)) (a .w) (a .h) (a .s) (a .octave) (a .p)) (now (a .out)) _ all _ (omega (arith, fits, all)) w in
     (g .answer, g .left)
 
 pub search-spec : {M : Type 1} → statement M
@@ -69,12 +83,13 @@ search-spec =
     threshold-of-requires
     slice-aggregate-scan
     scan-requires
-    mul-if1
+    too-many-requires
     returns
     slice-aggregate-copy
     mul-copy
     copy-requires
     mul-fill
     fill-requires
+    add-t16
     same-length
     returns-2)

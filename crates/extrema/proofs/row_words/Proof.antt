@@ -1,87 +1,85 @@
 use Prim.Native.Nat.{_≤_, _-_, _+_}
 use mathlib.Core.Path.{_≡_, refl, sym, ap, _∙_}
-use mathlib.Core.Logic.{⊎-elim}
 use native.Mathlib.Omega.{arith}
+use borrow.Author.Needs.{needs}
+use denote.Ref.{now}
 use lib.ListN.{length}
 use lib.Seq.{sets, length-sets}
-use borrow.Author.Needs.{needs}
-use Rattle.lists.specs.Ranges.{joined}
-use Rattle.lists.proofs.Ranges.{joined-start, counted}
+use Rattle.lists.proofs.Ranges.{joined-start}
 use Rattle.extrema.specs.Neighbours.{tied}
-use Rattle.extrema.specs.Scan.{found, kept, rowOf, words}
-use Rattle.extrema.proofs.Words.{filled-none, filled-one, words-none}
+use Rattle.extrema.specs.Scan.{cellsOf, rowOf, words}
+use Rattle.extrema.proofs.Words.{counted-on, filled-on, words-none}
+use Rattle.extrema.proofs.Rows.{cells-bound}
 use Rattle.extrema.proofs.row_words.Statement.{statement}
 use Rattle.extrema.proofs.row_words.Tie as tie
+use Rattle.extrema.proofs.row_words.Reads as reads
+use Rattle.extrema.proofs.row_words.Lts as lts
+use Rattle.extrema.proofs.block_end.Reads as block-end-reads
+use Rattle.extrema.proofs.block_words.Reads as block-words-reads
 
 abbrev Inv-loop : tie.InvT-loop
-Inv-loop dog w h n s octave threshold p r out₀ from k₀ c₀ c-end out k c =
-    (5 ≤ c) × (c ≤ w - 5) × (c-end ≡ w - 5)
-    × (k ≡ length (joined 5 c (λ c. found tied dog w h s octave p r c)))
-    × (out ≡ sets out₀ from (words (joined 5 c (λ c. found tied dog w h s octave p r c))))
+Inv-loop dog w h n s octave threshold p r out₀ from end k₀ c₀ out k c =
+    (5 ≤ c) × (c ≤ end) × (end ≡ w - 5)
+    × (k ≡ length (cellsOf tied dog w h s octave p r 5 c))
+    × (out ≡ sets out₀ from (words (cellsOf tied dog w h s octave p r 5 c)))
     × (k + 5 ≤ c)
 
 abbrev μ-loop : tie.MeasureT-loop
-μ-loop dog w h n s octave threshold p r out₀ from k₀ c₀ c-end out k c = w - c
+μ-loop dog w h n s octave threshold p r out₀ from end k₀ c₀ out k c = w - c
 
-sub-c-end : tie.Need-sub-c-end Inv-loop μ-loop
-sub-c-end c = search needs
+-- src/lib.rt:382:15
+sub-end : tie.Need-sub-end Inv-loop μ-loop
+sub-end c = search needs
 
+-- src/lib.rt:385:5
 loop-holds : tie.Need-loop-holds Inv-loop μ-loop
 loop-holds c = (omega arith, omega arith, refl, sym (ap length (joined-start 5 _)), rw (joined-start, words-none), omega arith)
 
-cell-requires : tie.Need-cell-requires Inv-loop μ-loop
-cell-requires c κs = search needs
+-- src/lib.rt:386:13
+block-end-requires : tie.Need-block-end-requires Inv-loop μ-loop
+block-end-requires c κs = search needs
 
-enum-told : tie.Need-enum-told Inv-loop μ-loop
-enum-told c = search needs
+-- src/lib.rt:400:20
+mul-block-words : tie.Need-mul-block-words Inv-loop μ-loop
+mul-block-words c = search needs
 
-enum-known-found : tie.Need-enum-known-found Inv-loop μ-loop
-enum-known-found c = search needs
+-- src/lib.rt:400:13
+add-block-words : tie.Need-add-block-words Inv-loop μ-loop
+add-block-words c = search needs
 
-mul-put : tie.Need-mul-put Inv-loop μ-loop
-mul-put c = search needs
+-- src/lib.rt:387:14
+block-words-requires : tie.Need-block-words-requires Inv-loop μ-loop
+block-words-requires c κs = (search needs, (search needs, (search needs, search needs)))
 
-add-put : tie.Need-add-put Inv-loop μ-loop
-add-put c = search needs
-
-put-requires : tie.Need-put-requires Inv-loop μ-loop
-put-requires c κs = search needs
-
+-- src/lib.rt:387:9
 add-k : tie.Need-add-k Inv-loop μ-loop
-add-k c = search needs
+add-k c =
+    let a = c .before .before .before .before .before .before .before .before .before .args in
+    let l = c .before .before .before .before .before .before .loop in
+    let to = c .before .before .before .before .block-end .result in
+    let few = cells-bound tied (now (a .dog)) (a .w) (a .h) (a .s) (a .octave) (a .p) (a .r) (l .c) to in
+    let g = c .before .before .block-words .ensures in
+    omega (arith, few, g .0)
 
-add-c : tie.Need-add-c Inv-loop μ-loop
-add-c c = search needs
-
+-- src/lib.rt:385:5
 loop-less : tie.Need-loop-less Inv-loop μ-loop
 loop-less c = search needs
 
+-- src/lib.rt:385:5
 loop-again : tie.Need-loop-again Inv-loop μ-loop
 loop-again c =
-    let l = c .before .before .before .loop in
-    let e = sym (c .before .cell .ensures) in
-    ⊎-elim
-    (λ w. let q = e ∙ ap kept (w .1 .given .1) in (
-      omega arith,
-      omega arith,
-      refl,
-      counted 5 _ _ _ _ _ (l .inv .0) q (l .inv .3) (w .3 ∙ omega arith),
-      filled-none 5 _ _ _ _ _ _ _ (l .inv .0) (l .inv .3) (l .inv .4) q (w .2),
-      omega arith,
-    ))
-    (λ w. let q = e ∙ ap kept (w .1 .given .1) in (
-      omega arith,
-      omega arith,
-      refl,
-      counted 5 _ _ _ _ _ (l .inv .0) q (l .inv .3) (w .8),
-      filled-one 5 _ _ _ _ _ _ _ (l .inv .0) (l .inv .3) (l .inv .4) _ q (w .7 ∙ w .4 .ensures),
-      omega arith,
-    ))
-    (c .match .came)
+    let a = c .before .before .before .before .before .before .before .before .before .args in
+    let l = c .before .before .before .before .before .before .loop in
+    let to = c .before .before .before .before .block-end .result in
+    let few = cells-bound tied (now (a .dog)) (a .w) (a .h) (a .s) (a .octave) (a .p) (a .r) (l .c) to in
+    let g = c .before .before .block-words .ensures in
+    (omega arith, omega arith, refl, counted-on 5 (l .c) to _ _ _ (l .inv .0) (omega arith) (l .inv .3) (g .0), filled-on 5 (l .c) to _ _ _ _ _ _ (l .inv .0) (omega arith) (l .inv .3) (l .inv .4) (g .1), omega (arith, few, g .0))
 
+-- src/lib.rt:362:1
 same-length : tie.Need-same-length Inv-loop μ-loop
 same-length c = ap length (c .before .loop .inv .4) ∙ simp length-sets
 
+-- src/lib.rt:362:1
 returns : tie.Need-returns Inv-loop μ-loop
 unfolding rowOf
 returns c =
@@ -95,16 +93,13 @@ row-words-spec =
     (tie.spec
     Inv-loop
     μ-loop
-    sub-c-end
+    sub-end
     loop-holds
-    cell-requires
-    enum-told
-    enum-known-found
-    mul-put
-    add-put
-    put-requires
+    block-end-requires
+    mul-block-words
+    add-block-words
+    block-words-requires
     add-k
-    add-c
     loop-less
     loop-again
     same-length

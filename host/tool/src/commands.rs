@@ -1,13 +1,14 @@
 //! The commands.
 
 use crate::args::Given;
+use crate::extract::extract;
 use crate::find::{self, Wanted};
 use crate::help::{self, COMMANDS, Command};
 use crate::pgm::Frame;
 use crate::progress::Progress;
 use crate::table::{self, Mark};
 use crate::{Trouble, draw, files, svg};
-use bargeclover::{Settings, read_sheet};
+use bargeclover::{Settings, read_sheet, write_sheet};
 use std::ffi::OsString;
 use std::io::{self, BufWriter, Write};
 use std::path::{Path, PathBuf};
@@ -37,6 +38,7 @@ pub fn run(words: impl IntoIterator<Item = OsString>) -> Result<(), Trouble> {
                 return print(|out| write!(out, "{}", command.help()));
             }
             let ran = match command.name {
+                "extract" => extract_command(&given),
                 "find" => find_command(&given),
                 "show" => show(&given),
                 "check" => check(&given),
@@ -115,6 +117,37 @@ fn marks(frame: &Frame, given: &Given) -> Result<Vec<Mark>, Trouble> {
         Ok(())
     })?;
     Ok(all)
+}
+
+fn extract_command(given: &Given) -> Result<(), Trouble> {
+    let out = given
+        .path("output")
+        .ok_or_else(|| Trouble::Usage("say where with -o OUT.sheet".into()))?;
+    let frame = files::frame(&one(given, "the frame, a PGM file")?)?;
+    let made = extract(&frame, &wanted(given)?, &mut progress(given))?;
+    let bytes = write_sheet(&made.sheet).map_err(find::inside)?;
+    files::write(out, &bytes)?;
+    if given.has("quiet") || out.as_os_str() == "-" {
+        return Ok(());
+    }
+    print(|to| {
+        let (records, found) = (made.sheet.records.len(), made.keypoints);
+        writeln!(
+            to,
+            "{}: {records} records, the directions of {found} keypoints, of {} x {} cells",
+            out.display(),
+            made.sheet.width,
+            made.sheet.height
+        )?;
+        if made.flat + made.unread > 0 {
+            writeln!(
+                to,
+                "all zero: {} records of flat patches, {} of patches that were not read",
+                made.flat, made.unread
+            )?;
+        }
+        Ok(())
+    })
 }
 
 fn find_command(given: &Given) -> Result<(), Trouble> {

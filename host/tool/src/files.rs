@@ -17,26 +17,33 @@ fn is_dash(path: &Path) -> bool {
     path.as_os_str() == "-"
 }
 
-/// The file's bytes, up to a number of them.
-fn read(path: &Path, most: u64) -> Result<Vec<u8>, Trouble> {
-    let mut bytes = Vec::new();
-    let taken = if is_dash(path) {
-        io::stdin().lock().take(most).read_to_end(&mut bytes)
-    } else {
-        File::open(path).and_then(|f| f.take(most).read_to_end(&mut bytes))
+/// The file's bytes, up to a number of them; no further than its first two where these are not wanted, so that a device or a film's
+/// scan of another kind is not read whole.
+fn read(path: &Path, most: u64, wanted: impl Fn(&[u8]) -> bool) -> Result<Vec<u8>, Trouble> {
+    let taken = |file: &mut dyn Read| {
+        let mut bytes = Vec::new();
+        file.take(2).read_to_end(&mut bytes)?;
+        if wanted(&bytes) {
+            file.take(most - 2).read_to_end(&mut bytes)?;
+        }
+        Ok(bytes)
     };
-    taken.map_err(|e| Trouble::reading(path, e))?;
-    Ok(bytes)
+    let bytes = if is_dash(path) {
+        taken(&mut io::stdin().lock())
+    } else {
+        File::open(path).and_then(|mut f| taken(&mut f))
+    };
+    bytes.map_err(|e| Trouble::reading(path, e))
 }
 
 pub fn frame(path: &Path) -> Result<Frame, Trouble> {
-    let bytes = read(path, MOST_FRAME)?;
+    let bytes = read(path, MOST_FRAME, |two| two.starts_with(b"P"))?;
     pgm::read(&bytes).map_err(|f| Trouble::Refused(format!("{}: {f}", path.display())))
 }
 
 /// A sheet's bytes, whatever they are.
 pub fn sheet_bytes(path: &Path) -> Result<Vec<u8>, Trouble> {
-    read(path, MOST_SHEET)
+    read(path, MOST_SHEET, |_| true)
 }
 
 /// A sound sheet, and which of its records are all zero.

@@ -102,6 +102,11 @@ fn keypoints(octave: &Octave, settings: &Settings) -> Result<Vec<Keypoint>, Refu
     Ok(all)
 }
 
+/// A refusal of what the library itself gave, or of planes made here: it can't be the caller's fault.
+pub fn inside(r: Refusal) -> Trouble {
+    Trouble::refused(r, "this is a fault of the tool, please report it")
+}
+
 /// Hands over each oriented keypoint of a frame, with the keypoint that it came from and the octave's planes. Answers the number of
 /// keypoints, of which each may have several directions or none.
 pub fn each(
@@ -115,7 +120,6 @@ pub fn each(
     progress.say(|| "octave 0: making the planes".into());
     let pyramid = Pyramid::new(&frame.samples, frame.width, frame.height, s, wanted.double);
     let many = pyramid.octaves();
-    let inside = |r: Refusal| Trouble::refused(r, "this is a fault of the tool, please report it");
     let mut found = 0;
     for octave in pyramid {
         let at = format!("octave {} of {many}", octave.number + 1);

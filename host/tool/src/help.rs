@@ -74,6 +74,23 @@ The frame is a PGM file (P5 or P2, 8 or 16 bits); its samples are scaled to 0 to
 this tool and are not part of what is proved; what the library does with them is.
 With --double the octaves, cells, x, y and size are those of the doubled frame: octave 0 is twice as wide and high as the file.";
 
+pub const EXTRACT: Command = Command {
+    name: "extract",
+    files: "FRAME.pgm",
+    about: "make a sheet of the keypoints of a frame",
+    options: &[
+        &[opt(
+            "output",
+            Some('o'),
+            Some("FILE"),
+            "the sheet, edition 1",
+        )],
+        SEARCH,
+        HELP,
+    ],
+    more: PLANES,
+};
+
 pub const FIND: Command = Command {
     name: "find",
     files: "FRAME.pgm",
@@ -125,7 +142,7 @@ all zero are dashed and crossed. Without a SHEET the frame is searched, as `barg
 A SHEET of the doubled frame is drawn on the frame itself.",
 };
 
-pub const COMMANDS: &[&Command] = &[&FIND, &SHOW, &CHECK, &DRAW];
+pub const COMMANDS: &[&Command] = &[&EXTRACT, &FIND, &SHOW, &CHECK, &DRAW];
 
 impl Command {
     /// All its options.

@@ -4,7 +4,9 @@
 pub mod args;
 pub mod canvas;
 pub mod commands;
+pub mod describe;
 pub mod draw;
+pub mod extract;
 pub mod files;
 pub mod find;
 pub mod font;

@@ -39,19 +39,24 @@ impl Mark {
 
     /// Of an oriented keypoint that has no descriptor.
     pub fn of_oriented(k: &Keypoint, o: &Oriented) -> Mark {
-        Mark {
-            row: k.row,
-            column: k.column,
-            octave: o.octave & 255,
-            layer: o.octave >> 8 & 255,
-            code: o.octave >> 16 & 255,
-            x: o.x,
-            y: o.y,
-            size: o.size,
-            response: o.response,
-            angle: o.angle,
-            blank: false,
-        }
+        Mark::of_record(&record(k, o, [0; 128]), false)
+    }
+}
+
+/// The sheet's record of an oriented keypoint.
+pub fn record(k: &Keypoint, o: &Oriented, values: [u8; 128]) -> Record {
+    Record {
+        row: k.row,
+        column: k.column,
+        octave: o.octave & 255,
+        layer: o.octave >> 8 & 255,
+        code: o.octave >> 16 & 255,
+        x: o.x,
+        y: o.y,
+        size: o.size,
+        response: o.response,
+        angle: o.angle,
+        values,
     }
 }
 

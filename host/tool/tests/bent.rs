@@ -4,6 +4,7 @@ use cases::{Rng, sheet};
 use std::fs;
 use std::path::Path;
 use std::process::{Command, Stdio};
+use tool::extract::extract;
 use tool::find::{self, Wanted};
 use tool::progress::Progress;
 use tool::table::Mark;
@@ -56,6 +57,9 @@ fn use_up(f: &pgm::Frame, wanted: &Wanted) {
         marks.push(Mark::of_oriented(k, o));
         Ok(())
     });
+    if extract(f, wanted, &mut Progress::none()).is_ok() {
+        assert!(found.is_ok());
+    }
     if found.is_ok() && f.width.max(f.height) < 300 {
         draw::to_png(f, &marks, wanted.double, 2);
         svg::to_svg(f, &marks, wanted.double, 2);

@@ -1,13 +1,15 @@
-//! From a frame to oriented keypoints, the tool beside the published Rust on the same planes, word for word.
+//! From a frame to oriented keypoints and to a sheet, the tool beside the published Rust on the same planes, word for word.
 
 use bargeclover::Settings;
 use cases::Rng;
+use tool::extract::extract;
 use tool::find::{self, Wanted};
 use tool::pgm::{self, Frame};
 use tool::progress::Progress;
 use tool::pyramid::Pyramid;
 
-type Words = ([u32; 10], [u32; 6]);
+/// A keypoint's words, an oriented one's, and the sheet's record of it with its descriptor.
+type Words = ([u32; 10], [u32; 6], [u32; 138]);
 
 fn coast(width: usize, height: usize, seed: u64) -> Frame {
     pgm::read(&coast::frame(width, height, seed).to_pgm()).unwrap()
@@ -22,6 +24,22 @@ fn noise(width: usize, height: usize, seed: u64) -> Frame {
     }
 }
 
+/// "Row and column are rr and cc; octave, layer and code the octave word's bytes; the floats an oriented keypoint's"; the 128 values
+/// as whole numbers.
+fn record(k: &[u32; 10], o: &[u32; 6], values: &[u32; 128]) -> [u32; 138] {
+    let [octave, layer, code, _] = o[4].to_le_bytes().map(u32::from);
+    let mut w = [0; 138];
+    w[..10].copy_from_slice(&[
+        k[8], k[7], octave, layer, code, o[0], o[1], o[2], o[3], o[5],
+    ]);
+    for (w, v) in w[10..].iter_mut().zip(values) {
+        let v = f32::from_bits(*v);
+        assert!(v.fract() == 0.0 && (0.0..=255.0).contains(&v));
+        *w = v as u32;
+    }
+    w
+}
+
 /// What the published Rust finds, layer by layer of where a keypoint settled.
 fn theirs(f: &Frame, w: &Wanted) -> Vec<Words> {
     let s = &w.settings;
@@ -34,21 +52,40 @@ fn theirs(f: &Frame, w: &Wanted) -> Vec<Words> {
             for k in found.iter().filter(|k| k[5] as usize == layer) {
                 let plane = &octave.gaussian[layer];
                 let (list, _) = oracle::assign_orientations(plane, octave.width, octave.height, k);
-                all.extend(list.into_iter().map(|o| (*k, o)));
+                for o in list {
+                    let at = oracle::descriptor_inputs(&o, octave.number as i32);
+                    let at = at.map(f32::from_bits);
+                    let (values, _) =
+                        oracle::compute_descriptor(plane, octave.width, octave.height, at);
+                    all.push((*k, o, record(k, &o, &values)));
+                }
             }
         }
     }
     all
 }
 
+/// The sheet is read by the format's second rendering, not by the library.
 fn ours(f: &Frame, w: &Wanted) -> Vec<Words> {
-    let mut all = Vec::new();
-    find::each(f, w, &mut Progress::none(), |_, k, o| {
-        all.push((k.to_words(), o.to_words()));
+    let mut found = Vec::new();
+    let keypoints = find::each(f, w, &mut Progress::none(), |_, k, o| {
+        found.push((k.to_words(), o.to_words()));
         Ok(())
     })
     .unwrap();
-    all
+    let made = extract(f, w, &mut Progress::none()).unwrap();
+    assert_eq!(made.keypoints, keypoints);
+    let bytes = bargeclover::write_sheet(&made.sheet).unwrap();
+    let (said, _) = cases::sheet::read(&bytes).unwrap();
+    let size = find::size(f, w.double);
+    assert_eq!((said.width, said.height), size);
+    assert_eq!(said.layers, w.settings.layers);
+    let (records, []) = said.words.as_chunks::<138>() else {
+        panic!("a part of a record");
+    };
+    assert_eq!(records.len(), found.len());
+    let both = found.into_iter().zip(records);
+    both.map(|((k, o), r)| (k, o, *r)).collect()
 }
 
 fn hold(f: &Frame, w: &Wanted) -> usize {

@@ -69,7 +69,7 @@ fn help_and_version() {
     let (said, _) = run(&["--help"], 0);
     assert_eq!(run(&["help"], 0).0, said);
     assert_eq!(run(&["-h"], 0).0, said);
-    for command in ["find", "show", "check", "draw"] {
+    for command in ["extract", "find", "show", "check", "draw"] {
         assert!(said.contains(command));
         let (own, _) = run(&[command, "--help"], 0);
         assert_eq!(run(&["help", command], 0).0, own);
@@ -90,6 +90,8 @@ fn wrong_commands_end_with_2() {
         &["find"],
         &["find", COAST, "--contrast", "much"],
         &["find", COAST, "--layers", "-1"],
+        &["extract", COAST],
+        &["extract", "-o", "x.sheet"],
         &["draw", COAST],
         &["draw", COAST, "-o", "x.gif"],
         &["draw", COAST, "-o", "x.png", "--zoom", "0"],
@@ -152,6 +154,8 @@ fn what_is_not_there_ends_with_3() {
         &["show", "no/such.sheet"],
         &["check", "no/such.sheet"],
         &["check", "."],
+        &["extract", "no/such.pgm", "-o", "x.sheet"],
+        &["extract", COAST, "-o", "no/such/x.sheet"],
         &["draw", COAST, "-o", "no/such/x.png"],
         &["draw", COAST, "no/such.sheet", "-o", "x.png"],
     ] {
@@ -191,6 +195,35 @@ fn a_sheet_is_shown_and_checked() {
     );
     assert!(said.contains("sound: "));
     assert!(run(&["show", &short], 1).1.contains("number 8"));
+}
+
+#[test]
+fn from_a_frame_to_a_sheet_and_its_picture() {
+    let (sheet, picture) = (place("coast.sheet"), place("coast.svg"));
+    let (sheet, picture) = (sheet.to_str().unwrap(), picture.to_str().unwrap());
+    for more in [
+        &[][..],
+        &["--double"],
+        &["--layers", "5", "--contrast", "0.02"],
+    ] {
+        let words = [&["extract", COAST, "-o", sheet], more].concat();
+        let (said, _) = run(&words, 0);
+        assert!(said.contains(" records, the directions of "), "{said}");
+        run(&["check", sheet], 0);
+        run(&["draw", COAST, sheet, "-o", picture], 0);
+        // the sheet lists what is found
+        let (listed, _) = run(&[&["find", COAST, "--csv"], more].concat(), 0);
+        let (shown, _) = run(&["show", sheet, "--csv"], 0);
+        assert_eq!(shown.lines().count(), listed.lines().count());
+        for (a, b) in shown.lines().zip(listed.lines()) {
+            assert!(a.starts_with(b), "{a} {b}");
+        }
+        let svg = fs::read_to_string(picture).unwrap();
+        assert_eq!(svg.matches("<path ").count(), listed.lines().count() - 1);
+    }
+    assert_eq!(run(&["extract", COAST, "-q", "-o", sheet], 0).0, "");
+    let o = bargeclover(&["extract", COAST, "-o", "-"]);
+    assert_eq!(o.stdout, fs::read(sheet).unwrap());
 }
 
 #[test]

@@ -1,0 +1,61 @@
+use borrow.Author.Needs.{needs}
+use Prim.Native.Nat.{_-_, _≤_}
+use Rattle.extract_demo.proofs.put_values.Statement.{statement}
+use Rattle.extract_demo.proofs.put_values.Tie as tie
+
+abbrev Inv-loop : tie.InvT-loop
+Inv-loop records₀ at values i₀ records i = i ≤ 128
+
+abbrev μ-loop : tie.MeasureT-loop
+μ-loop records₀ at values i₀ records i = 128 - i
+
+loop-holds : tie.Need-loop-holds Inv-loop μ-loop
+loop-holds c = search needs
+
+mul-whole : tie.Need-mul-whole Inv-loop μ-loop
+mul-whole c = search needs
+
+element-copy-out-whole : tie.Need-element-copy-out-whole Inv-loop μ-loop
+element-copy-out-whole c = search needs
+
+whole-requires : tie.Need-whole-requires Inv-loop μ-loop
+whole-requires c κs = search needs
+
+add-records : tie.Need-add-records Inv-loop μ-loop
+add-records c = search needs
+
+mul-records : tie.Need-mul-records Inv-loop μ-loop
+mul-records c = search needs
+
+element-write-records : tie.Need-element-write-records Inv-loop μ-loop
+element-write-records c = search needs
+
+add-i : tie.Need-add-i Inv-loop μ-loop
+add-i c = search needs
+
+loop-less : tie.Need-loop-less Inv-loop μ-loop
+loop-less c = search needs
+
+loop-again : tie.Need-loop-again Inv-loop μ-loop
+loop-again c = search needs
+
+returns : tie.Need-returns Inv-loop μ-loop
+returns c = search needs
+
+pub put-values-spec : {M : Type 1} → statement M
+put-values-spec =
+    tie.close
+    (tie.spec
+    Inv-loop
+    μ-loop
+    loop-holds
+    mul-whole
+    element-copy-out-whole
+    whole-requires
+    add-records
+    mul-records
+    element-write-records
+    add-i
+    loop-less
+    loop-again
+    returns)

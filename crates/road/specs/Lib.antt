@@ -1,3 +1,4 @@
 pub mod Record
 pub mod Planes
 pub mod Rules
+pub mod Road

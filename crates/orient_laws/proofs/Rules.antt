@@ -1,39 +1,60 @@
 -- The law of orientation's angles that specs/Rules.antt states. Assumes nothing.
-use Prim.Native.Nat.{ℕ, zero, suc, _+_, _-_, _*_, _^_, _<_, _≤_}
-use mathlib.Core.Path.{_≡_, refl, sym, subst}
-use mathlib.Core.Bool.{Bool, true, false, not, cond}
-use mathlib.Core.List.{List, [], _∷_, _++_}
+use Prim.Native.Nat.{ℕ, zero, suc, _+_, _-_, _*_, _/_, _%_, _^_, _<_, _≤_}
+use mathlib.Core.Path.{_≡_, refl, sym, ap, _∙_, subst}
+use mathlib.Core.Bool.{Bool, true, false, not, _&&_, cond, false≢true}
+use mathlib.Core.List.{List, [], _∷_, _++_, map}
 use mathlib.Core.Logic.{_⊎_, ⊎-elim}
 use native.Mathlib.Omega.{arith}
-use borrow.Author.Tests.{eqb-true, not-false}
-use lib.Dec.{lit≤}
+use native.Mathlib.Nat.{one-mul, mul-pos}
+use borrow.Author.Tests.{eqb-true, not-false, le-ltb}
+use lib.Dec.{T, lit≤}
 use lib.ListN.{length, getD, length-append, List·getD-append, List·getD-map}
 use lib.Seq.{getD-append-add}
 use lib.IntN.{pos}
-use lib.Ieee.{Float, nan, fin, lt, ofBits}
+use lib.Ieee.{Float, nan, inf, fin, binary32, up, down, sum, neg, add, sub, lt, le, eq, ofBits}
+use lib.Ieee.Bits.{is-true}
+use lib.Ieee.Fits.{down-pos}
+use lib.Ieee.Scale.{finite}
 use Rattle.packing.proofs.Size.{le-or-lt}
-use Rattle.ieee.specs.F32.{absOf}
-use Rattle.ieee.proofs.Order.{le-lt-trans, Marked, endless, ended}
-use Rattle.ieee.proofs.Bounds.{bounds-finite, marked-nonneg}
+use Rattle.ieee.specs.F32.{_⊖_, _<ᶠ_, _≤ᶠ_, absOf}
+use Rattle.ieee.proofs.Turned.{round-zero}
+use Rattle.ieee.proofs.Monotone.{nil}
+use Rattle.ieee.proofs.Order.{le-lt-trans, le-trans-float, lt-not-le, Marked, endless, ended}
+use Rattle.ieee.proofs.Bounds.{Bounds, bounds-finite, bounds-point, marked-nonneg}
 use Rattle.lists.specs.Ranges.{joined}
-use Rattle.lists.proofs.Ranges.{joined-start, joined-more}
+use Rattle.lists.proofs.Ranges.{joined-start, joined-more, joined-empty}
 use Rattle.params.specs.Table.{firstFault, line, shapeWrong, lengthWrong}
 use Rattle.refine.specs.declared.RawKeypoint.{RawKeypoint}
-use Rattle.tally.specs.Sample.{windowGood}
-use Rattle.tally.specs.Tally.{tallyOf}
+use Rattle.hal.specs.Numbers.{one}
+use Rattle.hal.specs.Angle.{inAngle}
+use Rattle.hal.specs.Rules.{In}
+use Rattle.hal.proofs.Rules.{exp-rule, magnitude-rule}
+use Rattle.picture.specs.Stack.{sample}
+use Rattle.picture.proofs.Index.{index}
+use Rattle.tally.specs.Window.{windowOf, cell}
+use Rattle.tally.specs.Sample.{slopeAt, weightAt, windowGood}
+use Rattle.tally.specs.Tally.{sampleOf, tallyOf}
+use Rattle.tally.specs.Place.{Placed, cellAt}
+use Rattle.tally.specs.declared.Window.{Window}
+use Rattle.tally.specs.declared.Slope.{Slope}
+use Rattle.tally.proofs.Cells.{placed, placed-at}
+use Rattle.tally.proofs.Cells as cells
+use Rattle.tally.proofs.Rules.{tally-rule}
 use Rattle.tally.proofs.Values.{and-both}
-use Rattle.peaks.specs.Peaks.{bins, around, isPeak, leastOf, peakAngle, peakOf, anglesIn, anglesOf, smoothed, wrapped, crestOf}
+use Rattle.peaks.specs.Peaks.{bins, around, isPeak, leastOf, peakAngle, peakOf, anglesIn, anglesOf, smoothed, wrapped, crestOf, nought}
 use Rattle.orient.specs.Keypoint.{keypointWrong, scaleOf}
+use Rattle.orient.specs.Accepted.{Aimed}
 use Rattle.orient.specs.Entry.{windowAt, orientFault, anglesAt, orientedOf, orientedList}
 use Rattle.orient.proofs.Checks.{aimed, ready-fits}
 use Rattle.orient.proofs.Words.{length-map}
 use Rattle.orient.specs.declared.OrientedKeypoint.{OrientedKeypoint}
-use Rattle.orient_laws.specs.Rules.{Turn, AnglesRule}
+use Rattle.orient_laws.specs.Rules.{Turn, Still, AnglesRule}
 use Rattle.orient_laws.proofs.Units.{At, Units, units-of, value-at, at-less}
+use Rattle.orient_laws.proofs.Crest.{of-true}
 use Rattle.orient_laws.proofs.Offset.{offset-in}
 use Rattle.orient_laws.proofs.Wrap.{Angle, crest-in, wrapped-in, degrees-in}
 use Rattle.orient_laws.proofs.Pattern.{angle-finite, pattern}
-use Rattle.orient_laws.proofs.Bins.{brim, Filled, tally-filled, smoothed-in, smoothed-fits}
+use Rattle.orient_laws.proofs.Bins.{heap, brim, full, bare, Weighed, Filled, tally-filled, smoothed-in, smoothed-fits}
 
 -- ---- a peak's angle
 abbrev over : Float
@@ -45,16 +66,16 @@ over-at = value-at over (2 ^ 196) (refl, refl)
 eight : (m o c : ℕ) → m < o → 8 * o ≤ c → 8 * m < c
 eight m o c a b = omega arith
 
-module _ (b : List Float) (f : Filled b) where
+module _ (b : List Float) (f : Filled brim b) where
   abbrev h : List Float
   h = smoothed b
 
   units : (k : ℕ) → Units (around h k)
-  units k = units-of (around h k) (smoothed-fits b k) (bounds-finite (smoothed-in b f k)) (smoothed-in b f k .low)
+  units k = units-of (around h k) (smoothed-fits b k) (bounds-finite (smoothed-in heap brim full b f k)) (smoothed-in heap brim full b f k .low)
 
   few : (k : ℕ) → 8 * (units k .digits * 2 ^ units k .place) < 2 ^ 276
   unfolding lt
-  few k = eight (units k .digits * 2 ^ units k .place) (2 ^ 196) (2 ^ 276) (at-less (around h k) over _ (2 ^ 196) (units k .at) over-at (le-lt-trans (around h k) brim over (smoothed-in b f k .high) refl)) (lit≤ tt)
+  few k = eight (units k .digits * 2 ^ units k .place) (2 ^ 196) (2 ^ 276) (at-less (around h k) over _ (2 ^ 196) (units k .at) over-at (le-lt-trans (around h k) brim over (smoothed-in heap brim full b f k .high) refl)) (lit≤ tt)
 
   peak-angle : (least : Float) (j : ℕ) → j < bins → isPeak h least j ≡ true → Angle (peakAngle h j)
   unfolding peakAngle isPeak
@@ -95,7 +116,7 @@ each-joined f (suc n) p =
     let z : suc n ≡ n + 1 = omega arith in
     rw (z, joined-more 0 n f (omega arith)) (each-append (joined 0 n f) (f n) (each-joined f n (λ j l. p j (omega arith))) (p n (omega arith)))
 
-each-peak : (b : List Float) → Filled b → (j : ℕ) → j < bins → Each (peakOf (smoothed b) (leastOf (smoothed b)) j)
+each-peak : (b : List Float) → Filled brim b → (j : ℕ) → j < bins → Each (peakOf (smoothed b) (leastOf (smoothed b)) j)
 unfolding peakOf
 each-peak b f j l = go (isPeak (smoothed b) (leastOf (smoothed b)) j) refl
   where
@@ -103,11 +124,51 @@ each-peak b f j l = go (isPeak (smoothed b) (leastOf (smoothed b)) j) refl
     go true e = each-one (peakAngle (smoothed b) j) (peak-angle b f (leastOf (smoothed b)) j l e)
     go false e = each-none
 
-each-angle : (b : List Float) → Filled b → Each (anglesOf b)
+each-angle : (b : List Float) → Filled brim b → Each (anglesOf b)
 unfolding anglesOf anglesIn
 each-angle b f = each-joined (peakOf (smoothed b) (leastOf (smoothed b))) bins (each-peak b f)
 
+-- ---- no bin holds anything: no peak
+module _ (b : List Float) (f : Filled nil b) where
+  level-bins : (least : Float) (j : ℕ) → isPeak (smoothed b) least j ≡ false
+  unfolding isPeak
+  level-bins least j = go (lt l m) refl
+    where
+      l : Float
+      l = around (smoothed b) (j + bins - 1)
+
+      m : Float
+      m = around (smoothed b) j
+
+      go : (p : Bool) → lt l m ≡ p → (p && ((around (smoothed b) (j + 1) <ᶠ m) && (least ≤ᶠ m))) ≡ false
+      go false e = refl
+      go true e = absurd (lt-not-le l m e (le-trans-float m nil l (smoothed-in nil nil bare b f j .high) (smoothed-in nil nil bare b f (j + bins - 1) .low)))
+
+  no-angle : anglesOf b ≡ []
+  unfolding anglesOf anglesIn peakOf
+  no-angle = joined-empty 0 bins _ (λ j. rw (level-bins (leastOf (smoothed b)) j))
+
+self-zero : (s : Bool) (a c : ℕ) → 0 < c → sum binary32 s a (not s) a c ≡ fin false 0 (pos 0)
+unfolding sum
+self-zero true a c C = rw (le-ltb a a (omega arith)) (round-zero binary32 false (a - a) c C (omega arith))
+self-zero false a c C = rw (le-ltb a a (omega arith)) (round-zero binary32 false (a - a) c C (omega arith))
+
+zero-level : eq nil nought ≡ true
+unfolding ofBits eq
+zero-level = refl
+
+-- a difference with itself is 0, where it is in the angle's range
+self-level : (v : Float) → inAngle (v ⊖ v) (v ⊖ v) ≡ true → eq (v ⊖ v) nought ≡ true
+unfolding sub neg add absOf le lt
+self-level nan h = absurd (false≢true h)
+self-level (inf true) h = absurd (false≢true h)
+self-level (inf false) h = absurd (false≢true h)
+self-level (fin s m e) h = rw (self-zero s (m * up e * down e) (down e * down e) (mul-pos (down-pos e) (down-pos e))) zero-level
+
 -- ---- accepted arguments
+in-bounds : {lo hi r : Float} → finite lo ≡ true → finite hi ≡ true → In lo hi r → Bounds lo hi r
+in-bounds {lo} {hi} {r} p q i = record { from = p; to = q; low = is-true _ (i .least); high = is-true _ (i .most) }
+
 record Right (img : List Float) (w h : ℕ) (k : RawKeypoint) : Type 0 where
   pub shape : shapeWrong w h ≡ false
   pub whole : lengthWrong (length img) (h * w) ≡ false
@@ -134,11 +195,31 @@ module _ (img : List Float) (w h : ℕ) (k : RawKeypoint) (fine : orientFault im
   unfolding lengthWrong
   same-length = eqb-true (length img) (h * w) (not-false _ (right .whole))
 
-  filled : Filled (tallyOf img (windowAt w h k) .bins)
-  unfolding windowAt
-  filled =
-      let a = aimed w h k (right .shape) (right .keypoint) in
-      tally-filled img (length img) w h (k .rr) (k .cc) (scaleOf k) (ready-fits w h k (length img) (record { whole = same-length; aimed = a })) (a .row) (a .column) (a .scale) (right .good)
+  aim : Aimed w h k
+  aim = aimed w h k (right .shape) (right .keypoint)
+
+  abbrev win : Window
+  win = windowAt w h k
+
+  -- what is asked of each cell's sample
+  place : (i : ℕ) → i < win .rows * win .cols → cells.At (length img) win i
+  place i l = placed-at (ready-fits w h k (length img) (record { whole = same-length; aimed = aim })) refl l
+
+  weight-in : (i : ℕ) → i < win .rows * win .cols → Bounds nil one (weightAt win (cellAt win i))
+  unfolding windowAt weightAt
+  weight-in i l =
+      let p = place i l in
+      in-bounds refl refl (exp-rule .within _ (of-true _ (tally-rule .exponents w h (k .rr) (k .cc) (scaleOf k) (i / win .cols) (i % win .cols) (aim .row) (aim .column) (aim .scale) (p .row) (p .col))))
+
+  slope-in : (i : ℕ) → i < win .rows * win .cols → T (inAngle (slopeAt img win (cellAt win i) .dx) (slopeAt img win (cellAt win i) .dy))
+  slope-in i l = let p = place i l in of-true _ (tally-rule .slopes img win (i / win .cols) (i % win .cols) (right .good) (p .row) (p .col))
+
+  heavy : (i : ℕ) → i < win .rows * win .cols → Weighed heap (sampleOf img win (win .rows * win .cols) i (cellAt win i))
+  unfolding sampleOf
+  heavy i l = record { weight = weight-in i l; magnitude = in-bounds refl refl (magnitude-rule .within _ _ (slope-in i l)) }
+
+  filled : Filled brim (tallyOf img win .bins)
+  filled = tally-filled heap brim full img win heavy
 
   plain : {a : Float} → Marked false a → absOf a ≡ a
   unfolding absOf
@@ -155,10 +236,56 @@ module _ (img : List Float) (w h : ℕ) (k : RawKeypoint) (fine : orientFault im
       let e = List·getD-map (orientedOf k) (anglesAt img w h k) i nan in
       subst (λ (o : OrientedKeypoint). Turn (o .angle)) (sym e) (turn-of _ (each-angle _ filled i (subst (λ (n : ℕ). i < n) (length-map k (anglesAt img w h k)) l)))
 
+  -- ---- nothing rises or falls
+  module _ (still : (i j : ℕ) → i < win .rows → j < win .cols → Still (slopeAt img win (cell (win .top + i) (win .left + j)))) where
+    light : (i : ℕ) → i < win .rows * win .cols → Weighed nil (sampleOf img win (win .rows * win .cols) i (cellAt win i))
+    unfolding sampleOf ofBits
+    light i l =
+        let p = place i l in
+        let z = still (i / win .cols) (i % win .cols) (p .row) (p .col) in
+        let e = magnitude-rule .none _ _ (slope-in i l) (of-true _ (z .dx)) (of-true _ (z .dy)) in
+        record { weight = weight-in i l; magnitude = rw e (bounds-point nil refl) }
+
+    none-still : orientedList img w h k ≡ []
+    unfolding orientedList anglesAt
+    none-still = ap (map (orientedOf k)) (no-angle (tallyOf img win .bins) (tally-filled nil nil bare img win light))
+
+  -- ---- a level picture
+  module _ (v : Float) (same : (i : ℕ) → i < length img → getD img i nan ≡ v) where
+    one-plane : length img ≡ 1 * h * w
+    one-plane = same-length ∙ ap (λ (n : ℕ). n * w) (sym (one-mul h))
+
+    at : (y x : ℕ) → y < h → x < w → sample img w h 0 y x ≡ v
+    unfolding sample
+    at y x c d = same ((0 * h + y) * w + x) (index {n = 1} {p = 0} {r = y} {c = x} (record { whole = one-plane; plane = omega arith; row = c; column = d }) .below)
+
+    level-slope : (y x : ℕ) → Placed (length img) win y x → slopeAt img win (cell y x) ≡ record { dx = v ⊖ v; dy = v ⊖ v }
+    unfolding slopeAt windowAt windowOf
+    level-slope y x p =
+        let up = p .up in
+        let down = p .down in
+        let left = p .left in
+        let right = p .right in
+        rw (at y (x + 1) (omega arith) right, at y (x - 1) (omega arith) (omega arith), at (y - 1) x (omega arith) (omega arith), at (y + 1) x down (omega arith))
+
+    all-still : (i j : ℕ) → i < win .rows → j < win .cols → Still (slopeAt img win (cell (win .top + i) (win .left + j)))
+    all-still i j a b =
+        let f = ready-fits w h k (length img) (record { whole = same-length; aimed = aim }) in
+        let e = level-slope (win .top + i) (win .left + j) (placed f i j a b) in
+        let q = tally-rule .slopes img win i j (right .good) a b in
+        let r : inAngle (v ⊖ v) (v ⊖ v) ≡ true = subst (λ (s : Slope). inAngle (s .dx) (s .dy) ≡ true) e q in
+        let z = self-level v r in
+        subst Still (sym e) (record { dx = z; dy = z })
+
+    none-level : orientedList img w h k ≡ []
+    none-level = none-still all-still
+
 pub angles-rule : AnglesRule
 unfolding ofBits
 angles-rule =
     record {
       bin = λ img w h k i e l. let u = filled img w h k e .each i l in (u .low, u .high);
       angle = λ img w h k i e l. angle img w h k e i l;
+      still = λ img w h k e z. none-still img w h k e z;
+      level = λ img w h k v e z. none-level img w h k e v z;
     }

@@ -1,17 +1,20 @@
 -- What is proved of the angles that orientation gives: proofs/Rules.antt proves each. Definitions only.
-use Prim.Native.Nat.{ℕ, _<_, _≤_}
+use Prim.Native.Nat.{ℕ, _+_, _<_, _≤_}
 use mathlib.Core.Path.{_≡_}
 use mathlib.Core.Bool.{true, false}
-use mathlib.Core.List.{List}
+use mathlib.Core.List.{List, []}
 use lib.Dec.{T}
 use lib.ListN.{length, getD}
 use lib.IntN.{pos}
 use lib.Ieee.{Float, nan, fin, binary32, fits}
 use lib.Ieee.Scale.{finite}
-use Rattle.ieee.specs.F32.{_<ᶠ_, _≤ᶠ_, bitsOf, absOf}
+use Rattle.ieee.specs.F32.{_<ᶠ_, _≤ᶠ_, _=ᶠ_, bitsOf, absOf}
 use Rattle.sheet.specs.Layout.{largestAngle}
 use Rattle.refine.specs.declared.RawKeypoint.{RawKeypoint}
+use Rattle.tally.specs.Window.{cell}
+use Rattle.tally.specs.Sample.{slopeAt}
 use Rattle.tally.specs.Tally.{tallyOf}
+use Rattle.tally.specs.declared.Slope.{Slope}
 use Rattle.peaks.specs.Peaks.{bins, nought, turn}
 use Rattle.orient.specs.Entry.{windowAt, orientFault, orientedOf, orientedList}
 
@@ -24,6 +27,11 @@ pub record Turn (angle : Float) : Type 0 where
   pub held : T (fits binary32 angle)
   pub bits : bitsOf angle ≤ largestAngle
 
+-- neither rises nor falls, in either direction
+pub record Still (s : Slope) : Type 0 where
+  pub dx : (s .dx =ᶠ nought) ≡ true
+  pub dy : (s .dy =ᶠ nought) ≡ true
+
 -- the most that a bin of the tally holds: 2 ^ 46
 abbrev pub fullest : Float
 fullest = fin false 1 (pos 46)
@@ -35,3 +43,10 @@ pub record AnglesRule : Type 0 where
   -- and the angle of every oriented keypoint lies in 0 to below 360
   pub angle : (img : List Float) (width height : ℕ) (k : RawKeypoint) (i : ℕ) → orientFault img width height k ≡ 0 → i < length (orientedList img width height k)
       → Turn (getD (orientedList img width height k) i (orientedOf k nan) .angle)
+  -- a window in which nothing rises or falls gives no direction
+  pub still : (img : List Float) (width height : ℕ) (k : RawKeypoint) → orientFault img width height k ≡ 0
+      → ((i j : ℕ) → i < windowAt width height k .rows → j < windowAt width height k .cols → Still (slopeAt img (windowAt width height k) (cell (windowAt width height k .top + i) (windowAt width height k .left + j))))
+      → orientedList img width height k ≡ []
+  -- so does a level picture
+  pub level : (img : List Float) (width height : ℕ) (k : RawKeypoint) (v : Float) → orientFault img width height k ≡ 0
+      → ((i : ℕ) → i < length img → getD img i nan ≡ v) → orientedList img width height k ≡ []

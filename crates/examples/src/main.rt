@@ -1,5 +1,6 @@
 // The marked examples of document 01, run through the public functions. Floats are shown by their bits; what a line says is what document 01 says of the example.
 ghost use Prim.Native.Nat.{_<_, _≤_};
+use descriptor::Described;
 use libc::STDOUT_FILENO;
 use params::Answer;
 use params::Settings;
@@ -185,8 +186,57 @@ fn detection() {
     middle(b"with 11, found", 11.0, 1);
 }
 
+fn marked(x: f32) -> usize
+    ensures { λ n. ⌜ n ≤ 1 ⌝ }
+{
+    if ieee::bits_of(x) == 0 { 0 } else { 1 }
+}
+
+// How many values are not +0.
+fn not_zero(values: &[f32; 128]) -> usize
+    ensures { λ n. ⌜ n ≤ 128 ⌝ }
+{
+    let mut n: usize = 0;
+    for i in 0..128 {
+        n += marked(values[i]);
+    }
+    n
+}
+
+fn show_described(example: &[u8], got: Described, expected: usize) {
+    print(example);
+    print(b": ");
+    match got {
+        Described::Done(n) => {
+            io::print_decimal(STDOUT_FILENO, n as u64);
+            print(b", expected ");
+            io::print_decimal(STDOUT_FILENO, expected as u64);
+            if n != expected {
+                print(b" DIFFERS");
+            }
+        }
+        Described::Short => print(b"no room DIFFERS"),
+        Described::Refused(_) => print(b"refused DIFFERS"),
+    }
+    print(b"\n");
+}
+
+// A 2 × 2 picture has no cell off its edge.
+fn described() {
+    let picture = [1.0f32, 2.0, 3.0, 4.0];
+    let mut values = [7.0f32; 128];
+    let a = descriptor::compute_descriptor(&picture, 2, 2, 1.0, 0.0, 1.6, 30.0, &mut values);
+    show_described(b"a 2 x 2 picture, samples", a, 0);
+    show_count(
+        b" values that are not zero",
+        Answer::Done(not_zero(&values)),
+        0,
+    );
+}
+
 fn main() {
     single_operations();
     thresholds();
     detection();
+    described();
 }

@@ -7,8 +7,10 @@ use oracle::Describe;
 
 const WIDTH: usize = 640;
 const HEIGHT: usize = 480;
-const KEYPOINTS: usize = 64;
-const ROUNDS: usize = 15;
+const ROUNDS: usize = 201;
+/// Samples of a turn: short turns are seldom broken off where other work runs on the machine.
+const SAMPLES: usize = 10_000;
+const SCALES: [f32; 5] = [1.0, 1.6, 2.0, 3.2, 6.4];
 
 pub fn print() {
     let mut r = Rng::new(9);
@@ -22,12 +24,14 @@ pub fn print() {
     };
     println!("### Descriptor\n");
     println!(
-        "`compute_descriptor`, {KEYPOINTS} places of a picture of {WIDTH} x {HEIGHT}, turned by any angle; microseconds for each.\n"
+        "`compute_descriptor`, a picture of noise of {WIDTH} x {HEIGHT}, turned by any angle; nanoseconds for each sample used.\n"
     );
-    println!("| scale | samples | library | published Rust | ratio |");
-    println!("|---|---|---|---|---|");
-    for scale in [1.6, 2.0, 2.5, 3.2, 6.4] {
-        let aims: Vec<Aim> = (0..KEYPOINTS)
+    println!("| scale | places | samples of each | library | published Rust | ratio |");
+    println!("|---|---|---|---|---|---|");
+    for scale in SCALES {
+        // the patch is a square of 15 scales
+        let places = SAMPLES.div_ceil((225.0 * scale * scale) as usize);
+        let aims: Vec<Aim> = (0..places)
             .map(|_| Aim {
                 x: (WIDTH as f64 * (0.2 + 0.6 * r.unit())) as f32,
                 y: (HEIGHT as f64 * (0.2 + 0.6 * r.unit())) as f32,
@@ -54,12 +58,11 @@ pub fn print() {
         let used: u64 = ours();
         assert_eq!(used, theirs());
         let [a, b] = medians(ROUNDS, [&mut ours, &mut theirs]);
-        let each = 1000.0 * KEYPOINTS as f64;
         println!(
-            "| {scale} | {:.0} | {:.1} | {:.1} | {:.2} |",
-            used as f64 / KEYPOINTS as f64,
-            a / each,
-            b / each,
+            "| {scale} | {places} | {} | {:.1} | {:.1} | {:.2} |",
+            used as usize / places,
+            a / used as f64,
+            b / used as f64,
             a / b
         );
     }

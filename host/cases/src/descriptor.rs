@@ -1,6 +1,8 @@
 //! What `compute_descriptor` and `descriptor_inputs` are handed, and document 01's table for them.
 
 use crate::Rng;
+use crate::detection::BEFORE;
+use crate::orientation::Expected;
 use crate::picture::{self, Picture, misshape, scale, spoil};
 use bargeclover::bits;
 
@@ -129,6 +131,38 @@ fn place_wrong(c: &Case) -> bool {
 /// The number that `compute_descriptor` gives before it looks at its room.
 pub fn fault(c: &Case) -> u32 {
     picture::fault(&c.picture, || place_wrong(c), || cells(c))
+}
+
+/// The values of a descriptor.
+pub const VALUES: usize = 128;
+
+/// The table decides on refusals; of a case that it accepts, `describe` gives the values by their bits and the samples used. `out` is
+/// what the lent values are afterwards, by their bits.
+pub fn expected(
+    c: &Case,
+    room: usize,
+    describe: impl FnOnce(&Picture, [f32; 4]) -> ([u32; VALUES], usize),
+) -> Expected {
+    let refused = |number, count| Expected {
+        number,
+        count,
+        samples: 0,
+        out: vec![BEFORE; room],
+    };
+    let fault = fault(c);
+    if fault != 0 {
+        return refused(fault, 0);
+    }
+    if room != VALUES {
+        return refused(7, VALUES);
+    }
+    let (values, samples) = describe(&c.picture, [c.x, c.y, c.scale, c.angle]);
+    Expected {
+        number: 0,
+        count: VALUES,
+        samples,
+        out: values.to_vec(),
+    }
 }
 
 /// The number that `descriptor_inputs` gives before it looks at its room.

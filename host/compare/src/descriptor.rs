@@ -2,33 +2,20 @@
 
 use crate::report::Report;
 use bargeclover::{Aim, Picture, entries};
-use cases::{Rng, descriptor};
-
-const BEFORE: u32 = 0xa5a5_a5a5;
-const VALUES: usize = 128;
+use cases::descriptor::{self, VALUES};
+use cases::{Rng, detection::BEFORE};
 
 fn hold_descriptor(r: &mut Report, c: &descriptor::Case, room: usize) {
+    let right = descriptor::expected(c, room, |p, at| {
+        let all = oracle::compute_descriptor(&p.samples, p.width, p.height, at);
+        r.tried(match (all.0.iter().all(|&v| v == 0), all.1) {
+            (true, 0) => "descriptor of nothing",
+            (true, _) => "descriptor of a flat patch",
+            _ => "descriptor with values",
+        });
+        all
+    });
     let p = &c.picture;
-    let mut theirs = vec![BEFORE; room];
-    let expected = match descriptor::fault(c) {
-        0 => {
-            let at = [c.x, c.y, c.scale, c.angle];
-            let (values, n) = oracle::compute_descriptor(&p.samples, p.width, p.height, at);
-            let zero = values.iter().all(|&v| v == 0);
-            r.tried(match (zero, n) {
-                (true, 0) => "descriptor of nothing",
-                (true, _) => "descriptor of a flat patch",
-                _ => "descriptor with values",
-            });
-            if room == VALUES {
-                theirs.copy_from_slice(&values);
-                (0, VALUES, n)
-            } else {
-                (7, VALUES, 0)
-            }
-        }
-        fault => (fault, 0, 0),
-    };
     let lent = Picture {
         samples: &p.samples,
         width: p.width,
@@ -43,11 +30,12 @@ fn hold_descriptor(r: &mut Report, c: &descriptor::Case, room: usize) {
     let mut ours = vec![f32::from_bits(BEFORE); room];
     let answer = entries::compute_descriptor(&lent, &aim, &mut ours);
     let about = || format!("{c:?}, room {room}");
-    if r.same("compute_descriptor", &answer, &expected, about) {
+    let numbers = (right.number, right.count, right.samples);
+    if r.same("compute_descriptor", &answer, &numbers, about) {
         let ours: Vec<u32> = ours.into_iter().map(f32::to_bits).collect();
-        r.same("values of compute_descriptor", &ours, &theirs, about);
+        r.same("values of compute_descriptor", &ours, &right.out, about);
     }
-    r.tried(format!("compute_descriptor answered {}", expected.0));
+    r.tried(format!("compute_descriptor answered {}", right.number));
 }
 
 /// `many` descriptors, some without 128 places, and half as many damaged ones.

@@ -1,7 +1,8 @@
-//! record detection [SEED], record orientation [SEED]: writes the fixed list of stacks or of keypoints that the Rattle program
-//! `detect_replay` or `orient_replay` replays, and a note beside it with the seed and the command. Expected answers are the
-//! published Rust's; refusals are those of the table rendered a second time.
+//! record detection [SEED], record orientation [SEED], record descriptor [SEED]: writes the fixed list of stacks, of keypoints or of
+//! places that the Rattle program `detect_replay`, `orient_replay` or `descriptor_replay` replays, and a note beside it with the seed
+//! and the command. Expected answers are the published Rust's; refusals are those of the table rendered a second time.
 
+mod descriptor;
 mod detection;
 mod list;
 mod orientation;
@@ -29,8 +30,9 @@ fn main() -> ExitCode {
     match what.as_str() {
         "detection" => detection::write(&data_folder("detect_replay"), seed),
         "orientation" => orientation::write(&data_folder("orient_replay"), seed),
+        "descriptor" => descriptor::write(&data_folder("descriptor_replay"), seed),
         _ => {
-            eprintln!("record: which list? detection or orientation");
+            eprintln!("record: which list? detection, orientation or descriptor");
             return ExitCode::from(2);
         }
     }

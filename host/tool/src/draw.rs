@@ -152,7 +152,7 @@ fn entry_words(e: &Entry) -> &str {
 }
 
 fn layout(entries: &[Entry], width: usize) -> Layout {
-    let zoom = (width / 560).clamp(1, 4);
+    let zoom = (width / 450).clamp(1, 4);
     let gap = 14 * zoom;
     let (mut x, mut rows, mut places) = (gap, 1, Vec::new());
     for e in entries {

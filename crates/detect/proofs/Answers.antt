@@ -17,7 +17,7 @@ use Rattle.extrema.specs.Neighbours.{tied}
 use Rattle.extrema.specs.Scan.{keypoints, words}
 use Rattle.detect.specs.Entry.{faultOf, extremaAnswer, extremaOut}
 use Rattle.detect.specs.Places.{roomAnswer}
-use Rattle.extrema.proofs.Words.{length-words, words-none, sets-pasted}
+use Rattle.rows.proofs.Words.{length-words, words-none, sets-pasted}
 
 module _ (ks : List RawKeypoint) (out : List ℕ) where
   -- the answer by the room, and the words left by it

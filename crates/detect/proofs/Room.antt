@@ -12,7 +12,7 @@ use Rattle.params.specs.declared.Settings.{Settings}
 use Rattle.extrema.specs.Neighbours.{tied}
 use Rattle.extrema.specs.Scan.{rowOf, keypoints}
 use Rattle.extrema.specs.Hints.{leftOf}
-use Rattle.extrema.proofs.Words.{counted-on}
+use Rattle.rows.proofs.Words.{counted-on}
 use Rattle.extrema.proofs.Hints.{rows-left}
 
 module _ (d : List Float) (w h : ℕ) (s : Settings) (octave p row held : ℕ) (a : border ≤ row) (b : row ≤ h - border) (n : held ≡ length (joined border row (λ r. rowOf tied d w h s octave p r))) where

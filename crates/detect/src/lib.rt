@@ -49,7 +49,7 @@ fn scan(
 {
     let mut held: usize = 0;
     for r in 5..h - 5 {
-        let k = extrema::row_words(dog, w, h, n, s, octave, threshold, p, r, hold, 10 * held);
+        let k = rows::row_words(dog, w, h, n, s, octave, threshold, p, r, hold, 10 * held);
         if held + k > HELD {
             return Scanned { held: held, row: r };
         }
@@ -84,7 +84,7 @@ fn fill(
 {
     let mut k: usize = 0;
     for r in row..h - 5 {
-        k += extrema::row_words(dog, w, h, n, s, octave, threshold, p, r, out, from + 10 * k);
+        k += rows::row_words(dog, w, h, n, s, octave, threshold, p, r, out, from + 10 * k);
     }
     k
 }
@@ -172,7 +172,7 @@ fn search(
     if lacking > 0 {
         return Answer::Short(lacking);
     }
-    extrema::copy(&hold, 10 * t.held, out, 0);
+    rows::copy(&hold, 10 * t.held, out, 0);
     let k = fill(
         dog,
         w,

@@ -1,6 +1,5 @@
 pub mod Near
 pub mod Cells
-pub mod Words
 pub mod Rows
 pub mod Hints
 pub mod SignLaw

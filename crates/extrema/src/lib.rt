@@ -1,21 +1,19 @@
-// The cells of one layer of a stack of difference planes: the search among a cell's neighbours, and what a row of cells gives, as words.
+// The cells of one layer of a stack of difference planes: a first look at them, the search among a cell's neighbours, and what a cell gives.
 
 ghost use mathlib.Core.Path.{_≡_};
 ghost use mathlib.Core.Bool.{false, cond};
-ghost use Prim.Native.Nat.{ℕ, _+_, _-_, _*_, _^_, _<_, _≤_};
-ghost use lib.ListN.{length, set, take};
-ghost use lib.Seq.{sets};
+ghost use Prim.Native.Nat.{ℕ, _+_, _-_, _*_, _<_, _≤_};
+ghost use lib.ListN.{length};
 ghost use Rattle.ieee.specs.F32.{_<ᶠ_, _≤ᶠ_};
 ghost use Rattle.params.specs.Limits.{maxOctave};
 ghost use Rattle.params.specs.Threshold.{thresholdOf};
 ghost use Rattle.picture.specs.Stack.{sample};
 ghost use Rattle.refine.specs.Keypoint.{Place};
 ghost use Rattle.extrema.specs.Neighbours.{tied, nought, centre, isExtremum, loud};
-ghost use Rattle.extrema.specs.Scan.{kept, found, cellsOf, rowOf, wordsOf, words};
-ghost use Rattle.extrema.specs.Places.{Around, Stack, Row, Run, Part};
+ghost use Rattle.extrema.specs.Scan.{kept, found};
+ghost use Rattle.extrema.specs.Places.{Around, Run};
 ghost use Rattle.extrema.specs.Hints.{hint, hintAt, Marked, leftOf};
 use params::Settings;
-use refine::RawKeypoint;
 use refine::Refined;
 
 // The middle one of the 27 places about a cell is the cell itself.
@@ -116,45 +114,6 @@ fn cell(
     }
 }
 
-// Writes a word where there is room for it.
-fn put_word(out: &mut [u32], at: usize, x: u32)
-    ensures { λ _. ⌜ now (out .exit) ≡ set (now (out .entry)) at x ⌝ }
-{
-    if at < out.len() {
-        out[at] = x;
-    }
-}
-
-// Writes the first m words of `from` at a place, as far as there is room.
-pub fn copy(from: &[u32], m: usize, out: &mut [u32], at: usize)
-    requires { ⌜ (m ≤ length (now from)) × (at < 2 ^ 40) ⌝ }
-    ensures { λ _. ⌜ now (out .exit) ≡ sets (now (out .entry)) at (take m (now (from .entry))) ⌝ }
-{
-    for i in 0..m {
-        put_word(out, at + i, from[i]);
-    }
-}
-
-// Writes a keypoint's words at a place, as far as there is room.
-fn put(out: &mut [u32], at: usize, k: RawKeypoint)
-    requires { ⌜ at < 2 ^ 40 ⌝ }
-    ensures { λ _. ⌜ now (out .exit) ≡ sets (now (out .entry)) at (wordsOf k) ⌝ }
-{
-    let row = [
-        ieee::bits_of(k.x),
-        ieee::bits_of(k.y),
-        ieee::bits_of(k.size),
-        ieee::bits_of(k.response),
-        k.octave,
-        k.layer,
-        ieee::bits_of(k.xi),
-        k.cc,
-        k.rr,
-        k.moves,
-    ];
-    copy(&row, 10, out, at);
-}
-
 // A first look: whether v is loud and not beaten by its six nearest neighbours.
 fn may_be(threshold: f32, v: f32, a: f32, b: f32, c: f32, d: f32, e: f32, f: f32) -> bool
     ensures { λ x. ⌜ x ≡ hint threshold v a b c d e f ⌝ }
@@ -192,11 +151,8 @@ fn may_be_at(
     )
 }
 
-// So many cells of a row are looked at before the first of them is searched.
-const BLOCK: usize = 64;
-
 // Whether one of the cells from column lo to below hi is loud. No branch depends on a sample, so that the machine looks at several at once; so in `mark` and `row_most`.
-fn any_loud(
+pub fn any_loud(
     dog: &[f32],
     w: usize,
     h: usize,
@@ -218,7 +174,7 @@ fn any_loud(
 }
 
 // Takes the first look at the cells from column lo to below hi.
-fn mark(
+pub fn mark(
     dog: &[f32],
     w: usize,
     h: usize,
@@ -240,7 +196,7 @@ fn mark(
 }
 
 // What a cell gives after the first look at it, whose result is `mark`.
-fn seen(
+pub fn seen(
     mark: bool,
     dog: &[f32],
     w: usize,
@@ -264,144 +220,6 @@ fn seen(
     } else {
         Refined::Dropped
     }
-}
-
-// Finds the keypoints of the cells from column lo to below hi, which are marked, and writes their words from the place `from` on, as far as there is room.
-fn marked_words(
-    dog: &[f32],
-    w: usize,
-    h: usize,
-    n: usize,
-    s: Settings,
-    octave: u32,
-    threshold: f32,
-    p: usize,
-    r: usize,
-    lo: usize,
-    hi: usize,
-    marks: &[bool; 64],
-    out: &mut [u32],
-    from: usize,
-) -> usize
-    requires { ⌜ Stack (length (now dog)) w h n (s .layers) octave p ⌝ }
-    requires { ⌜ threshold ≡ thresholdOf (s .contrast) (s .layers) ⌝ }
-    requires { ⌜ Part w h r lo hi ⌝ }
-    requires { ⌜ Marked threshold (now dog) w h p r lo hi (now marks) ⌝ }
-    requires { ⌜ from < 2 ^ 39 + 2 ^ 20 ⌝ }
-    ensures { λ k. ⌜ k ≡ length (cellsOf tied (now (dog .entry)) w h s octave p r lo hi) ⌝ }
-    ensures { λ k. ⌜ now (out .exit) ≡ sets (now (out .entry)) from (words (cellsOf tied (now (dog .entry)) w h s octave p r lo hi)) ⌝ }
-{
-    let mut k: usize = 0;
-    for c in lo..hi {
-        match seen(marks[c - lo], dog, w, h, n, s, octave, threshold, p, r, c) {
-            Refined::Dropped => {}
-            Refined::At(found) => {
-                put(out, from + 10 * k, found);
-                k += 1;
-            }
-        }
-    }
-    k
-}
-
-// Finds the keypoints of the cells from column lo to below hi: a first look at all of them, then a search of those that it leaves.
-fn block_words(
-    dog: &[f32],
-    w: usize,
-    h: usize,
-    n: usize,
-    s: Settings,
-    octave: u32,
-    threshold: f32,
-    p: usize,
-    r: usize,
-    lo: usize,
-    hi: usize,
-    out: &mut [u32],
-    from: usize,
-) -> usize
-    requires { ⌜ Stack (length (now dog)) w h n (s .layers) octave p ⌝ }
-    requires { ⌜ threshold ≡ thresholdOf (s .contrast) (s .layers) ⌝ }
-    requires { ⌜ Part w h r lo hi ⌝ }
-    requires { ⌜ from < 2 ^ 39 + 2 ^ 20 ⌝ }
-    ensures { λ k. ⌜ k ≡ length (cellsOf tied (now (dog .entry)) w h s octave p r lo hi) ⌝ }
-    ensures { λ k. ⌜ now (out .exit) ≡ sets (now (out .entry)) from (words (cellsOf tied (now (dog .entry)) w h s octave p r lo hi)) ⌝ }
-{
-    if !any_loud(dog, w, h, n, threshold, p, r, lo, hi) {
-        return 0;
-    }
-    let mut marks = [false; 64];
-    mark(dog, w, h, n, threshold, p, r, lo, hi, &mut marks);
-    marked_words(
-        dog,
-        w,
-        h,
-        n,
-        s,
-        octave,
-        threshold,
-        p,
-        r,
-        lo,
-        hi,
-        &marks,
-        out,
-        from,
-    )
-}
-
-// Where the block that starts at c ends: a whole block on, or at the end of the row's cells.
-fn block_end(c: usize, end: usize) -> usize
-    requires { ⌜ c < end ⌝ }
-    ensures { λ to. ⌜ (c < to) × (to ≤ end) × (to ≤ c + 64) ⌝ }
-{
-    if end - c > BLOCK { c + BLOCK } else { end }
-}
-
-// Finds a row's keypoints, and writes their words from the place `from` on, as far as there is room.
-pub fn row_words(
-    dog: &[f32],
-    w: usize,
-    h: usize,
-    n: usize,
-    s: Settings,
-    octave: u32,
-    threshold: f32,
-    p: usize,
-    r: usize,
-    out: &mut [u32],
-    from: usize,
-) -> usize
-    requires { ⌜ Stack (length (now dog)) w h n (s .layers) octave p ⌝ }
-    requires { ⌜ threshold ≡ thresholdOf (s .contrast) (s .layers) ⌝ }
-    requires { ⌜ Row w h r ⌝ }
-    requires { ⌜ from < 2 ^ 39 ⌝ }
-    ensures { λ k. ⌜ k ≡ length (rowOf tied (now (dog .entry)) w h s octave p r) ⌝ }
-    ensures { λ k. ⌜ now (out .exit) ≡ sets (now (out .entry)) from (words (rowOf tied (now (dog .entry)) w h s octave p r)) ⌝ }
-{
-    let end = w - 5;
-    let mut k: usize = 0;
-    let mut c: usize = 5;
-    while c < end {
-        let to = block_end(c, end);
-        k += block_words(
-            dog,
-            w,
-            h,
-            n,
-            s,
-            octave,
-            threshold,
-            p,
-            r,
-            c,
-            to,
-            out,
-            from + 10 * k,
-        );
-        c = to;
-    }
-    k
 }
 
 fn one_if(b: bool) -> usize

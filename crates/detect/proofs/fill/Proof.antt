@@ -10,7 +10,7 @@ use Rattle.lists.proofs.Ranges.{joined-start, counted}
 use Rattle.params.specs.Limits.{maxSide}
 use Rattle.extrema.specs.Neighbours.{tied}
 use Rattle.extrema.specs.Scan.{rowOf, words}
-use Rattle.extrema.proofs.Words.{filled, words-none}
+use Rattle.rows.proofs.Words.{filled, words-none}
 use Rattle.extrema.proofs.Rows.{row-bound, rows-few}
 use Rattle.detect.proofs.fill.Statement.{statement}
 use Rattle.detect.proofs.fill.Tie as tie

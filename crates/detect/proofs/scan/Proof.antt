@@ -9,7 +9,7 @@ use Rattle.lists.specs.Ranges.{joined}
 use Rattle.lists.proofs.Ranges.{joined-start, counted}
 use Rattle.extrema.specs.Neighbours.{tied}
 use Rattle.extrema.specs.Scan.{rowOf, words}
-use Rattle.extrema.proofs.Words.{filled, taken, words-none}
+use Rattle.rows.proofs.Words.{filled, taken, words-none}
 use Rattle.extrema.proofs.Rows.{row-bound}
 use Rattle.detect.specs.Places.{maxHeld}
 use Rattle.detect.proofs.scan.Statement.{statement}

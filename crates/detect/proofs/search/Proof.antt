@@ -6,7 +6,7 @@ use borrow.Author.Needs.{needs}
 use Rattle.params.specs.Limits.{maxSide}
 use Rattle.extrema.specs.Neighbours.{tied}
 use Rattle.extrema.specs.Scan.{keypoints}
-use Rattle.extrema.proofs.Words.{written}
+use Rattle.rows.proofs.Words.{written}
 use Rattle.extrema.proofs.Rows.{rows-few}
 use Rattle.detect.proofs.Answers.{short, done}
 use Rattle.detect.proofs.Room.{total}

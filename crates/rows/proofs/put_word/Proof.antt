@@ -1,8 +1,8 @@
 use mathlib.Core.Path.{sym}
 use lib.Seq.{set-out}
 use borrow.Author.Needs.{needs}
-use Rattle.extrema.proofs.put_word.Statement.{statement}
-use Rattle.extrema.proofs.put_word.Tie as tie
+use Rattle.rows.proofs.put_word.Statement.{statement}
+use Rattle.rows.proofs.put_word.Tie as tie
 
 mul-out : tie.Need-mul-out
 mul-out c = search needs

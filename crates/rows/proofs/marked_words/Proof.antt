@@ -7,11 +7,11 @@ use lib.ListN.{length}
 use lib.Seq.{sets, length-sets}
 use Rattle.lists.specs.Ranges.{joined}
 use Rattle.lists.proofs.Ranges.{joined-start, counted}
 use Rattle.extrema.specs.Neighbours.{tied}
 use Rattle.extrema.specs.Scan.{found, kept, cellsOf, words}
-use Rattle.extrema.proofs.Words.{filled-none, filled-one, words-none}
-use Rattle.extrema.proofs.marked_words.Statement.{statement}
-use Rattle.extrema.proofs.marked_words.Tie as tie
+use Rattle.rows.proofs.Words.{filled-none, filled-one, words-none}
+use Rattle.rows.proofs.marked_words.Statement.{statement}
+use Rattle.rows.proofs.marked_words.Tie as tie
 
 abbrev Inv-loop : tie.InvT-loop
 Inv-loop dog w h n s octave threshold p r lo hi marks out₀ from k₀ c₀ out k c =

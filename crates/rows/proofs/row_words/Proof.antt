@@ -6,16 +6,12 @@ use denote.Ref.{now}
 use lib.ListN.{length}
 use lib.Seq.{sets, length-sets}
 use Rattle.lists.proofs.Ranges.{joined-start}
 use Rattle.extrema.specs.Neighbours.{tied}
 use Rattle.extrema.specs.Scan.{cellsOf, rowOf, words}
-use Rattle.extrema.proofs.Words.{counted-on, filled-on, words-none}
+use Rattle.rows.proofs.Words.{counted-on, filled-on, words-none}
 use Rattle.extrema.proofs.Rows.{cells-bound}
-use Rattle.extrema.proofs.row_words.Statement.{statement}
-use Rattle.extrema.proofs.row_words.Tie as tie
-use Rattle.extrema.proofs.row_words.Reads as reads
-use Rattle.extrema.proofs.row_words.Lts as lts
-use Rattle.extrema.proofs.block_end.Reads as block-end-reads
-use Rattle.extrema.proofs.block_words.Reads as block-words-reads
+use Rattle.rows.proofs.row_words.Statement.{statement}
+use Rattle.rows.proofs.row_words.Tie as tie
 
 abbrev Inv-loop : tie.InvT-loop
 Inv-loop dog w h n s octave threshold p r out₀ from end k₀ c₀ out k c =
@@ -27,31 +23,24 @@ Inv-loop dog w h n s octave threshold p r out₀ from end k₀ c₀ out k c =
 abbrev μ-loop : tie.MeasureT-loop
 μ-loop dog w h n s octave threshold p r out₀ from end k₀ c₀ out k c = w - c
 
--- src/lib.rt:382:15
 sub-end : tie.Need-sub-end Inv-loop μ-loop
 sub-end c = search needs
 
--- src/lib.rt:385:5
 loop-holds : tie.Need-loop-holds Inv-loop μ-loop
 loop-holds c = (omega arith, omega arith, refl, sym (ap length (joined-start 5 _)), rw (joined-start, words-none), omega arith)
 
--- src/lib.rt:386:13
 block-end-requires : tie.Need-block-end-requires Inv-loop μ-loop
 block-end-requires c κs = search needs
 
--- src/lib.rt:400:20
 mul-block-words : tie.Need-mul-block-words Inv-loop μ-loop
 mul-block-words c = search needs
 
--- src/lib.rt:400:13
 add-block-words : tie.Need-add-block-words Inv-loop μ-loop
 add-block-words c = search needs
 
--- src/lib.rt:387:14
 block-words-requires : tie.Need-block-words-requires Inv-loop μ-loop
 block-words-requires c κs = (search needs, (search needs, (search needs, search needs)))
 
--- src/lib.rt:387:9
 add-k : tie.Need-add-k Inv-loop μ-loop
 add-k c =
     let a = c .before .before .before .before .before .before .before .before .before .args in
@@ -61,11 +50,9 @@ add-k c =
     let g = c .before .before .block-words .ensures in
     omega (arith, few, g .0)
 
--- src/lib.rt:385:5
 loop-less : tie.Need-loop-less Inv-loop μ-loop
 loop-less c = search needs
 
--- src/lib.rt:385:5
 loop-again : tie.Need-loop-again Inv-loop μ-loop
 loop-again c =
     let a = c .before .before .before .before .before .before .before .before .before .args in
@@ -75,11 +62,9 @@ loop-again c =
     let g = c .before .before .block-words .ensures in
     (omega arith, omega arith, refl, counted-on 5 (l .c) to _ _ _ (l .inv .0) (omega arith) (l .inv .3) (g .0), filled-on 5 (l .c) to _ _ _ _ _ _ (l .inv .0) (omega arith) (l .inv .3) (l .inv .4) (g .1), omega (arith, few, g .0))
 
--- src/lib.rt:362:1
 same-length : tie.Need-same-length Inv-loop μ-loop
 same-length c = ap length (c .before .loop .inv .4) ∙ simp length-sets
 
--- src/lib.rt:362:1
 returns : tie.Need-returns Inv-loop μ-loop
 unfolding rowOf
 returns c =

@@ -119,12 +119,67 @@ fn marks(frame: &Frame, given: &Given) -> Result<Vec<Mark>, Trouble> {
     Ok(all)
 }
 
+/// Where the sheet of each frame goes: the file that is named, or in the folder that is named under the frame's own name.
+fn sheets(frames: &[PathBuf], out: &Path) -> Result<Vec<PathBuf>, Trouble> {
+    let usage = |words: String| Err(Trouble::Usage(words));
+    if !out.is_dir() {
+        return match frames {
+            [] => usage("name the frame, a PGM file".into()),
+            [_] => Ok(vec![out.into()]),
+            _ => usage(format!(
+                "several frames want a folder after -o, and there is no folder '{}'",
+                out.display()
+            )),
+        };
+    }
+    let mut all: Vec<PathBuf> = Vec::new();
+    for frame in frames {
+        let name = Path::new(frame.file_name().unwrap_or_default());
+        let place = out.join(name).with_extension("sheet");
+        if all.contains(&place) {
+            return usage(format!(
+                "two frames would have the sheet '{}'",
+                place.display()
+            ));
+        }
+        all.push(place);
+    }
+    if all.is_empty() {
+        return usage("name the frames, PGM files".into());
+    }
+    Ok(all)
+}
+
 fn extract_command(given: &Given) -> Result<(), Trouble> {
     let out = given
         .path("output")
         .ok_or_else(|| Trouble::Usage("say where with -o OUT.sheet".into()))?;
-    let frame = files::frame(&one(given, "the frame, a PGM file")?)?;
-    let made = extract(&frame, &wanted(given)?, &mut progress(given))?;
+    let sheets = sheets(&given.files, out)?;
+    let wanted = wanted(given)?;
+    let mut failed = 0;
+    for (frame, sheet) in given.files.iter().zip(&sheets) {
+        match extract_one(frame, sheet, &wanted, given) {
+            Err(Trouble::Closed) => return Err(Trouble::Closed),
+            // of a roll the others are still made
+            Err(t) if sheets.len() > 1 => {
+                t.complain();
+                failed += 1;
+            }
+            ended => ended?,
+        }
+    }
+    if failed > 0 {
+        let all = sheets.len();
+        return Err(Trouble::Refused(format!(
+            "{failed} of {all} frames have no sheet"
+        )));
+    }
+    Ok(())
+}
+
+fn extract_one(path: &Path, out: &Path, wanted: &Wanted, given: &Given) -> Result<(), Trouble> {
+    let frame = files::frame(path)?;
+    let made = extract(&frame, wanted, &mut progress(given))?;
     let bytes = write_sheet(&made.sheet).map_err(find::inside)?;
     files::write(out, &bytes)?;
     if given.has("quiet") || out.as_os_str() == "-" {

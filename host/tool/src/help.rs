@@ -69,26 +69,34 @@ const CSV: &[Opt] = &[opt(
     "comma-separated lines, every number exact",
 )];
 
-const PLANES: &str = "\
+macro_rules! planes {
+    () => {
+        "\
 The frame is a PGM file (P5 or P2, 8 or 16 bits); its samples are scaled to 0 to 255. The planes that are searched are made by
 this tool and are not part of what is proved; what the library does with them is.
-With --double the octaves, cells, x, y and size are those of the doubled frame: octave 0 is twice as wide and high as the file.";
+With --double the octaves, cells, x, y and size are those of the doubled frame: octave 0 is twice as wide and high as the file."
+    };
+}
 
 pub const EXTRACT: Command = Command {
     name: "extract",
-    files: "FRAME.pgm",
-    about: "make a sheet of the keypoints of a frame",
+    files: "FRAME.pgm..",
+    about: "make a sheet of the keypoints of each frame",
     options: &[
         &[opt(
             "output",
             Some('o'),
             Some("FILE"),
-            "the sheet, edition 1",
+            "the sheet, edition 1, or a folder for the sheets",
         )],
         SEARCH,
         HELP,
     ],
-    more: PLANES,
+    more: concat!(
+        "Where a folder is named, which has to be there, each sheet has its frame's name in it. Of several frames those that are refused\n\
+         are told, and the others are made.\n",
+        planes!()
+    ),
 };
 
 pub const FIND: Command = Command {
@@ -96,7 +104,7 @@ pub const FIND: Command = Command {
     files: "FRAME.pgm",
     about: "list the keypoints of a frame with their directions",
     options: &[CSV, SEARCH, HELP],
-    more: PLANES,
+    more: planes!(),
 };
 
 pub const SHOW: Command = Command {

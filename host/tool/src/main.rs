@@ -7,7 +7,7 @@ fn main() -> ExitCode {
     match commands::run(std::env::args_os().skip(1)) {
         Ok(()) | Err(Trouble::Closed) => ExitCode::SUCCESS,
         Err(t) => {
-            eprintln!("bargeclover: {t}");
+            t.complain();
             ExitCode::from(t.status())
         }
     }

@@ -2,7 +2,7 @@
 
 use bargeclover::Refusal;
 use std::fmt;
-use std::io;
+use std::io::{self, Write};
 use std::path::{Path, PathBuf};
 
 #[derive(Debug)]
@@ -29,6 +29,11 @@ impl Trouble {
             Trouble::Usage(_) => 2,
             Trouble::File { .. } => 3,
         }
+    }
+
+    /// Says it on standard error; where nobody reads that, nothing is said.
+    pub fn complain(&self) {
+        let _ = writeln!(io::stderr().lock(), "bargeclover: {self}");
     }
 
     pub fn reading(path: &Path, error: io::Error) -> Trouble {

@@ -227,6 +227,40 @@ fn from_a_frame_to_a_sheet_and_its_picture() {
 }
 
 #[test]
+fn a_roll_into_a_folder() {
+    let folder = place("roll");
+    let _ = fs::remove_dir_all(&folder);
+    fs::create_dir(&folder).unwrap();
+    let to = folder.to_str().unwrap();
+    let small = file("small frame.pgm", &coast::frame(80, 60, 3).to_pgm());
+    let bad = file("bad.pgm", b"P6");
+    run(&["extract", COAST, &small, "-o", to], 0);
+    run(
+        &[
+            "check",
+            &format!("{to}/coast.sheet"),
+            &format!("{to}/small frame.sheet"),
+        ],
+        0,
+    );
+    fs::remove_file(folder.join("coast.sheet")).unwrap();
+    let (said, complained) = run(&["extract", &bad, COAST, "-o", to], 1);
+    assert!(said.contains("coast.sheet: ") && complained.contains("1 of 2 frames have no sheet"));
+    assert!(!folder.join("bad.sheet").exists());
+    run(&["check", &format!("{to}/coast.sheet")], 0);
+    assert!(
+        run(&["extract", COAST, COAST, "-o", to], 2)
+            .1
+            .contains("two frames")
+    );
+    assert!(
+        run(&["extract", COAST, &small, "-o", "x.sheet"], 2)
+            .1
+            .contains("want a folder")
+    );
+}
+
+#[test]
 fn pictures_are_written_whole() {
     let good = file("drawn.sheet", &sheet());
     for (name, starts) in [

@@ -145,6 +145,27 @@ fn put_values(records: &mut [u32; 8832], at: usize, values: &[f32; 128])
     }
 }
 
+fn put_head(records: &mut [u32; 8832], at: usize, k: RawKeypoint)
+    requires { ⌜ at + 5 ≤ 8832 ⌝ }
+{
+    let word = k.octave;
+    records[at] = k.rr;
+    records[at + 1] = k.cc;
+    records[at + 2] = word % 256;
+    records[at + 3] = word / 256 % 256;
+    records[at + 4] = word / 65536;
+}
+
+fn put_floats(records: &mut [u32; 8832], at: usize, o: OrientedKeypoint)
+    requires { ⌜ at + 5 ≤ 8832 ⌝ }
+{
+    records[at] = ieee::bits_of(o.x);
+    records[at + 1] = ieee::bits_of(o.y);
+    records[at + 2] = ieee::bits_of(o.size);
+    records[at + 3] = ieee::bits_of(o.response);
+    records[at + 4] = ieee::bits_of(o.angle);
+}
+
 // The record of an oriented keypoint with its 128 values, as the writer takes it.
 fn put_record(
     records: &mut [u32; 8832],
@@ -155,16 +176,8 @@ fn put_record(
 )
     requires { ⌜ at + 138 ≤ 8832 ⌝ }
 {
-    records[at] = k.rr;
-    records[at + 1] = k.cc;
-    records[at + 2] = o.octave % 256;
-    records[at + 3] = o.octave / 256 % 256;
-    records[at + 4] = o.octave / 65536;
-    records[at + 5] = ieee::bits_of(o.x);
-    records[at + 6] = ieee::bits_of(o.y);
-    records[at + 7] = ieee::bits_of(o.size);
-    records[at + 8] = ieee::bits_of(o.response);
-    records[at + 9] = ieee::bits_of(o.angle);
+    put_head(records, at, k);
+    put_floats(records, at + 5, o);
     put_values(records, at + 10, values);
 }
 
@@ -329,7 +342,7 @@ fn largest(words: &[u32; 8896], at: usize) -> u32
     most
 }
 
-fn print_record(words: &[u32; 8896], at: usize)
+fn print_head(words: &[u32; 8896], at: usize)
     requires { ⌜ at + 139 ≤ 8896 ⌝ }
 {
     number(words[at]);
@@ -337,6 +350,12 @@ fn print_record(words: &[u32; 8896], at: usize)
     number(words[at + 2]);
     number(words[at + 3]);
     number(words[at + 4]);
+}
+
+fn print_record(words: &[u32; 8896], at: usize)
+    requires { ⌜ at + 139 ≤ 8896 ⌝ }
+{
+    print_head(words, at);
     hundredths(words[at + 5]);
     hundredths(words[at + 6]);
     hundredths(words[at + 7]);
@@ -422,7 +441,28 @@ fn show(records: [u32; 8832], count: usize)
     print_sheet(&bytes, n);
 }
 
-// The way of all the planes: a keypoint is described in the layer where it settled, whichever it was found in.
+// A keypoint is described in the layer where it settled, whichever it was found in.
+fn describe_all<'a>(
+    one: &'a [f32],
+    two: &'a [f32],
+    three: &'a [f32],
+    a: [u32; 320],
+    na: usize,
+    b: [u32; 320],
+    nb: usize,
+    c: [u32; 320],
+    nc: usize,
+)
+    requires { ⌜ (na ≤ 32) × (nb ≤ 32) × (nc ≤ 32) ⌝ }
+{
+    let mut records = [0u32; 8832];
+    let first = add_layer(one, a, na, b, nb, c, nc, 1, &mut records, 0);
+    let second = add_layer(two, a, na, b, nb, c, nc, 2, &mut records, first);
+    let third = add_layer(three, a, na, b, nb, c, nc, 3, &mut records, second);
+    show(records, third);
+}
+
+// The whole way.
 fn extract<'a>(dog: &'a [f32], one: &'a [f32], two: &'a [f32], three: &'a [f32]) {
     let mut a = [0u32; 320];
     let mut b = [0u32; 320];
@@ -430,11 +470,7 @@ fn extract<'a>(dog: &'a [f32], one: &'a [f32], two: &'a [f32], three: &'a [f32])
     let na = find(dog, 1, &mut a);
     let nb = find(dog, 2, &mut b);
     let nc = find(dog, 3, &mut c);
-    let mut records = [0u32; 8832];
-    let first = add_layer(one, a, na, b, nb, c, nc, 1, &mut records, 0);
-    let second = add_layer(two, a, na, b, nb, c, nc, 2, &mut records, first);
-    let third = add_layer(three, a, na, b, nb, c, nc, 3, &mut records, second);
-    show(records, third);
+    describe_all(one, two, three, a, na, b, nb, c, nc);
 }
 
 fn main() {

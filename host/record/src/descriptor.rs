@@ -4,6 +4,7 @@
 //! are not as many as its shape says, or a not-a-number among its places, can't be told in this form, so number 3 is not in the list.
 
 use crate::list::{List, put};
+use crate::pictures;
 use cases::Rng;
 use cases::descriptor::{self, Case, VALUES, accepted, damage};
 use cases::orientation::Expected;
@@ -72,11 +73,8 @@ fn reasons(c: &Case, room: usize) -> Vec<String> {
 
 /// Whether the form can tell the case, and whether it is short.
 fn tellable(c: &Case) -> bool {
-    let p = &c.picture;
-    let need = p.width as u128 * p.height as u128;
-    need == p.samples.len() as u128
-        && p.samples.len() <= MOST_SAMPLES
-        && ![c.x, c.y, c.scale, c.angle].iter().any(|v| v.is_nan())
+    let at = [c.x, c.y, c.scale, c.angle];
+    pictures::tellable(&c.picture, MOST_SAMPLES) && !at.iter().any(|v| v.is_nan())
 }
 
 fn next(r: &mut Rng) -> (Case, usize) {
@@ -93,16 +91,11 @@ fn next(r: &mut Rng) -> (Case, usize) {
 }
 
 /// A place in the middle of a picture.
-fn middle(width: usize, height: usize, scale: f32, sample: impl Fn(usize, usize) -> f32) -> Case {
-    let cells = (0..height).flat_map(|y| (0..width).map(move |x| (y, x)));
+fn middle(picture: Picture, scale: f32) -> Case {
     Case {
-        picture: Picture {
-            samples: cells.map(|(y, x)| sample(y, x)).collect(),
-            width,
-            height,
-        },
-        x: (width / 2) as f32,
-        y: (height / 2) as f32,
+        x: (picture.width / 2) as f32,
+        y: (picture.height / 2) as f32,
+        picture,
         scale,
         angle: 0.0,
     }
@@ -110,22 +103,12 @@ fn middle(width: usize, height: usize, scale: f32, sample: impl Fn(usize, usize)
 
 /// Document 01's picture of 2 × 2, pictures of a few cells, slopes along the axes and between them, and shapes that are refused.
 fn drawn() -> Vec<Case> {
-    let mut all: Vec<Case> = [2, 1, 3, 4]
-        .map(|n| middle(n, n, 1.6, |y, x| (y * 7 + x * 3) as f32))
-        .to_vec();
-    let slope = |dx: f32, dy: f32| middle(25, 25, 1.6, move |y, x| dx * x as f32 - dy * y as f32);
-    let turns = [0.0, 1.0, -1.0];
-    all.extend(turns.iter().flat_map(|&dx| turns.map(|dy| slope(dx, dy))));
-    for (width, height) in [(0, 1), (1, 0), (0, 0), (8193, 1), (1, 8193)] {
-        let mut c = middle(1, 1, 2.0, |_, _| 0.0);
-        c.picture = Picture {
-            samples: vec![0.0; width * height],
-            width,
-            height,
-        };
-        all.push(c);
-    }
-    all
+    let few = [2, 1, 3, 4].map(|n| pictures::made(n, n, |y, x| (y * 7 + x * 3) as f32));
+    let slope = |(dx, dy)| pictures::made(25, 25, move |y, x| dx * x as f32 - dy * y as f32);
+    let all = few.into_iter();
+    let all = all.chain(pictures::slopes().into_iter().map(slope));
+    let all = all.chain(pictures::refused());
+    all.map(|p| middle(p, 1.6)).collect()
 }
 
 pub fn write(folder: &Path, seed: u64) {

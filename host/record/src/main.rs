@@ -6,6 +6,7 @@ mod descriptor;
 mod detection;
 mod list;
 mod orientation;
+mod pictures;
 
 use std::env;
 use std::path::{Path, PathBuf};

@@ -4,6 +4,7 @@
 //! whose keypoint has not ten words, can't be told in this form, so number 3 is not in the list.
 
 use crate::list::{List, put};
+use crate::pictures;
 use cases::Rng;
 use cases::orientation::{self, Case, Expected, accepted, damage, scale_of};
 use cases::picture::Picture;
@@ -106,9 +107,7 @@ fn reasons(c: &Case, room: usize) -> Vec<String> {
 
 /// Whether the form can tell the case, and whether it is short.
 fn tellable(c: &Case) -> bool {
-    let p = &c.picture;
-    let need = p.width as u128 * p.height as u128;
-    need == p.samples.len() as u128 && p.samples.len() <= MOST_SAMPLES && c.keypoint.len() == 10
+    pictures::tellable(&c.picture, MOST_SAMPLES) && c.keypoint.len() == 10
 }
 
 fn next(r: &mut Rng) -> (Case, usize) {
@@ -126,39 +125,25 @@ fn next(r: &mut Rng) -> (Case, usize) {
 
 /// A keypoint in the middle of a picture.
 fn middle(width: usize, height: usize, size: f32, sample: impl Fn(usize, usize) -> f32) -> Case {
-    let cells = (0..height).flat_map(|y| (0..width).map(move |x| (y, x)));
     let (column, row) = (width / 2, height / 2);
     let floats = [column as f32, row as f32, size, 1.0].map(f32::to_bits);
     let mut keypoint = floats.to_vec();
     keypoint.extend([0x100, 1, 0, column as u32, row as u32, 0]);
     Case {
-        picture: Picture {
-            samples: cells.map(|(y, x)| sample(y, x)).collect(),
-            width,
-            height,
-        },
+        picture: pictures::made(width, height, sample),
         keypoint,
     }
 }
 
 /// Slopes along the axes and between them, pictures of a few cells, and shapes that are refused.
 fn drawn() -> Vec<Case> {
-    let slope = |dx: f32, dy: f32| middle(9, 9, 2.0, move |y, x| dx * x as f32 - dy * y as f32);
-    let turns = [0.0, 1.0, -1.0];
-    let mut all: Vec<Case> = turns
-        .iter()
-        .flat_map(|&dx| turns.map(|dy| slope(dx, dy)))
-        .collect();
+    let slope = |(dx, dy)| middle(9, 9, 2.0, move |y, x| dx * x as f32 - dy * y as f32);
+    let mut all: Vec<Case> = pictures::slopes().into_iter().map(slope).collect();
     all.extend([1, 2, 3, 4].map(|n| middle(n, n, 4.0, |y, x| (y * 7 + x * 3) as f32)));
-    for (width, height) in [(0, 1), (1, 0), (0, 0), (8193, 1), (1, 8193)] {
-        let mut c = middle(1, 1, 2.0, |_, _| 0.0);
-        c.picture = Picture {
-            samples: vec![0.0; width * height],
-            width,
-            height,
-        };
-        all.push(c);
-    }
+    all.extend(pictures::refused().map(|picture| Case {
+        picture,
+        ..middle(1, 1, 2.0, |_, _| 0.0)
+    }));
     all
 }
 

@@ -155,6 +155,9 @@ fn extract_command(given: &Given) -> Result<(), Trouble> {
         .path("output")
         .ok_or_else(|| Trouble::Usage("say where with -o OUT.sheet".into()))?;
     let sheets = sheets(&given.files, out)?;
+    for (frame, sheet) in given.files.iter().zip(&sheets) {
+        files::apart(frame, sheet)?;
+    }
     let wanted = wanted(given)?;
     let mut failed = 0;
     for (frame, sheet) in given.files.iter().zip(&sheets) {

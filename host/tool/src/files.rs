@@ -59,6 +59,17 @@ pub fn unsound(path: &Path, bytes: &[u8], refusal: Refusal) -> Trouble {
     Trouble::Refused(format!("{}: {refusal}: {why}", path.display()))
 }
 
+/// That what is written does not take the place of what is read.
+pub fn apart(from: &Path, to: &Path) -> Result<(), Trouble> {
+    match (fs::canonicalize(from), fs::canonicalize(to)) {
+        (Ok(a), Ok(b)) if a == b && b.is_file() => Err(Trouble::Usage(format!(
+            "'{}' would take the place of the frame",
+            to.display()
+        ))),
+        _ => Ok(()),
+    }
+}
+
 /// Writes a file whole or not at all: beside it first, and then in its place. What is no plain file, as a pipe, is written to.
 pub fn write(path: &Path, bytes: &[u8]) -> Result<(), Trouble> {
     let to = |e| Trouble::writing(path, e);

@@ -248,6 +248,8 @@ fn a_roll_into_a_folder() {
     assert!(said.contains("coast.sheet: ") && complained.contains("1 of 2 frames have no sheet"));
     assert!(!folder.join("bad.sheet").exists());
     run(&["check", &format!("{to}/coast.sheet")], 0);
+    let (_, complained) = run(&["extract", &small, "-o", &small], 2);
+    assert!(complained.contains("the place of the frame"));
     assert!(
         run(&["extract", COAST, COAST, "-o", to], 2)
             .1

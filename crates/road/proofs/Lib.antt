@@ -1,4 +1,3 @@
-pub mod Patterns
 pub mod Record
 pub mod Writer
 pub mod Oriented

@@ -32,7 +32,7 @@ use Rattle.sheet.proofs.Words.{filled-is}
 use Rattle.sheet.proofs.Lawful.{lawful1}
 use Rattle.sheet.proofs.Runs.{right-runs}
 use Rattle.road.specs.Record.{codeIn, headOf, floatsOf, wholesOf, recordOf, Filled}
-use Rattle.road.proofs.Patterns.{finite-bits, bits-above}
+use Rattle.sheet_floats.proofs.Patterns.{finite-bits, bits-above}
 
 -- ---- a slot at a time
 

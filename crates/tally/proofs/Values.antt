@@ -1,26 +1,26 @@
 -- Bounds of the radius and of a bin. Assumes nothing.
-use Prim.Native.Nat.{ℕ, _-_, _≤_, _<_}
-use mathlib.Core.Path.{_≡_, refl, sym, ap, _∙_, subst}
-use mathlib.Core.Bool.{Bool, true, false, _&&_, cond, false≢true}
+use Prim.Native.Nat.{ℕ, _+_, _-_, _^_, _≤_, _<_}
+use mathlib.Core.Path.{_≡_, refl, sym, ap, _∙_}
+use mathlib.Core.Bool.{Bool, true, false, _&&_, false≢true}
 use native.Mathlib.Omega.{arith}
 use mathlib.Core.Logic.{_⊎_, inl, inr}
 use borrow.Author.Tests.{le-leb, lt-leb}
-use lib.Dec.{T, leb}
+use lib.Dec.{T}
 use lib.IntN.{pos}
-use lib.Ieee.{Float, nan, fin, binary32, ofBits, mul, lt, le, toUnsigned}
-use lib.Ieee.Scale.{finite}
-use Rattle.ieee.specs.F32.{_⊗_, f32, rounded}
+use lib.Ieee.{Float, nan, fin, binary32, ofBits, mul, lt, le, toUnsigned, inUnsigned}
+use Rattle.ieee.specs.F32.{_⊕_, _⊗_, f32, rounded}
 use Rattle.ieee.specs.Whole.{roundEven}
-use Rattle.ieee.proofs.Order.{lt-le-trans, le-lt-trans, lt-le, lt-not-le}
+use Rattle.ieee.proofs.Order.{lt-le-trans, le-lt-trans, lt-le}
 use Rattle.ieee.proofs.Monotone.{toUnsigned-le}
 use Rattle.ieee.proofs.Bounds.{Bounds, bounds-point, mul-bounds, roundEven-bounds}
 use Rattle.hal.specs.Angle.{angleOf, inAngle}
 use Rattle.hal.proofs.Rules.{angle-rule}
 use Rattle.params.specs.Limits.{scaleLow, scaleHigh}
 use Rattle.params.specs.Table.{within}
-use Rattle.tally.specs.Window.{radiusFactor, radiusOf}
+use Rattle.tally.specs.Window.{radiusFactor}
 use Rattle.tally.specs.Sample.{bins, tenth, binOf}
 use Rattle.tally.specs.Place.{maxReach}
+use Rattle.tally.proofs.Lifted.{lift, lifted, lifted-back}
 
 pub and-both : (a b : Bool) → (a && b) ≡ true → (a ≡ true) × (b ≡ true)
 and-both true true h = (refl, refl)
@@ -65,6 +65,12 @@ radius-cuts s h = cuts maxReach refl refl (omega arith) (radius-bounds s h)
 abbrev pub turn : Float
 turn = fin false 45 (pos 3)
 
+-- the sum of the turn and 2 ^ 23 can be cast to a u32, and is 2 ^ 23 and the bin
+pub record Binned (a : Float) : Type 0 where
+  pub fine : T (inUnsigned binary32 32 (tenth ⊗ a ⊕ lift))
+  pub is : toUnsigned 32 (tenth ⊗ a ⊕ lift) ≡ toUnsigned 64 (rounded (tenth ⊗ a)) + 2 ^ 23
+  pub size : toUnsigned 64 (rounded (tenth ⊗ a)) ≤ bins
+
 module _ (a : Float) (low : T (le (fin false 0 (pos 0)) a)) (high : T (lt a turn)) where
   turn-bounds : Bounds (fin false 0 (pos 0)) turn a
   turn-bounds = record { from = refl; to = refl; low = of-T _ low; high = lt-le a turn (of-T _ high) }
@@ -77,9 +83,21 @@ module _ (a : Float) (low : T (le (fin false 0 (pos 0)) a)) (high : T (lt a turn
   unfolding ofBits mul lt
   bin-small = le-lt-trans (tenth ⊗ a) (tenth ⊗ turn) (f32 0x4220_0000) (tenth-bounds .high) refl
 
-  pub bin-cuts : Cuts bins (rounded (tenth ⊗ a))
+  bin-cuts : Cuts bins (rounded (tenth ⊗ a))
   unfolding ofBits mul lt roundEven toUnsigned
   bin-cuts = cuts bins refl refl (omega arith) (roundEven-bounds binary32 refl refl tenth-bounds)
+
+  bin-least : le (fin false 0 (pos 0)) (tenth ⊗ a) ≡ true
+  unfolding ofBits mul
+  bin-least = tenth-bounds .low
+
+  pub binned : Binned a
+  binned =
+      let n = toUnsigned 64 (rounded (tenth ⊗ a)) in
+      let s : n ≤ bins = bin-cuts .size in
+      let r = lifted-back n (omega arith) in
+      let e = lifted (tenth ⊗ a) bin-least bin-small in
+      record { fine = rw e (r .0); is = rw e (r .1); size = s }
 
 -- an angle as the routine gives it: none, or in 0 to below 360
 abbrev pub Direction : Float → Type 0
@@ -96,9 +114,16 @@ no-bin : lt (tenth ⊗ nan) (f32 0x4220_0000) ≡ false
 unfolding ofBits mul lt
 no-bin = refl
 
-pub bin-cuts-in : (a : Float) → Direction a → lt (tenth ⊗ a) (f32 0x4220_0000) ≡ true → Cuts bins (rounded (tenth ⊗ a))
-bin-cuts-in a (inl e) h = absurd (false≢true (sym no-bin ∙ ap (λ (x : Float). lt (tenth ⊗ x) (f32 0x4220_0000)) (sym e) ∙ h))
-bin-cuts-in a (inr p) h = bin-cuts a (p .0) (p .1)
+pub binned-in : (a : Float) → Direction a → lt (tenth ⊗ a) (f32 0x4220_0000) ≡ true → Binned a
+binned-in a (inl e) h = absurd (false≢true (sym no-bin ∙ ap (λ (x : Float). lt (tenth ⊗ x) (f32 0x4220_0000)) (sym e) ∙ h))
+binned-in a (inr p) h = binned a (p .0) (p .1)
+
+-- the bin as the code finds it
+abbrev pub found : Float → ℕ
+found a = toUnsigned 32 (tenth ⊗ a ⊕ lift) - 2 ^ 23
+
+pub binned-is : (a : Float) → Binned a → found a ≡ toUnsigned 64 (rounded (tenth ⊗ a))
+binned-is a r = rw (r .is) (omega arith)
 
 bin-none : binOf nan ≡ 0
 unfolding binOf mul roundEven toUnsigned ofBits

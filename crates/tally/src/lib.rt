@@ -137,13 +137,13 @@ fn weight_at(powers: &[u32; 256], win: Window, y: usize, x: usize) -> f32
     hal::exp_with(powers, (square as f32) * win.falloff)
 }
 
-// The bin of a direction.
+// The bin of a direction. From 2^23 on every f32 is whole, so that the sum rounds the turn, ties to even.
 fn bin_of(dx: f32, dy: f32) -> usize
     ensures { λ r. ⌜ (r ≡ binOf (angleOf dx dy)) × (r < bins) ⌝ }
 {
     let turn = 0.1 * hal::angle(dx, dy);
     if turn < 40.0 {
-        let b = std::num::truncating_f32_to_u64(ieee::round_ties_even(turn)) as usize;
+        let b = ((turn + 8388608.0) as u32 - 8388608) as usize;
         if b >= 36 { b - 36 } else { b }
     } else {
         0

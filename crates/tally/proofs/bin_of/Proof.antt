@@ -1,47 +1,49 @@
-use Prim.Native.Nat.{_≤_}
-use mathlib.Core.Path.{_≡_}
 use native.Mathlib.Omega.{arith}
-use lib.Ieee.{toUnsigned}
-use Rattle.ieee.specs.F32.{_⊗_, rounded}
-use Rattle.tally.specs.Sample.{bins, tenth}
-use Rattle.tally.proofs.Values.{direction, bin-cuts-in, bin-high, bin-low, bin-else}
+use Rattle.tally.proofs.Values.{direction, found, binned-in, binned-is, bin-high, bin-low, bin-else}
 use borrow.Author.Needs.{needs}
 use Rattle.tally.proofs.bin_of.Statement.{statement}
 use Rattle.tally.proofs.bin_of.Tie as tie
 use Rattle.tally.proofs.bin_of.Reads as reads
 use Rattle.tally.proofs.bin_of.Lts as lts
 use Rattle.hal.proofs.angle.Reads as angle-reads
-use Rattle.ieee.proofs.round_ties_even.Reads as round-ties-even-reads
-use Rattle.std.proofs.num.truncating_f32_to_u64.Reads as truncating-f32-to-u64-reads
 
 angle-requires : tie.Need-angle-requires
 angle-requires c κs = search needs
 
-round-ties-even-requires : tie.Need-round-ties-even-requires
-round-ties-even-requires c κs = search needs
-
-truncating-f32-to-u64-requires : tie.Need-truncating-f32-to-u64-requires
-truncating-f32-to-u64-requires c κs =
+float-to-int-b : tie.Need-float-to-int-b
+float-to-int-b c =
     let a = c .before .before .angle in
     let s = c .before .before .before .args in
-    let r = bin-cuts-in (a .result) (rw (a .ensures) (direction (s .dx) (s .dy))) (c .before .if1 .taken) in
-    rw (c .round-ties-even .ensures) (r .above, r .below)
+    binned-in (a .result) (rw (a .ensures) (direction (s .dx) (s .dy))) (c .before .if1 .taken) .fine
+
+sub-b : tie.Need-sub-b
+sub-b c =
+    let a = c .before .before .angle in
+    let s = c .before .before .before .args in
+    let r = binned-in (a .result) (rw (a .ensures) (direction (s .dx) (s .dy))) (c .before .if1 .taken) in
+    rw (r .is) (omega arith)
+
+cast-b : tie.Need-cast-b
+cast-b c =
+    let a = c .before .before .angle in
+    let s = c .before .before .before .args in
+    let r = binned-in (a .result) (rw (a .ensures) (direction (s .dx) (s .dy))) (c .before .if1 .taken) in
+    rw (r .is) (omega (arith, r .size))
 
 returns : tie.Need-returns
 returns c =
-    let b = c .before .before .before in
-    let a = b .before .angle in
-    let s = b .before .before .args in
-    let r = bin-cuts-in (a .result) (rw (a .ensures) (direction (s .dx) (s .dy))) (b .if1 .taken) in
-    let e : c .before .truncating-f32-to-u64 .result ≡ toUnsigned 64 (rounded (tenth ⊗ a .result)) = cc in
-    let m : c .before .truncating-f32-to-u64 .result ≤ bins = rw e (r .size) in
-    (rw (← a .ensures) (bin-high (a .result) (c .before .truncating-f32-to-u64 .result) e (c .if2 .taken)), omega arith)
+    let a = c .before .before .before .angle in
+    let s = c .before .before .before .before .args in
+    let r = binned-in (a .result) (rw (a .ensures) (direction (s .dx) (s .dy))) (c .before .before .if1 .taken) in
+    let e = binned-is (a .result) r in
+    (rw (← a .ensures) (bin-high (a .result) (found (a .result)) e (c .if2 .taken)), rw e (omega (arith, r .size)))
 
 returns-2 : tie.Need-returns-2
 returns-2 c =
-    let a = c .before .before .before .before .angle in
-    let e : c .before .truncating-f32-to-u64 .result ≡ toUnsigned 64 (rounded (tenth ⊗ a .result)) = cc in
-    (rw (← a .ensures) (bin-low (a .result) (c .before .truncating-f32-to-u64 .result) e (c .if2 .left)), c .if2 .left)
+    let a = c .before .before .before .angle in
+    let s = c .before .before .before .before .args in
+    let r = binned-in (a .result) (rw (a .ensures) (direction (s .dx) (s .dy))) (c .before .before .if1 .taken) in
+    (rw (← a .ensures) (bin-low (a .result) (found (a .result)) (binned-is (a .result) r) (c .if2 .left)), c .if2 .left)
 
 returns-3 : tie.Need-returns-3
 returns-3 c =
@@ -51,11 +53,4 @@ returns-3 c =
 
 pub bin-of-spec : {M : Type 1} → statement M
 bin-of-spec =
-    tie.close
-    (tie.spec
-    angle-requires
-    round-ties-even-requires
-    truncating-f32-to-u64-requires
-    returns
-    returns-2
-    returns-3)
+    tie.close (tie.spec angle-requires float-to-int-b sub-b cast-b returns returns-2 returns-3)

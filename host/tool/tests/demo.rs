@@ -1,6 +1,6 @@
-//! The planes that `crates/extract_demo` reads, and what it is to print: both are made here, the planes by the tool from a part of the
-//! shipped frame, the text by the published Rust on these planes and by the sheet's second rendering. With DEMO_WRITE=1 the files are
-//! written, and else they are held to what is made.
+//! The planes that `crates/extract_demo` reads, and what it is to print: both are made here, the planes by the tool from a small coast
+//! (land, shore, open sea and the mark in its corner), the text by the published Rust on these planes and by the sheet's second
+//! rendering. With DEMO_WRITE=1 the files are written, and else they are held to what is made.
 
 use bargeclover::Settings;
 use std::fmt::Write;
@@ -10,16 +10,12 @@ use tool::pyramid::{Octave, Pyramid};
 
 const WIDTH: usize = 56;
 const HEIGHT: usize = 44;
-/// Where the part begins.
-const LEFT: usize = 84;
-const TOP: usize = 66;
+/// The coast: one with keypoints on land, on the shore and in the corner.
+const SEED: u64 = 3064;
 
 fn octave() -> Octave {
-    let frame = coast::shipped();
-    let samples: Vec<f32> = (0..WIDTH * HEIGHT)
-        .map(|k| (LEFT + k % WIDTH, TOP + k / WIDTH))
-        .map(|(x, y)| f32::from(frame.samples[y * frame.width + x]))
-        .collect();
+    let frame = coast::frame(WIDTH, HEIGHT, SEED);
+    let samples: Vec<f32> = frame.samples.iter().map(|v| f32::from(*v)).collect();
     let mut pyramid = Pyramid::new(&samples, WIDTH, HEIGHT, &Settings::default(), false);
     pyramid.next().unwrap()
 }

@@ -3,7 +3,7 @@
 //! samples as f32; and the lent values as they stand after the call, by their bits, each 0xA5A5A5A5 before it. A case whose samples
 //! are not as many as its shape says, or a not-a-number among its places, can't be told in this form, so number 3 is not in the list.
 
-use crate::list::{List, put};
+use crate::list::List;
 use crate::pictures;
 use cases::Rng;
 use cases::descriptor::{self, Case, VALUES, accepted, damage};
@@ -25,17 +25,8 @@ fn answer(c: &Case, room: usize) -> Expected {
 }
 
 fn case(list: &mut List, c: &Case, room: usize) {
-    let a = answer(c, room);
-    let to = &mut list.bytes;
-    put(to, [c.picture.width as u32, c.picture.height as u32]);
-    put(to, [c.x, c.y, c.scale, c.angle].map(f32::to_bits));
-    put(
-        to,
-        [room as u32, a.number, a.count as u32, a.samples as u32],
-    );
-    put(to, c.picture.samples.iter().map(|x| x.to_bits()));
-    put(to, a.out);
-    list.cases += 1;
+    let asked = [c.x, c.y, c.scale, c.angle].map(f32::to_bits);
+    list.case(&c.picture, asked, room, answer(c, room));
 }
 
 /// What a case is in the list for.

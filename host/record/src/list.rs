@@ -1,5 +1,7 @@
 //! A list as it grows: its bytes, its cases, and how many were taken for each reason.
 
+use cases::orientation::Expected;
+use cases::picture::Picture;
 use std::collections::BTreeMap;
 use std::fs;
 use std::path::Path;
@@ -28,6 +30,27 @@ impl List {
             wanted,
             each,
         }
+    }
+
+    /// A case of a picture: its sides, what is asked of it in words, the room lent, the answer's numbers, its samples, and what is
+    /// lent as it stands after the call.
+    pub fn case(
+        &mut self,
+        p: &Picture,
+        asked: impl IntoIterator<Item = u32>,
+        room: usize,
+        a: Expected,
+    ) {
+        let to = &mut self.bytes;
+        put(to, [p.width as u32, p.height as u32]);
+        put(to, asked);
+        put(
+            to,
+            [room as u32, a.number, a.count as u32, a.samples as u32],
+        );
+        put(to, p.samples.iter().map(|x| x.to_bits()));
+        put(to, a.out);
+        self.cases += 1;
     }
 
     fn lacks(&self, why: &String) -> bool {

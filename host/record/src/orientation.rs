@@ -3,7 +3,7 @@
 //! the lent words as they stand after the call, each 0xA5A5A5A5 before it. A case whose samples are not as many as its shape says, or
 //! whose keypoint has not ten words, can't be told in this form, so number 3 is not in the list.
 
-use crate::list::{List, put};
+use crate::list::List;
 use crate::pictures;
 use cases::Rng;
 use cases::orientation::{self, Case, Expected, accepted, damage, scale_of};
@@ -24,17 +24,8 @@ fn answer(c: &Case, room: usize) -> Expected {
 }
 
 fn case(list: &mut List, c: &Case, room: usize) {
-    let a = answer(c, room);
-    let to = &mut list.bytes;
-    put(to, [c.picture.width as u32, c.picture.height as u32]);
-    put(to, c.keypoint.iter().copied());
-    put(
-        to,
-        [room as u32, a.number, a.count as u32, a.samples as u32],
-    );
-    put(to, c.picture.samples.iter().map(|x| x.to_bits()));
-    put(to, a.out);
-    list.cases += 1;
+    let asked = c.keypoint.iter().copied();
+    list.case(&c.picture, asked, room, answer(c, room));
 }
 
 /// How many cells lie between the keypoint's and the nearest edge, up to 6.

@@ -139,6 +139,22 @@ static void whole_vectors(void) {
     for (int i = 0; i < 60; i++) wholes((0x4f000000u + i - 30) ^ (uint32_t)(i % 2) << 31);
 }
 
+/* where rounding twice, or a sign of zero, goes wrong */
+static void corner_vectors(void) {
+    /* a * b is 2^-150 less 2 d^2 of 2^-197, and c so many times 2^-149: beside a middle between two subnormals, which an f64 takes for the middle itself */
+    for (int i = 0; i < 400; i++) {
+        uint32_t d = 1 + upto(40), e = 1 + upto(102), c = 0x100000 + upto(0x700000);
+        fused((e << 23 | d) ^ sign(), ((104 - e - 1) << 23 | (0x800000 - 2 * d)) ^ sign(), c ^ sign());
+    }
+    /* sums that cancel to nothing, which are +0: products of 12 digits by 12, down to the subnormals */
+    for (int i = 0; i < 200; i++) {
+        uint32_t a = field(30, 190) & 0xfffff000u, b = field(30, 190) & 0xfffff000u;
+        fused(a, b, bits(of(a) * of(b)) ^ 0x80000000u);
+    }
+    /* zeros of every sign */
+    for (int i = 0; i < 8; i++) fused((uint32_t)i << 31, 0x3f800000u | (uint32_t)(i / 2) << 31, (uint32_t)(i / 4) << 31);
+}
+
 int main(void) {
     fused_vectors();
     root_vectors();
@@ -150,6 +166,7 @@ int main(void) {
     for (int i = 0; i < 1500; i++) length(field(100, 150), field(100, 150));
     for (int i = 0; i < 500; i++) length(any32(), any32());
     for (int i = 0; i < 400; i++) length(field(50, 66), field(50, 66));
+    corner_vectors();
     for (int i = 1; i < 12; i++) fprintf(stderr, "%d: %ld\n", i, count[i]);
     return 0;
 }

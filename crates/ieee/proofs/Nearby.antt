@@ -53,7 +53,7 @@ module _ (p n den : ℕ) (P : 0 < p) (D : 0 < den) where
   u-is : (x : ℕ) → x * (den * 2 ^ k) ≡ x * 2 ^ k * den
   u-is x = ap (λ (y : ℕ). x * y) (mul-comm den (2 ^ k)) ∙ sym (mul-assoc x (2 ^ k) den)
 
-  bounds : (2 * n ≤ 2 * (R * den) + 2 ^ k * den) × (2 * (R * den) ≤ 2 * n + 2 ^ k * den)
+  pub bounds : (2 * n ≤ 2 * (R * den) + 2 ^ k * den) × (2 * (R * den) ≤ 2 * n + 2 ^ k * den)
   bounds =
       let w = near n (den * 2 ^ k) (mul-pos D (pow-pos k)) in
       let e : den * 2 ^ k ≡ 2 ^ k * den = mul-comm den (2 ^ k) in
@@ -64,7 +64,7 @@ module _ (p n den : ℕ) (P : 0 < p) (D : 0 < den) where
   whole-ge : 0 < k → 2 ^ (p - 1 + k) ≤ n / den
   whole-ge h = size-reaches (n / den) (p - 1 + k) (omega arith)
 
-  q-ge : 0 < k → 2 ^ (p - 1) ≤ q
+  pub q-ge : 0 < k → 2 ^ (p - 1) ≤ q
   q-ge h =
       le-trans
       (le-trans (le-div-iff-mul-le (pow-pos k) .1 (le-trans (le-of-eq (sym (pow-add 2 (p - 1) k))) (whole-ge h))) (le-of-eq (div-div-eq-div-mul n den (2 ^ k))))
@@ -84,7 +84,7 @@ module _ (p n den : ℕ) (P : 0 < p) (D : 0 < den) where
   multiple y j h = sym (mul-assoc y (2 ^ (j - k)) (2 ^ k) ∙ ap (λ (x : ℕ). y * x) (sym (pow-add 2 (j - k) k) ∙ ap (λ (x : ℕ). 2 ^ x) (back j k h)))
 
   -- a value above the result is a whole step above it
-  step-up : (y j : ℕ) → y < 2 ^ p → R < y * 2 ^ j → R + 2 ^ k ≤ y * 2 ^ j
+  pub step-up : (y j : ℕ) → y < 2 ^ p → R < y * 2 ^ j → R + 2 ^ k ≤ y * 2 ^ j
   step-up y j h l = elim (eq-zero-or-pos k) [
     | inl z ↦ let e : 2 ^ k ≡ 1 = ap (λ (x : ℕ). 2 ^ x) z in omega arith
     | inr g ↦
@@ -101,7 +101,7 @@ module _ (p n den : ℕ) (P : 0 < p) (D : 0 < den) where
       omega (arith, bounds .0)
 
   -- a value below the result is a whole step below it, or the result is a power of two that the fraction does not fall short of
-  step-down : (y j : ℕ) → y < 2 ^ p → y * 2 ^ j < R → (y * 2 ^ j + 2 ^ k ≤ R) ⊎ (R * den ≤ n)
+  pub step-down : (y j : ℕ) → y < 2 ^ p → y * 2 ^ j < R → (y * 2 ^ j + 2 ^ k ≤ R) ⊎ (R * den ≤ n)
   step-down y j h l = elim (eq-zero-or-pos k) [
     | inl z ↦ let e : 2 ^ k ≡ 1 = ap (λ (x : ℕ). 2 ^ x) z in inl (omega arith)
     | inr g ↦ elim (le-or-lt (y * 2 ^ j + 2 ^ k) R) [

@@ -37,6 +37,10 @@ is-number (fin s m e) h = tt
 pub is-nan : (x : Float) → ne x x ≡ true → x ≡ nan
 is-nan x h = differs-from-itself x (subst T (sym h) tt)
 
+-- a number's pattern without the sign is no more than the infinity's
+pub number-low : (f : Format) (x : Float) → T (fits f x) → T (not (isNan x)) → toBits f x % top f ≤ ones f * hid f
+number-low f x h n = ltb-false (ones f * hid f) (toBits f x % top f) (sym (nanBits-above f (toBits f x)) ∙ nanBits-is f (toBits f x) ∙ ap isNan (ofBits-toBits f x h) ∙ is-false (isNan x) n)
+
 -- ---- the sign cleared
 abs-fits : (f : Format) (x : Float) → T (fits f x) → T (fits f (absOf x))
 unfolding absOf fits
@@ -44,12 +48,6 @@ abs-fits f nan h = h
 abs-fits f (inf s) h = tt
 abs-fits f (fin s zero e) h = h
 abs-fits f (fin s (suc m) e) h = h
-
-abs-number : (x : Float) → T (not (isNan x)) → T (not (isNan (absOf x)))
-unfolding absOf isNan
-abs-number nan n = n
-abs-number (inf s) n = tt
-abs-number (fin s m e) n = tt
 
 -- the sign's bit stands before the rest
 plain : (c a b : ℕ) → c + a + b ≡ c + (0 + a + b)
@@ -102,9 +100,6 @@ clear-sign f x h n = let a = apart f x n in ap (λ (b : ℕ). b % top f) (a .1) 
 pub clear-is : (f : Format) (x : Float) → T (fits f x) → T (not (isNan x)) → ofBits f (toBits f x % top f) ≡ absOf x
 clear-is f x h n = ap (ofBits f) (clear-sign f x h n) ∙ ofBits-toBits f (absOf x) (abs-fits f x h)
 
-pub clear-number : (f : Format) (x : Float) → T (fits f x) → T (not (isNan x)) → T (not (nanBits f (toBits f x % top f)))
-clear-number f x h n = subst (λ (b : Bool). T (not b)) (sym (nanBits-is f (toBits f x % top f) ∙ ap isNan (clear-is f x h n))) (abs-number x n)
-
 -- ---- a rounded fraction: its pattern without the sign, and the sign before it
 plain-odd : (d q k l : ℕ) → absOf (odd d false q k l) ≡ odd d false q k l
 unfolding absOf odd
@@ -131,7 +126,7 @@ module _ (f : Format) (a c : ℕ) where
 
   -- no more than the infinity's
   pub round-low : toBits f v ≤ ones f * hid f
-  round-low = subst (λ (n : ℕ). n ≤ ones f * hid f) low-part (ltb-false (ones f * hid f) (toBits f v % top f) (sym (nanBits-above f (toBits f v)) ∙ nanBits-is f (toBits f v) ∙ ap isNan (ofBits-toBits f v (round-fits f false a c)) ∙ is-false (isNan v) (round-no-nan f false a c)))
+  round-low = subst (λ (n : ℕ). n ≤ ones f * hid f) low-part (number-low f v (round-fits f false a c) (round-no-nan f false a c))
 
   pub round-signed : (s : Bool) → ofBits f (cond s (top f) 0 + toBits f v) ≡ round f s a c
   round-signed false = ap (ofBits f) (zero-add (toBits f v)) ∙ ofBits-toBits f v (round-fits f false a c)

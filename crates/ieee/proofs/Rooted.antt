@@ -1,20 +1,20 @@
--- `sqrt binary32` is the square root of IEEE 754: of the values of the format, the one nearest to the root. Assumes nothing.
-use mathlib.Core.Path.{_≡_, refl, sym, ap, ap₂, _∙_, subst}
-use mathlib.Core.Logic.{_⊎_, inl, inr}
-use Prim.Native.Nat.{ℕ, zero, suc, _+_, _-_, _*_, _/_, _%_, _^_, _≤_, _<_, zero-le}
-use native.Mathlib.Nat.{le-refl, le-trans, le-of-eq, le-of-lt, le-of-suc-le-suc, lt-of-lt-of-le, lt-of-le-of-lt, lt-of-not-le, lt-irrefl, zero-lt-suc, zero-mul, mul-one, mul-comm, mul-assoc, mul-left-comm, mul-right-comm, add-mul, mul-pos, mul-le-mul, mul-le-mul-left, mul-le-mul-right, mul-lt-mul-of-pos-right, lt-of-mul-lt-mul-right, le-of-mul-le-mul-right, eq-of-mul-eq-mul-right}
+-- `sqrt binary32` gives a value than which none is nearer to the root. `proofs/Midpoints.antt` goes on from there. Assumes nothing.
+use mathlib.Core.Path.{_≡_, refl, sym, ap, _∙_, subst}
+use mathlib.Core.Logic.{inl, inr}
+use Prim.Native.Nat.{ℕ, zero, suc, _+_, _-_, _*_, _%_, _^_, _≤_, _<_}
+use native.Mathlib.Nat.{le-trans, le-of-eq, le-of-lt, le-of-suc-le-suc, lt-of-lt-of-le, lt-of-le-of-lt, lt-of-not-le, lt-irrefl, zero-lt-suc, zero-mul, mul-one, mul-assoc, mul-left-comm, mul-right-comm, mul-pos, mul-le-mul, mul-le-mul-left, mul-le-mul-right, mul-lt-mul-of-pos-right, lt-of-mul-lt-mul-right, le-of-mul-le-mul-right, eq-of-mul-eq-mul-right}
 use native.Mathlib.Omega.{arith}
-use mathlib.Core.Bool.{Bool, true, false, not, _&&_, cond}
+use mathlib.Core.Bool.{Bool, false, _&&_}
 use lib.IntN.{ℤ, pos, negsuc}
 use lib.Dec.{T, leb, ltb, eqb, leb→le, ltb→lt, lt→ltb, lit<, lit≤}
 use lib.Pow.{pow-add, pow-pos, pow-mono, pow-lt}
 use lib.Ieee.{Float, nan, inf, fin, Format, binary32, prec, emax, low, up, down, round, fits}
 use lib.Ieee.Digits.{back}
-use lib.Ieee.Fits.{down-pos, up-pos, round-fits, and-l, and-r}
+use lib.Ieee.Fits.{down-pos, up-pos, and-l, and-r}
 use lib.Ieee.Exact.{HasValue}
 use lib.Ieee.Scale.{grid, round-val}
-use Rattle.ieee.specs.Root.{halves, sqrt, NearestRoot, IsSqrt}
-use Rattle.packing.proofs.Size.{le-or-lt}
+use Rattle.ieee.specs.Root.{halves, sqrt}
+use Rattle.ieee.specs.Operations.{square}
 use Rattle.packing.proofs.Open.{round-jam}
 use Rattle.ieee.proofs.Roots.{Halves, halves-law, twice-square, square-le, sqrt-is}
 use Rattle.ieee.proofs.Nearby.{nearest-up, nearest-down, at-most-twice}
@@ -167,54 +167,6 @@ module _ (n : ℕ) (small : n < 2 ^ 426) (large : 2 ^ 149 ≤ n) where
             let t : R + y * 2 ^ j ≤ 2 * R0 = odd-down R0 (R + y * 2 ^ j) (scale-down (4 * R0 + 1) (R + y * 2 ^ j) 2 (2 ^ 149) (pow-pos 149) w) in
             le-trans (mul-le-mul t t) (le-trans (le-of-eq (twice-square R0)) (mul-le-mul-left 4 (le-of-lt lo)))
 
--- ---- from units to fractions: X / De is the value, N / Dd the result and Q / Dg the other value, each as a number of units of 1 / L
-ruleset ac = (mul-assoc, mul-comm, mul-left-comm)
-
-module _ (X De A N Dd R Q Dg Y L : ℕ) (P : 0 < L) (Pd : 0 < Dd) (Pg : 0 < Dg) (x : X * L ≡ A * De) (r : N * L ≡ R * Dd) (q : Q * L ≡ Y * Dg) where
-  r-at : N * Dg * L ≡ R * (Dd * Dg)
-  r-at = mul-right-comm N Dg L ∙ ap (λ (z : ℕ). z * Dg) r ∙ mul-assoc R Dd Dg
-
-  q-at : Q * Dd * L ≡ Y * (Dd * Dg)
-  q-at = mul-right-comm Q Dd L ∙ ap (λ (z : ℕ). z * Dd) q ∙ mul-assoc Y Dg Dd ∙ ap (λ (z : ℕ). Y * z) (mul-comm Dg Dd)
-
-  less-r : N * Dg < Q * Dd → R < Y
-  less-r h = lt-of-mul-lt-mul-right (Dd * Dg) (subst (λ (z : ℕ). z < Y * (Dd * Dg)) r-at (subst (λ (z : ℕ). N * Dg * L < z) q-at (mul-lt-mul-of-pos-right h P)))
-
-  less-q : Q * Dd < N * Dg → Y < R
-  less-q h = lt-of-mul-lt-mul-right (Dd * Dg) (subst (λ (z : ℕ). z < R * (Dd * Dg)) q-at (subst (λ (z : ℕ). Q * Dd * L < z) r-at (mul-lt-mul-of-pos-right h P)))
-
-  sum-at : (N * Dg + Q * Dd) * L ≡ (R + Y) * (Dd * Dg)
-  sum-at = add-mul (N * Dg) (Q * Dd) L ∙ ap₂ (λ (a b : ℕ). a + b) r-at q-at ∙ sym (add-mul R Y (Dd * Dg))
-
-  left : 4 * X * (Dd * Dg * (Dd * Dg)) * (L * L) ≡ 4 * (A * L) * (De * (Dd * Dg * (Dd * Dg)))
-  left = one ∙ ap (λ (z : ℕ). 4 * (z * L) * (Dd * Dg * (Dd * Dg))) x ∙ two
-    where
-      one : 4 * X * (Dd * Dg * (Dd * Dg)) * (L * L) ≡ 4 * (X * L * L) * (Dd * Dg * (Dd * Dg))
-      one = simp ac
-
-      two : 4 * (A * De * L) * (Dd * Dg * (Dd * Dg)) ≡ 4 * (A * L) * (De * (Dd * Dg * (Dd * Dg)))
-      two = simp ac
-
-  right : (N * Dg + Q * Dd) * (N * Dg + Q * Dd) * De * (L * L) ≡ (R + Y) * (R + Y) * (De * (Dd * Dg * (Dd * Dg)))
-  right = gather (N * Dg + Q * Dd) De L ∙ ap (λ (z : ℕ). z * z * De) sum-at ∙ spread (R + Y) (Dd * Dg) De
-    where
-      gather : (s d l : ℕ) → s * s * d * (l * l) ≡ s * l * (s * l) * d
-      gather s d l = simp ac
-
-      spread : (t w d : ℕ) → t * w * (t * w) * d ≡ t * t * (d * (w * w))
-      spread t w d = simp ac
-
-  up-square : 4 * (A * L) ≤ (R + Y) * (R + Y) → 4 * X * (Dd * Dg * (Dd * Dg)) ≤ (N * Dg + Q * Dd) * (N * Dg + Q * Dd) * De
-  up-square h = le-of-mul-le-mul-right (le-trans (le-of-eq left) (le-trans (mul-le-mul-right (De * (Dd * Dg * (Dd * Dg))) h) (le-of-eq (sym right)))) (mul-pos P P)
-
-  down-square : (R + Y) * (R + Y) ≤ 4 * (A * L) → (N * Dg + Q * Dd) * (N * Dg + Q * Dd) * De ≤ 4 * X * (Dd * Dg * (Dd * Dg))
-  down-square h = le-of-mul-le-mul-right (le-trans (le-of-eq right) (le-trans (mul-le-mul-right (De * (Dd * Dg * (Dd * Dg))) h) (le-of-eq (sym left)))) (mul-pos P P)
-
-shape : (r : Float) (R c : ℕ) → HasValue r false R c → (n : ℕ) × (d : ℤ) × (r ≡ fin false n d) × (n * up d * c ≡ R * down d)
-shape nan R c h = absurd h
-shape (inf s) R c h = absurd h
-shape (fin s n d) R c h = (n, d, ap (λ (t : Bool). fin t n d) (h .0), h .1)
-
 -- how large the value is, in units
 units-lt : (X D A : ℕ) → X * 2 ^ 149 ≡ A * D → X < 2 ^ 128 * D → A < 2 ^ 277
 units-lt X D A e h = lt-of-mul-lt-mul-right D (subst (λ (z : ℕ). z < 2 ^ 277 * D) e (lt-of-lt-of-le (mul-lt-mul-of-pos-right h (pow-pos 149)) (le-of-eq (mul-right-comm (2 ^ 128) D (2 ^ 149)))))
@@ -222,39 +174,18 @@ units-lt X D A e h = lt-of-mul-lt-mul-right D (subst (λ (z : ℕ). z < 2 ^ 277 
 units-pos : (X D A : ℕ) → X * 2 ^ 149 ≡ A * D → 0 < X → 1 ≤ A
 units-pos X D A e h = lt-of-mul-lt-mul-right D (subst (λ (z : ℕ). z < A * D) (sym (zero-mul D)) (subst (λ (z : ℕ). 0 < z) e (mul-pos h (pow-pos 149))))
 
-nearest-root : (m : ℕ) (e : ℤ) → T (fits binary32 (fin false (suc m) e)) → IsSqrt binary32 (fin false (suc m) e) (sqrt binary32 (fin false (suc m) e))
-nearest-root m e t =
-    let u = in-units binary32 false (suc m) e t in
-    let A = u .0 * 2 ^ u .1 in
-    let n = A * 2 ^ 149 in
-    let lt277 : A < 2 ^ 277 = units-lt (suc m * up e) (down e) A (u .3) (top-lt binary32 false m e t) in
-    let small : n < 2 ^ 426 = mul-lt-mul-of-pos-right lt277 (pow-pos 149) in
-    let large : 2 ^ 149 ≤ n = mul-le-mul-right (2 ^ 149) (units-pos (suc m * up e) (down e) A (u .3) (mul-pos (zero-lt-suc m) (up-pos e))) in
-    let is : sqrt binary32 (fin false (suc m) e) ≡ round binary32 false (halves n) (2 ^ 150) = sqrt-is (fin false (suc m) e) false A (lt→ltb 0 (suc m) (zero-lt-suc m)) (refl, u .3) in
-    let w = shape (round binary32 false (halves n) (2 ^ 150)) (R n small large) (2 ^ 149) (value-of (halves n) 150 (lit< tt) (halves-lt n small large)) in (
-      w .0,
-      w .1,
-      is ∙ w .2,
-      record {
-        held = subst (λ (r : Float). T (fits binary32 r)) (w .2) (round-fits binary32 false (halves n) (2 ^ 150));
-        above = λ p g k l.
-            let v = in-units binary32 false p g k in
-            up-square (suc m * up e) (down e) A (w .0 * up (w .1)) (down (w .1)) (R n small large) (p * up g) (down g) (v .0 * 2 ^ v .1) (2 ^ 149) (pow-pos 149) (down-pos (w .1)) (down-pos g) (u .3) (w .3) (v .3)
-            (above-units n small large (v .0) (v .1) (v .2)
-            (less-r (suc m * up e) (down e) A (w .0 * up (w .1)) (down (w .1)) (R n small large) (p * up g) (down g) (v .0 * 2 ^ v .1) (2 ^ 149) (pow-pos 149) (down-pos (w .1)) (down-pos g) (u .3) (w .3) (v .3) l));
-        below = λ p g k l.
-            let v = in-units binary32 false p g k in
-            down-square (suc m * up e) (down e) A (w .0 * up (w .1)) (down (w .1)) (R n small large) (p * up g) (down g) (v .0 * 2 ^ v .1) (2 ^ 149) (pow-pos 149) (down-pos (w .1)) (down-pos g) (u .3) (w .3) (v .3)
-            (below-units n small large (v .0) (v .1) (v .2)
-            (less-q (suc m * up e) (down e) A (w .0 * up (w .1)) (down (w .1)) (R n small large) (p * up g) (down g) (v .0 * 2 ^ v .1) (2 ^ 149) (pow-pos 149) (down-pos (w .1)) (down-pos g) (u .3) (w .3) (v .3) l));
-      },
-    )
+-- ---- r is R units, and nearest to the root of A units: on its side of the midpoint with any y * 2 ^ j
+pub record Near (A : ℕ) (r : Float) : Type 0 where
+  pub R : ℕ
+  pub value : HasValue r false R (2 ^ 149)
+  pub above : (y j : ℕ) → y < 2 ^ 24 → R < y * 2 ^ j → 4 * (A * 2 ^ 149) ≤ square (R + y * 2 ^ j)
+  pub below : (y j : ℕ) → y < 2 ^ 24 → y * 2 ^ j < R → square (R + y * 2 ^ j) ≤ 4 * (A * 2 ^ 149)
 
-pub is-sqrt : (x : Float) → T (fits binary32 x) → IsSqrt binary32 x (sqrt binary32 x)
-unfolding sqrt
-is-sqrt nan t = refl
-is-sqrt (inf true) t = refl
-is-sqrt (inf false) t = refl
-is-sqrt (fin s zero e) t = refl
-is-sqrt (fin true (suc m) e) t = refl
-is-sqrt (fin false (suc m) e) t = nearest-root m e t
+pub near-root : (m : ℕ) (e : ℤ) (A : ℕ) → T (fits binary32 (fin false (suc m) e)) → suc m * up e * 2 ^ 149 ≡ A * down e → Near A (sqrt binary32 (fin false (suc m) e))
+near-root m e A t u =
+    let n = A * 2 ^ 149 in
+    let small : n < 2 ^ 426 = mul-lt-mul-of-pos-right (units-lt (suc m * up e) (down e) A u (top-lt binary32 false m e t)) (pow-pos 149) in
+    let large : 2 ^ 149 ≤ n = mul-le-mul-right (2 ^ 149) (units-pos (suc m * up e) (down e) A u (mul-pos (zero-lt-suc m) (up-pos e))) in
+    let is : sqrt binary32 (fin false (suc m) e) ≡ round binary32 false (halves n) (2 ^ 150) = sqrt-is (fin false (suc m) e) false A (lt→ltb 0 (suc m) (zero-lt-suc m)) (refl, u) in
+    subst (Near A) (sym is)
+    (record { R = R n small large; value = value-of (halves n) 150 (lit< tt) (halves-lt n small large); above = λ y j h. above-units n small large y j h; below = λ y j h. below-units n small large y j h })

@@ -4,4 +4,5 @@ pub mod Root
 pub mod Whole
 pub mod F32
 pub mod Sign
-pub mod Meaning
+pub mod Rounding
+pub mod Operations

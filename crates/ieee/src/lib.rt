@@ -1,4 +1,5 @@
 // What IEEE 754-2019 has and the language lacks, on binary32, for every bit pattern: each public function is the operation of `specs/F32.antt` that its contract names.
+// Rules I1 to I9.
 // Each has a short path for the common case. Where that cannot answer, the general path works on whole significands in a u64, normalised by their leading zeros, and
 // rounds once, in `packing::pack`.
 ghost use mathlib.Core.Path.{_≡_};
@@ -9,7 +10,8 @@ ghost use lib.Ieee.Nearest.{closest};
 ghost use lib.Dec.{T};
 ghost use lib.Ieee.Scale.{finite};
 ghost use lib.Ieee.Positive.{positive};
-ghost use Rattle.ieee.specs.Root.{sqrt, IsSqrt, Tried, Squared};
+ghost use Rattle.ieee.specs.Root.{sqrt, Tried, Squared};
+ghost use Rattle.ieee.specs.Operations.{IsFma, IsConverted, IsRoot};
 ghost use Rattle.ieee.specs.Whole.{floorSize, floor, roundEven, saturate};
 ghost use Rattle.ieee.specs.F32.{_⊗_, f32, fused, rootOf, narrowed, floorOf, rounded, toI32, bitsOf, absOf};
 ghost use Rattle.ieee.specs.Fused.{fma, convert};
@@ -30,7 +32,8 @@ fn is_finite64(v: f64) -> bool
 }
 
 // Whether the pattern is of an f64 in the range of the normal f32s, and not in the middle between two of them. Then one more rounding does no harm: what an f64 result
-// lost is too little to bring it to a middle.
+// lost is too little to bring it to a middle. 0x3810.. is 2^-126 (field 1023 - 126 = 0x381), 0x47f0.. is 2^128 (field 1023 + 128 = 0x47f). Of 53 digits 24 stay, so that
+// 29 go: 0x2000_0000 = 2^29, and the middle is 0x1000_0000 = 2^28.
 fn clear(n: u64) -> bool
     ensures { λ r. ⌜ (r ≡ true → Clear n) ⌝ }
 {
@@ -46,7 +49,8 @@ fn clear(n: u64) -> bool
     }
 }
 
-// The nearest f32 of such a pattern's f64: the exponent's bias exchanged, half a unit added, and 29 digits dropped. A carry goes into the exponent by itself.
+// The nearest f32 of such a pattern's f64: the exponent's bias exchanged (0x3800.. is 1023 - 127 = 0x380 in the exponent's place), half a unit added, and 29 digits
+// dropped. A carry goes into the exponent by itself.
 fn close(n: u64) -> f32
     requires { ⌜ Clear n ⌝ }
     ensures { λ r. ⌜ r ≡ convert binary32 (ofBits binary64 n) ⌝ }
@@ -57,7 +61,8 @@ fn close(n: u64) -> f32
 
 // An f64 as an f32, rounded once: convertFormat, IEEE 754-2019, 5.4.2. Rust's `x as f32`.
 pub fn narrow(x: f64) -> f32
-    ensures { λ r. ⌜ r ≡ narrowed x ⌝ }
+    ensures value { λ r. ⌜ r ≡ narrowed x ⌝ }
+    ensures ieee { λ r. ⌜ IsConverted binary32 x r ⌝ }
 {
     if is_finite64(x) {
         let n = f64::to_bits(x);
@@ -75,7 +80,7 @@ pub fn narrow(x: f64) -> f32
     }
 }
 
-// a * b + c, rounded once, of three finite numbers: the product of two significands of 24 digits is exact in 48.
+// a * b + c, rounded once, of three finite numbers: the product of two significands of 24 digits is exact in 48. It lies over 2^(149 + 149), and so c is raised by 149.
 fn fma_finite(a: f32, b: f32, c: f32) -> f32
     requires { ⌜ (finite a ≡ true) × (finite b ≡ true) × (finite c ≡ true) ⌝ }
     ensures { λ r. ⌜ r ≡ fma binary32 a b c ⌝ }
@@ -88,7 +93,8 @@ fn fma_finite(a: f32, b: f32, c: f32) -> f32
 
 // a * b + c, rounded once: fusedMultiplyAdd, IEEE 754-2019, 5.4.1. Rust's `a.mul_add(b, c)`. The f64 sum answers where it is `clear`, which is proved harmless.
 pub fn mul_add(a: f32, b: f32, c: f32) -> f32
-    ensures { λ r. ⌜ r ≡ fused a b c ⌝ }
+    ensures value { λ r. ⌜ r ≡ fused a b c ⌝ }
+    ensures ieee { λ r. ⌜ IsFma binary32 a b c r ⌝ }
 {
     if is_finite(a * b + c) {
         let n = f64::to_bits(wide_fma(a, b, c));
@@ -105,7 +111,8 @@ fn wide_fma(a: f32, b: f32, c: f32) -> f64
     requires { ⌜ (finite a ≡ true) × (finite b ≡ true) × (finite c ≡ true) ⌝ }
     ensures { λ r. ⌜ r ≡ fma binary64 a b c ⌝ }
 {
-    (a as f64) * (b as f64) + (c as f64)
+    let p = (a as f64) * (b as f64);
+    p + (c as f64)
 }
 
 // a * b + c, rounded once, where the plain sum is not finite. An infinity or a NaN among a and b makes the product exact, so the two operations do. Beside a finite
@@ -125,7 +132,7 @@ fn fma_other(a: f32, b: f32, c: f32) -> f32
     fma_finite(a, b, c)
 }
 
-// The largest r with r * r <= n, a digit at a time: only where the guess of a root fails, and for subnormals.
+// The largest r with r * r <= n, a digit at a time (the root of 64 digits has 32): only where the guess of a root fails, and for subnormals.
 fn isqrt(n: u64) -> u64
     ensures { λ r. ⌜ (r * r ≤ n) × (n < (r + 1) * (r + 1)) ⌝ }
 {
@@ -143,6 +150,8 @@ fn isqrt(n: u64) -> u64
 
 // The root of a finite x above zero by the integer root of its significand, raised by its leading zeros to 62 or 63 digits so that the exponent is even. A root that is
 // not whole is handed to `pack` with an odd last digit.
+// x = m * 2^(e - 149) = a * 2^(w - w % 2 - 300), with 300 = 149 + 151, so that sqrt(x) = sqrt(a) * 2^(w / 2 - 150), which over 2^1074 is 2 * sqrt(a) * 2^(w / 2 + 923):
+// 923 = 1074 - 151. 151 itself is an odd number above every z: odd, since 149 is and half of the sum is wanted.
 fn root_general(x: f32) -> f32
     requires { ⌜ T (positive x) ⌝ }
     ensures { λ r. ⌜ r ≡ sqrt binary32 x ⌝ }
@@ -161,7 +170,8 @@ fn root_general(x: f32) -> f32
     }
 }
 
-// sqrt(2 d) / 2 + 2^51, nearly, from y, nearly 1 / sqrt(2 d), and g = d * y: three of Newton's steps.
+// sqrt(2 d) / 2 + 2^51, nearly, from y, nearly 1 / sqrt(2 d), and g = d * y: three of Newton's steps. 2251799813685248 = 2^51: an f64 from there on has one half as its
+// last digit, so that the sum's last digits are sqrt(2 d) as a whole number.
 fn closer(g: f64, y: f64) -> f64 {
     let r = 1.5 - g * y;
     let g1 = g * r;
@@ -173,6 +183,11 @@ fn closer(g: f64, y: f64) -> f64 {
 }
 
 // The last digits of this are, as a rule, the significand of the root of the normal f32 with the pattern b. No contract says so: who asks has to test them.
+// d is the pattern of a / 2, with the a of `root_try`: b's significand in an f64's place (0x2000_0000 = 2^29, 29 = 52 - 23), times 2^45 or 2^46 by the last digit of the
+// exponent, turned by the + 0x80_0000 (0x42c0.. is 2^45, field 1023 + 45 = 0x42c).
+// 0x5fde_eb50_c7b5_37a9 = 3/2 * 2^52 * (1023 - 0.0450333) - 2^51. A pattern is nearly 2^52 * (1023 + logarithm to base 2), so this less d / 2 is nearly the pattern of
+// 1 / sqrt(2 d): 0.0450333 levels the error above and below, and 2^51 is half an exponent, for the 2. The start is within 3.5 %, and the steps within 0.18 %, 4.6e-6 and
+// 3.2e-11, where half a digit of the significand is 3e-8.
 fn guess(b: u32) -> f64 {
     let d = wide((b % 0x100_0000 + 0x80_0000) % 0x100_0000) * 0x2000_0000 + 0x42c0_0000_0000_0000;
     let y = f64::from_bits(0x5fde_eb50_c7b5_37a9 - d / 2);
@@ -188,6 +203,8 @@ fn wide(k: u32) -> u64
 
 // The pattern of the root of the normal f32 with the pattern b, if the guess t is right, and else 0. The test is exact: q is the nearest to the root of a when a lies
 // above q^2 - q and not above q^2 + q, the squares of the midpoints. A root is never a midpoint and never subnormal, so there is nothing to round.
+// x = m * 2^(e - 149) = a * 2^(e - e % 2 - 172), with 172 = 149 + 23, so that its root is sqrt(a) * 2^(e / 2 - 86) = q * 2^(e / 2 + 63 - 149): 126 = 2 * 63. A q of 2^24,
+// which takes 25 digits (0x200_0000 = 2^25), carries into the exponent.
 fn root_try(b: u32, t: f64) -> u32
     requires { ⌜ (8388608 ≤ b) × (b < 2139095040) ⌝ }
     ensures { λ r. ⌜ Tried b r ⌝ }
@@ -210,7 +227,7 @@ fn root_try(b: u32, t: f64) -> u32
 // the format is nearer.
 pub fn sqrt(x: f32) -> f32
     ensures value { λ r. ⌜ r ≡ rootOf x ⌝ }
-    ensures ieee { λ r. ⌜ IsSqrt binary32 x r ⌝ }
+    ensures ieee { λ r. ⌜ IsRoot binary32 x r ⌝ }
 {
     if x > 0.0 {
         let b = f32::to_bits(x);
@@ -228,19 +245,19 @@ pub fn sqrt(x: f32) -> f32
 
 // The square root of any x, with no guess.
 fn root_other(x: f32) -> f32
-    ensures value { λ r. ⌜ r ≡ sqrt binary32 x ⌝ }
-    ensures ieee { λ r. ⌜ IsSqrt binary32 x r ⌝ }
+    ensures { λ r. ⌜ r ≡ sqrt binary32 x ⌝ }
 {
     if x > 0.0 {
         if x < 1.0 / 0.0 { root_general(x) } else { x }
     } else if x == 0.0 {
-        x
+        x // the root of -0 is -0
     } else {
         0.0 / 0.0
     }
 }
 
-// The pattern of x * x + q, rounded once, where that is a normal number and the f64 sum tells which; else 0.
+// The pattern of x * x + q, rounded once, where that is a normal number and the f64 sum tells which; else 0. The numbers are those of `clear` and `close`, but for
+// 0x47ef_ffff_e000_0000, the f64 of the largest f32: nothing below it rounds to the infinity.
 fn square_try(x: f32, q: f32) -> u32
     ensures { λ r. ⌜ Squared x q r ⌝ }
 {
@@ -257,7 +274,7 @@ fn square_try(x: f32, q: f32) -> u32
     0
 }
 
-// The length of (x, y): document 01's magnitude, "the square root of the fused dx × dx + (dy × dy)", in one.
+// The length of (x, y), in one: the root of the fused x * x + (y * y) (rule F8).
 pub fn length(x: f32, y: f32) -> f32
     ensures { λ r. ⌜ r ≡ rootOf (fused x x (y ⊗ y)) ⌝ }
 {
@@ -272,45 +289,8 @@ pub fn length(x: f32, y: f32) -> f32
     sqrt(mul_add(x, x, q))
 }
 
-// As `closer`, from a y of a table, which is near enough for two steps.
-fn closer_still(g: f64, y: f64) -> f64 {
-    let r = 1.5 - g * y;
-    let g1 = g * r;
-    let y1 = y * r;
-    g1 * (1.5 - g1 * y1) + 2251799813685248.0
-}
-
-// A u32 as an index.
-fn index(i: u32) -> usize
-    ensures { λ r. ⌜ r ≡ i ⌝ }
-{
-    i as usize
-}
-
-// As `guess`, from a table of 1 / sqrt. A wrong table costs time, no more.
-fn guess_with(starts: &[f64; 256], b: u32) -> f64 {
-    let d = wide((b % 0x100_0000 + 0x80_0000) % 0x100_0000) * 0x2000_0000 + 0x42c0_0000_0000_0000;
-    let i = index(b / 0x1_0000 % 256);
-    let y = starts[i];
-    closer_still(f64::from_bits(d) * y, y)
-}
-
-// The same length with a lent table of starts: entry i is 1 / sqrt(a) at the middle of the a whose pattern has i in bits 16 to 23. Whatever it holds, the answer is the same.
-pub fn length_with(starts: &[f64; 256], x: f32, y: f32) -> f32
-    ensures { λ r. ⌜ r ≡ rootOf (fused x x (y ⊗ y)) ⌝ }
-{
-    let q = y * y;
-    let b = square_try(x, q);
-    if b > 0 {
-        let r = root_try(b, guess_with(starts, b));
-        if r > 0 {
-            return f32::from_bits(r);
-        }
-    }
-    sqrt(mul_add(x, x, q))
-}
-
-// d, or 40: a shift of 24 digits by 40 leaves what a longer one does.
+// d, or 40: a shift of 24 digits by 40 leaves what a longer one does. From 25 on all do (24 digits are then below half of the unit), and up to 62 no sum wraps: 40 is one
+// of these.
 fn stop(d: u32) -> u32
     ensures { λ r. ⌜ r ≡ min d 40 ⌝ }
 {
@@ -328,7 +308,8 @@ fn lift(s: bool, one: u64) -> u64
 // The size of the whole number that ±m / 2^d goes to, toward minus infinity.
 fn floor_size(s: bool, m: u64, d: u32) -> u64
     requires { ⌜ m < 2 ^ 24 ⌝ }
-    ensures { λ r. ⌜ r ≡ floorSize s m (2 ^ d) ⌝ }
+    ensures value { λ r. ⌜ r ≡ floorSize s m (2 ^ d) ⌝ }
+    ensures small { λ r. ⌜ r ≤ 2 ^ 24 ⌝ }
 {
     let h = stop(d);
     (m + lift(s, 1u64 << h)) >> h
@@ -360,7 +341,7 @@ fn small_signed(s: bool, k: u64) -> i32
     if s { 0 - (k as i32) } else { k as i32 }
 }
 
-// roundToIntegralTowardNegative, IEEE 754-2019, 5.3.1: a zero keeps its sign, and from 2^23 on every f32 is whole.
+// roundToIntegralTowardNegative, IEEE 754-2019, 5.3.1: a zero keeps its sign, and from 2^23 on, where m * 2^e over 2^149 has e >= 149, every f32 is whole.
 pub fn floor(x: f32) -> f32
     ensures { λ r. ⌜ r ≡ floorOf x ⌝ }
 {
@@ -415,7 +396,7 @@ fn signed(s: bool, k: u64) -> i32
     }
 }
 
-// m * 2^d where it is below 2^31, and else any number from there on.
+// m * 2^d where it is below 2^31, and else any number from there on: of a d of 31 and more nothing but m = 0 is below, and 24 digits can be shifted by 40 in a u64.
 fn grow(m: u64, d: u32) -> u64
     requires { ⌜ m < 2 ^ 24 ⌝ }
     ensures { λ r. ⌜ min r (2 ^ 31) ≡ min (m * 2 ^ d) (2 ^ 31) ⌝ }
@@ -441,7 +422,7 @@ fn extreme(x: f32) -> i32
     }
 }
 
-// Rust's `x as i32`: toward zero, stopped at the ends of the range, and 0 for a NaN (document 01: "Saturating casts need an own conversion").
+// Rust's `x as i32`: toward zero, stopped at the ends of the range, and 0 for a NaN (rule I7).
 pub fn to_i32(x: f32) -> i32
     ensures { λ r. ⌜ r ≡ toI32 x ⌝ }
 {
@@ -498,7 +479,8 @@ pub fn round_to_i32(x: f32) -> i32
     }
 }
 
-// The bits of a float, made total: a NaN's are 2143289344, whatever pattern the machine holds (document 01, "2143289344, the bits of a not-a-number").
+// The bits of a float, made total: a NaN's are 2143289344 = 0x7fc0_0000, the exponent's field and the highest digit behind it, whatever pattern the machine holds
+// (rule I9).
 pub fn bits_of(x: f32) -> u32
     ensures { λ r. ⌜ r ≡ bitsOf x ⌝ }
 {

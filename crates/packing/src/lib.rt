@@ -1,5 +1,6 @@
 // Floats taken apart and put together: a finite float as its sign, significand and exponent, and `pack`, the one function that rounds an exact result and packs it.
-// Every exponent is a natural number: an f32 is m * 2^x over 2^149, an f64 over 2^1074.
+// Every exponent is a natural number: an f32 is m * 2^x over 2^149, an f64 over 2^1074. (149 = 126 + 23 and 1074 = 1022 + 52: the smallest normal number's exponent and
+// the digits behind its leading one.) 2139095040 = 0x7f80_0000 is the infinity's pattern. The bounds 4096, 2000 and 1024 on an exponent only say that no sum wraps.
 ghost use mathlib.Core.Path.{_≡_};
 ghost use mathlib.Core.Bool.{Bool, true, cond};
 ghost use Prim.Native.Nat.{ℕ, _+_, _-_, _*_, _%_, _^_, _<_, _≤_};
@@ -8,7 +9,7 @@ ghost use lib.Ieee.Nearest.{closest};
 ghost use lib.Ieee.Scale.{finite};
 ghost use Rattle.packing.specs.Parts.{Splits, Jammed, Aligned, Raised};
 
-// n / 2^sh to the nearest whole number: roundTiesToEven, IEEE 754-2019, 4.3.1.
+// n / 2^sh to the nearest whole number: roundTiesToEven, IEEE 754-2019, 4.3.1 (rule I1).
 fn half_even(n: u64, sh: u32) -> u64
     requires { ⌜ (1 ≤ sh) × (sh ≤ 64) ⌝ }
     ensures { λ r. ⌜ r ≡ closest n (2 ^ sh) ⌝ }
@@ -25,9 +26,9 @@ fn half_even(n: u64, sh: u32) -> u64
     }
 }
 
-// The bits below the sign of m * 2^x / 2^1074, rounded to binary32. The leading zeros of the significand set its shift and the exponent (document 01, "fused sums need
-// leading zeros counted to normalise an exact result"). The exponent's field is added to the significand, leading digit and all: so a significand that rounds up
-// to the next power of two carries into the exponent, a subnormal one into the normal numbers, and the largest one into the infinity.
+// The bits below the sign of m * 2^x / 2^1074, rounded to binary32. The leading zeros of the significand set its shift and the exponent (rule I11). The
+// exponent's field is added to the significand, leading digit and all: so a significand that rounds up to the next power of two carries into the exponent, a subnormal one
+// into the normal numbers, and the largest one into the infinity.
 fn magnitude(m: u64, x: u32) -> u32
     requires { ⌜ x ≤ 4096 ⌝ }
     ensures small { λ r. ⌜ r ≤ 2139095040 ⌝ }
@@ -38,15 +39,20 @@ fn magnitude(m: u64, x: u32) -> u32
     }
     let z = u64::leading_zeros(m);
     let n = m << z;
+    // The number lies from 2^(e - 1) to 2^e, over 2^1074.
     let e = x + (64 - z);
+    // It is normal from 2^-126 on, where e - 1 - 1074 = -126: 949 = 1074 - 126 + 1.
     if e >= 949 {
+        // The exponent's field is k + 1, one by the leading digit. 255 is the infinity's, so 254 and more overflow.
         let k = e - 949;
         if k >= 254 {
             return 0x7f80_0000;
         }
+        // 24 of 64 digits stay: 40 = 64 - 24.
         let q = half_even(n, 40) as u32;
         k * 0x80_0000 + q
     } else {
+        // d digits fewer stay. With 25 fewer the number is below half of the smallest subnormal one.
         let d = 949 - e;
         if d > 24 {
             return 0;
@@ -85,7 +91,8 @@ pub struct Parts {
     pub x: u32,
 }
 
-// A finite f32. A field of 0 in the exponent's place is a zero or a subnormal: no leading digit, and the exponent of field 1.
+// A finite f32: 24 digits, and an exponent's field of at most 254, which is 253 above the smallest. A field of 0 is a zero or a subnormal: no leading digit, and the
+// exponent of field 1.
 pub fn unpack(v: f32) -> Parts
     requires { ⌜ finite v ≡ true ⌝ }
     ensures { λ r. ⌜ Splits 149 24 253 v (r .s) (r .m) (r .x) ⌝ }
@@ -109,7 +116,7 @@ pub fn unpack(v: f32) -> Parts
     }
 }
 
-// A finite f64.
+// A finite f64: 53 digits, and a field of at most 2046.
 pub fn unpack64(v: f64) -> Parts
     requires { ⌜ finite v ≡ true ⌝ }
     ensures { λ r. ⌜ Splits 1074 53 2045 v (r .s) (r .m) (r .x) ⌝ }
@@ -129,7 +136,8 @@ pub fn unpack64(v: f64) -> Parts
     }
 }
 
-// b / 2^d, with what is lost kept as an odd last digit (the sticky bit).
+// b / 2^d, with what is lost kept as an odd last digit (the sticky bit). As b is below 2^62, nothing else is left of it from a shift by 62 on; 63 is the longest that a
+// u64 has. The 14 zeros at b's end (48 digits raised to 62) keep the odd digit far below the leading one.
 fn jam(b: u64, d: u32) -> u64
     requires { ⌜ (0 < b) × (b < 2 ^ 62) × (b % 2 ^ 14 ≡ 0) ⌝ }
     ensures { λ r. ⌜ Jammed b d r ⌝ }
@@ -141,7 +149,7 @@ fn jam(b: u64, d: u32) -> u64
     if h << d == b { h } else { h / 2 * 2 + 1 }
 }
 
-// ±a * 2^e ± b * 2^(e - d), over 2^1074, rounded once. A sum that cancels to nothing is +0 (IEEE 754-2019, 6.3).
+// ±a * 2^e ± b * 2^(e - d), over 2^1074, rounded once. A sum that cancels to nothing is +0 (IEEE 754-2019, 6.3; rule I1).
 fn combine(s: bool, a: u64, t: bool, b: u64, d: u32, e: u32) -> f32
     requires { ⌜ Aligned a b d e ⌝ }
     ensures { λ r. ⌜ r ≡ sum binary32 s (a * 2 ^ e) t (b * 2 ^ (e - d)) (2 ^ 1074) ⌝ }
@@ -158,7 +166,7 @@ fn combine(s: bool, a: u64, t: bool, b: u64, d: u32, e: u32) -> f32
     }
 }
 
-// The shift that brings m's leading digit to place 61, which leaves room for a carry above and 14 digits below.
+// The shift that brings m's leading digit to place 61 (63 - 2), which leaves room for a carry above and 14 digits below (62 - 48).
 pub fn raise(m: u64) -> u32
     requires { ⌜ (0 < m) × (m < 2 ^ 48) ⌝ }
     ensures { λ r. ⌜ Raised m r ⌝ }
@@ -166,7 +174,8 @@ pub fn raise(m: u64) -> u32
     u64::leading_zeros(m) - 2
 }
 
-// ±m * 2^x ± n * 2^y, over 2^298, rounded once. Two zeros of one sign keep it, and two of unlike signs are +0 (IEEE 754-2019, 6.3).
+// ±m * 2^x ± n * 2^y, over 2^298, rounded once: products of two f32s lie over 2^(149 + 149). 776 = 1074 - 298 goes from there to the f64's 2^1074. Two zeros of one
+// sign keep it, and two of unlike signs are +0 (IEEE 754-2019, 6.3).
 pub fn add_scaled(s: bool, m: u64, x: u32, t: bool, n: u64, y: u32) -> f32
     requires { ⌜ (m < 2 ^ 48) × (n < 2 ^ 48) × (x ≤ 1024) × (y ≤ 1024) ⌝ }
     ensures { λ r. ⌜ r ≡ sum binary32 s (m * 2 ^ x) t (n * 2 ^ y) (2 ^ 298) ⌝ }

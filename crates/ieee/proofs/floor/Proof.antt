@@ -6,7 +6,6 @@ use native.Mathlib.Nat.{le-of-lt}
 use lib.Dec.{T}
 use lib.Ieee.{binary32, round, fits}
 use Rattle.ieee.proofs.Wholes.{floor-is, floor-up, floor-down, floor-other}
-use Rattle.ieee.proofs.Flat.{floor-le}
 use Rattle.ieee.proofs.Casts.{itself}
 use Rattle.ieee.proofs.floor.Statement.{statement}
 use Rattle.ieee.proofs.floor.Tie as tie
@@ -26,7 +25,7 @@ floor-size-requires : tie.Need-floor-size-requires
 floor-size-requires c κs = search needs
 
 from-whole-requires : tie.Need-from-whole-requires
-from-whole-requires c κs = let u = c .before .before .unpack in subst (λ (x : ℕ). x ≤ 2 ^ 24) (sym (c .floor-size .ensures)) (floor-le (u .result .s) (u .result .m) (149 - u .result .x) (u .ensures .digits))
+from-whole-requires c κs = c .floor-size .ensures .1
 
 returns : tie.Need-returns
 returns c =
@@ -43,7 +42,7 @@ returns-2 c =
     let u = d .unpack in
     let x = d .before .before .before in
     c .from-whole .ensures
-    ∙ ap (λ (k : ℕ). round binary32 (u .result .s) k 1) (z .floor-size .ensures ∙ sym (floor-down (u .result .m) (u .result .x) (u .result .s) (le-of-lt (z .before .if2 .left))))
+    ∙ ap (λ (k : ℕ). round binary32 (u .result .s) k 1) (z .floor-size .ensures .0 ∙ sym (floor-down (u .result .m) (u .result .x) (u .result .s) (le-of-lt (z .before .if2 .left))))
     ∙ sym (floor-is (x .args .x) (u .result .s) (u .result .m * 2 ^ u .result .x) (u .ensures .value))
 
 returns-3 : tie.Need-returns-3

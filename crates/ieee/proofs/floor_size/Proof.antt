@@ -7,7 +7,7 @@ use mathlib.Core.Bool.{Bool, true, false, not, cond}
 use lib.Dec.{T, lit<, lit≤}
 use lib.Pow.{pow-pos}
 use Rattle.ieee.specs.Whole.{floorSize}
-use Rattle.ieee.proofs.Flat.{floor-stop, floor-sum, one-shift, power-lt}
+use Rattle.ieee.proofs.Flat.{floor-stop, floor-sum, floor-le, one-shift, power-lt}
 use Rattle.ieee.proofs.floor_size.Statement.{statement}
 use Rattle.ieee.proofs.floor_size.Tie as tie
 use Rattle.ieee.proofs.floor_size.Reads as reads
@@ -18,6 +18,10 @@ use Rattle.ieee.proofs.stop.Reads as stop-reads
 at-most : (s : Bool) (a r : ℕ) → r ≡ cond s (a - 1) 0 → r ≤ a
 at-most true a r e = omega arith
 at-most false a r e = omega arith
+
+-- both clauses from the first
+both : (s : Bool) (m d r : ℕ) → m < 2 ^ 24 → r ≡ floorSize s m (2 ^ d) → (r ≡ floorSize s m (2 ^ d)) × (r ≤ 2 ^ 24)
+both s m d r h e = (e, subst (λ (x : ℕ). x ≤ 2 ^ 24) (sym e) (floor-le s m d h))
 
 far : (d h : ℕ) → h ≡ min d 40 → h ≤ 40
 far d h e = omega arith
@@ -59,9 +63,10 @@ returns c =
     let a = c .before .before in
     let h = c .before .stop .result in
     let l = far (a .args .d) h (c .before .stop .ensures) in
-    ap (λ (x : ℕ). (a .args .m + x) / 2 ^ h) (c .lift .ensures ∙ ap (λ (y : ℕ). cond (a .args .s) (y - 1) 0) (one-shift h l))
+    both (a .args .s) (a .args .m) (a .args .d) _ (a .pre)
+    (ap (λ (x : ℕ). (a .args .m + x) / 2 ^ h) (c .lift .ensures ∙ ap (λ (y : ℕ). cond (a .args .s) (y - 1) 0) (one-shift h l))
     ∙ floor-sum (a .args .s) (a .args .m) (2 ^ h)
-    ∙ floor-stop (a .args .s) (a .args .m) (a .args .d) h (a .pre) (c .before .stop .ensures)
+    ∙ floor-stop (a .args .s) (a .args .m) (a .args .d) h (a .pre) (c .before .stop .ensures))
 
 pub floor-size-spec : {M : Type 1} → statement M
 floor-size-spec =

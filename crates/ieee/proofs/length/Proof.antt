@@ -31,7 +31,7 @@ sqrt-requires : tie.Need-sqrt-requires
 sqrt-requires c κs = search needs
 
 returns-2 : tie.Need-returns-2
-returns-2 c = c .sqrt .ensures .0 ∙ ap (sqrt binary32) (c .before .mul-add .ensures)
+returns-2 c = c .sqrt .ensures .0 ∙ ap (sqrt binary32) (c .before .mul-add .ensures .0)
 
 pub length-spec : {M : Type 1} → statement M
 length-spec =

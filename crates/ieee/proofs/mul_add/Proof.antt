@@ -10,7 +10,9 @@ use lib.Ieee.Fits.{add-fits}
 use lib.Ieee.Bits.{ofBits-toBits}
 use lib.Ieee.Scale.{finite}
 use Rattle.ieee.specs.Fused.{fma}
+use Rattle.ieee.specs.Operations.{IsFma}
 use Rattle.ieee.proofs.Doubled.{Split, split32, wide-is, wide-no-nan, add-finite, mul-finite, fma-close}
+use Rattle.ieee.proofs.Operations.{fma-ieee}
 use Rattle.ieee.proofs.mul_add.Statement.{statement}
 use Rattle.ieee.proofs.mul_add.Tie as tie
 use Rattle.ieee.proofs.mul_add.Reads as reads
@@ -40,6 +42,10 @@ module _ (c : tie.Start) (f : finite (add binary32 (mul binary32 (c .args .a) (c
 
   back : (w : Float) → w ≡ fma binary64 (c .args .a) (c .args .b) (c .args .c) → ofBits binary64 (toBits binary64 w) ≡ w
   back w e = ofBits-toBits binary64 w (subst (λ (v : Float). T (fits binary64 v)) (wide-is (c .args .a) (c .args .b) (c .args .c) A B C ∙ sym e) (add-fits binary64 (mul binary64 (c .args .a) (c .args .b)) (c .args .c)))
+
+-- both clauses from the first
+both : (x y z r : Float) → r ≡ fma binary32 x y z → (r ≡ fma binary32 x y z) × IsFma binary32 x y z r
+both x y z r e = (e, subst (IsFma binary32 x y z) (sym e) (fma-ieee binary32 x y z))
 
 -- src/lib.rt:262:8
 is-finite-requires : tie.Need-is-finite-requires
@@ -71,8 +77,9 @@ returns c =
     let w = k .before .wide-fma in
     let s = k .before .before .before .before in
     let f = sym (k .before .before .before .is-finite .ensures) ∙ k .before .before .if1 .taken in
-    c .close .ensures
-    ∙ fma-close (toBits binary64 (w .result)) (k .clear .ensures (c .before .if2 .taken)) (s .args .a) (s .args .b) (s .args .c) (A s f) (B s f) (C s f) (back s f (w .result) (w .ensures) ∙ w .ensures)
+    both (s .args .a) (s .args .b) (s .args .c) (c .close .result)
+    (c .close .ensures
+    ∙ fma-close (toBits binary64 (w .result)) (k .clear .ensures (c .before .if2 .taken)) (s .args .a) (s .args .b) (s .args .c) (A s f) (B s f) (C s f) (back s f (w .result) (w .ensures) ∙ w .ensures))
 
 -- src/lib.rt:267:9
 fma-finite-requires : tie.Need-fma-finite-requires
@@ -80,7 +87,7 @@ fma-finite-requires c κs = let k = c .before .before .before .before in all (k 
 
 -- src/lib.rt:267:9
 returns-2 : tie.Need-returns-2
-returns-2 c = search needs
+returns-2 c = both _ _ _ _ (c .fma-finite .ensures)
 
 -- src/lib.rt:269:5
 fma-other-requires : tie.Need-fma-other-requires
@@ -88,7 +95,7 @@ fma-other-requires c κs = search needs
 
 -- src/lib.rt:259:1
 returns-3 : tie.Need-returns-3
-returns-3 c = search needs
+returns-3 c = both _ _ _ _ (c .fma-other .ensures)
 
 pub mul-add-spec : {M : Type 1} → statement M
 mul-add-spec =

@@ -8,8 +8,10 @@ use lib.Ieee.{Float, nan, inf, fin, binary32, binary64, fits, div, neg, ofBits, 
 use lib.Ieee.Bits.{ofBits-toBits}
 use lib.Ieee.Scale.{finite}
 use Rattle.ieee.specs.Fused.{convert}
+use Rattle.ieee.specs.Operations.{IsConverted}
 use Rattle.packing.proofs.Fields.{finite-no-nan}
 use Rattle.ieee.proofs.Doubled.{converted}
+use Rattle.ieee.proofs.Operations.{convert-ieee}
 use Rattle.ieee.proofs.narrow.Statement.{statement}
 use Rattle.ieee.proofs.narrow.Tie as tie
 use Rattle.ieee.proofs.narrow.Reads as reads
@@ -39,6 +41,10 @@ neither (inf true) n g h = absurd (true≢false h)
 neither (inf false) n g h = absurd (true≢false g)
 neither (fin s m e) n g h = absurd (true≢false n)
 
+-- both clauses from the first
+both : (x r : Float) → r ≡ convert binary32 x → (r ≡ convert binary32 x) × IsConverted binary32 x r
+both x r e = (e, subst (IsConverted binary32 x) (sym e) (convert-ieee binary32 x))
+
 held : (c : tie.Start) → T (fits binary64 (c .args .x))
 held c = subst T (sym (c .good .0 .1)) tt
 
@@ -60,7 +66,7 @@ close-requires c κs = c .before .clear .ensures (c .if2 .taken)
 
 -- src/lib.rt:170:13
 returns : tie.Need-returns
-returns c = let s = c .before .before .before .before .before in c .close .ensures ∙ ap (convert binary32) (ofBits-toBits binary64 (s .args .x) (held s))
+returns c = let s = c .before .before .before .before .before in both _ _ (c .close .ensures ∙ ap (convert binary32) (ofBits-toBits binary64 (s .args .x) (held s)))
 
 -- src/lib.rt:172:13
 unpack64-requires : tie.Need-unpack64-requires
@@ -72,22 +78,22 @@ pack-requires c κs = search needs
 
 -- src/lib.rt:164:1
 returns-2 : tie.Need-returns-2
-returns-2 c = let p = c .before .unpack64 .ensures in c .pack .ensures ∙ sym (converted _ _ _ 1074 (p .value))
+returns-2 c = let p = c .before .unpack64 .ensures in both _ _ (c .pack .ensures ∙ sym (converted _ _ _ 1074 (p .value)))
 
 -- src/lib.rt:164:1
 returns-3 : tie.Need-returns-3
 unfolding div ofBits
-returns-3 c = above (c .before .before .before .args .x) (sym (c .before .before .is-finite64 .ensures) ∙ c .before .if1 .left) (c .if3 .taken)
+returns-3 c = both _ _ (above (c .before .before .before .args .x) (sym (c .before .before .is-finite64 .ensures) ∙ c .before .if1 .left) (c .if3 .taken))
 
 -- src/lib.rt:164:1
 returns-4 : tie.Need-returns-4
 unfolding div neg ofBits
-returns-4 c = below (c .before .before .before .before .args .x) (sym (c .before .before .before .is-finite64 .ensures) ∙ c .before .before .if1 .left) (c .if4 .taken)
+returns-4 c = both _ _ (below (c .before .before .before .before .args .x) (sym (c .before .before .before .is-finite64 .ensures) ∙ c .before .before .if1 .left) (c .if4 .taken))
 
 -- src/lib.rt:164:1
 returns-5 : tie.Need-returns-5
 unfolding div ofBits
-returns-5 c = neither (c .before .before .before .before .args .x) (sym (c .before .before .before .is-finite64 .ensures) ∙ c .before .before .if1 .left) (c .before .if3 .left) (c .if4 .left)
+returns-5 c = both _ _ (neither (c .before .before .before .before .args .x) (sym (c .before .before .before .is-finite64 .ensures) ∙ c .before .before .if1 .left) (c .before .if3 .left) (c .if4 .left))
 
 pub narrow-spec : {M : Type 1} → statement M
 narrow-spec =

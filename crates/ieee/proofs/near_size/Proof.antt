@@ -75,7 +75,7 @@ returns c =
     let a = c .before in
     let h = c .stop .result in
     let l = far (a .args .d) h (c .stop .ensures) in
-    ap (λ (x : ℕ). (a .args .m + (x - 1 + a .args .m / 2 ^ h % 2)) / 2 ^ h) (one-shift (h - 1) l)
+    ap (λ (x : ℕ). (a .args .m + x) / 2 ^ h) (omega (arith, one-shift (h - 1) l))
     ∙ near-sum (a .args .m) (2 ^ h) (2 ^ (h - 1)) (twice (a .args .d) h (a .pre .1) (c .stop .ensures)) (pow-pos (h - 1))
     ∙ near-stop (a .args .m) (a .args .d) h (a .pre .0) (c .stop .ensures)
 

@@ -86,11 +86,12 @@ module _ (m e z : ℕ) (q : Raised m z) where
       ∙ exact-case (m * 2 ^ e * 2 ^ 149) a r (w / 2 - 1) same' (keep r (subst (λ (y : ℕ). a < y * y) (add-one r) l)) d
       ∙ sym (sqrt-is x s (m * 2 ^ e) p h)
 
-  between : (x : Float) (s : Bool) (r : ℕ) → T (positive x) → HasValue x s (m * 2 ^ e) (2 ^ 149) → r * r ≤ a → a < (r + 1) * (r + 1) → (r * r ≡ a → ⊥)
-      → round binary32 false ((r * 2 + 1) * 2 ^ (w / 2 + 923)) (2 ^ 1074) ≡ sqrt binary32 x
-  between x s r p h g l d =
+  -- n is the root and a half
+  between : (x : Float) (s : Bool) (r n : ℕ) → n ≡ r * 2 + 1 → T (positive x) → HasValue x s (m * 2 ^ e) (2 ^ 149) → r * r ≤ a → a < (r + 1) * (r + 1) → (r * r ≡ a → ⊥)
+      → round binary32 false (n * 2 ^ (w / 2 + 923)) (2 ^ 1074) ≡ sqrt binary32 x
+  between x s r n j p h g l d =
       let l' : a < suc r * suc r = subst (λ (y : ℕ). a < y * y) (add-one r) l in
-      ap (λ (y : ℕ). round binary32 false ((r * 2 + 1) * 2 ^ (y + 923)) (2 ^ 1074)) (sym up)
+      ap₂ (λ (v y : ℕ). round binary32 false (v * 2 ^ (y + 923)) (2 ^ 1074)) j (sym up)
       ∙ open-case (m * 2 ^ e * 2 ^ 149) a r (w / 2 - 1) same' (keep r l') (lt-of-le-ne g d) l'
       ∙ sym (sqrt-is x s (m * 2 ^ e) p h)
 
@@ -174,7 +175,7 @@ returns-2 c =
     let u = d .before .before .unpack in
     let z = d .before .raise in
     let x = d .before .before .before in
-    c .pack2 .ensures ∙ between (u .result .m) (u .result .x) (z .result) (z .ensures) (x .args .x) (u .result .s) (d .isqrt .result) (x .pre) (u .ensures .value) (d .isqrt .ensures .0) (d .isqrt .ensures .1) (c .before .if1 .left)
+    c .pack2 .ensures ∙ between (u .result .m) (u .result .x) (z .result) (z .ensures) (x .args .x) (u .result .s) (d .isqrt .result) _ (omega arith) (x .pre) (u .ensures .value) (d .isqrt .ensures .0) (d .isqrt .ensures .1) (c .before .if1 .left)
 
 pub root-general-spec : {M : Type 1} → statement M
 root-general-spec =

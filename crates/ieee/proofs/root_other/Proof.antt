@@ -1,17 +1,18 @@
 use borrow.Author.Needs.{needs}
 use mathlib.Core.Path.{_≡_, refl, sym, ap, ap₂, _∙_, subst}
+use mathlib.Core.Logic.{_⊎_, inl, inr}
 use mathlib.Core.Bool.{Bool, true, false, not, _&&_, _||_, Bool·beq, cond, true≢false, false≢true}
 use Prim.Native.Nat.{ℕ, zero, suc, _+_, _*_, _^_, _≤_, _<_}
 use native.Mathlib.Nat.{zero-mul, mul-one, mul-pos, zero-lt-suc}
 use native.Mathlib.Omega.{arith}
 use lib.Dec.{T, ltb, eqb, lt→ltb, ltb→lt, eqb→eq, eqb-refl}
 use lib.IntN.{ℤ, pos}
-use lib.Ieee.{Float, nan, inf, fin, binary32, fits, up, down, lt, eq, div, ofBits}
+use lib.Ieee.{Float, nan, inf, fin, binary32, fits, up, down, lt, eq, div, neg, ofBits}
 use lib.Ieee.Fits.{up-pos}
 use lib.Ieee.Bits.{is-true}
+use lib.Ieee.Back.{whole-unique}
 use lib.Ieee.Positive.{positive, first-pos}
-use Rattle.ieee.specs.Root.{sqrt, IsSqrt}
-use Rattle.ieee.proofs.Rooted.{is-sqrt}
+use Rattle.ieee.specs.Root.{sqrt}
 use Rattle.ieee.proofs.root_other.Statement.{statement}
 use Rattle.ieee.proofs.root_other.Tie as tie
 use Rattle.ieee.proofs.root_other.Reads as reads
@@ -58,13 +59,18 @@ unequal m e b h = go (eqb (suc m * up e * 1) (0 * down e)) (eqb→eq (suc m * up
     go true f k = no (f tt)
     go false f k = false≢true k
 
-nothing : (x : Float) → eq x Z ≡ true → x ≡ sqrt binary32 x
-unfolding eq sqrt
-nothing nan h = absurd (false≢true h)
-nothing (inf s) h = absurd (false≢true h)
-nothing (fin s zero e) h = refl
-nothing (fin true (suc m) e) h = absurd (unequal m e _ h)
-nothing (fin false (suc m) e) h = absurd (unequal m e _ h)
+nought : (e : ℤ) → 0 * up e * 1 ≡ 0 * down e
+nought e = mul-one (0 * up e) ∙ zero-mul (up e) ∙ sym (zero-mul (down e))
+
+-- x is a zero, of either sign: what is answered for one is then worked out
+nothing : (x : Float) → T (fits binary32 x) → eq x Z ≡ true → (x ≡ fin true 0 (pos 0)) ⊎ (x ≡ fin false 0 (pos 0))
+unfolding eq fits
+nothing nan k h = absurd (false≢true h)
+nothing (inf s) k h = absurd (false≢true h)
+nothing (fin true zero e) k h = inl (whole-unique binary32 (fin true 0 e) (fin true 0 (pos 0)) true 0 k tt (refl, nought e) (refl, refl))
+nothing (fin false zero e) k h = inr (whole-unique binary32 (fin false 0 e) (fin false 0 (pos 0)) false 0 k tt (refl, nought e) (refl, refl))
+nothing (fin true (suc m) e) k h = absurd (unequal m e _ h)
+nothing (fin false (suc m) e) k h = absurd (unequal m e _ h)
 
 zeros : (e : ℤ) (s : Bool) → (eqb (0 * up e * 1) (0 * down e) && (Bool·beq s false || eqb (0 * up e * 1) 0)) ≡ true
 zeros e s = ap₂ (λ (a b : ℕ). eqb a b && (Bool·beq s false || eqb a 0)) (mul-one (0 * up e) ∙ zero-mul (up e)) (zero-mul (down e)) ∙ either s
@@ -85,10 +91,6 @@ none (fin false (suc m) e) g h = absurd (true≢false (sym (is-more m e) ∙ g))
 held : (c : tie.Start) → T (fits binary32 (c .args .x))
 held c = subst T (sym (c .good .0 .1)) tt
 
--- both clauses from the first
-both : (x r : Float) → T (fits binary32 x) → r ≡ sqrt binary32 x → (r ≡ sqrt binary32 x) × IsSqrt binary32 x r
-both x r h e = (e, subst (IsSqrt binary32 x) (sym e) (is-sqrt x h))
-
 -- src/lib.rt:268:28
 root-general-requires : tie.Need-root-general-requires
 unfolding ofBits div
@@ -96,22 +98,25 @@ root-general-requires c κs = above (c .before .before .args .x) (c .before .if1
 
 -- src/lib.rt:264:1
 returns : tie.Need-returns
-returns c = let a = c .before .before .before in both (a .args .x) (c .root-general .result) (held a) (c .root-general .ensures)
+returns c = c .root-general .ensures
 
 -- src/lib.rt:264:1
 returns-2 : tie.Need-returns-2
 unfolding ofBits div
-returns-2 c = let a = c .before .before in both (a .args .x) (a .args .x) (held a) (endless (a .args .x) (c .before .if1 .taken) (c .if2 .left))
+returns-2 c = endless (c .before .before .args .x) (c .before .if1 .taken) (c .if2 .left)
 
 -- src/lib.rt:264:1
 returns-3 : tie.Need-returns-3
-unfolding ofBits
-returns-3 c = let a = c .before .before in both (a .args .x) (a .args .x) (held a) (nothing (a .args .x) (c .if3 .taken))
+unfolding ofBits neg sqrt
+returns-3 c = let a = c .before .before in elim (nothing (a .args .x) (held a) (c .if3 .taken)) [
+  | inl e ↦ rw e refl
+  | inr e ↦ rw e refl
+]
 
 -- src/lib.rt:264:1
 returns-4 : tie.Need-returns-4
 unfolding ofBits div
-returns-4 c = let a = c .before .before in both (a .args .x) nan (held a) (none (a .args .x) (c .before .if1 .left) (c .if3 .left))
+returns-4 c = none (c .before .before .args .x) (c .before .if1 .left) (c .if3 .left)
 
 pub root-other-spec : {M : Type 1} → statement M
 root-other-spec = tie.close (tie.spec root-general-requires returns returns-2 returns-3 returns-4)

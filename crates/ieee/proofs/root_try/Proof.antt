@@ -79,8 +79,8 @@ returns c =
     let s = c .before .before .before in
     let q = toBits binary64 (s .args .t) % 2 ^ 25 in
     record {
-      small = try-small (s .args .b) (s .pre .0) (s .pre .1) q (c .before .if2 .taken) (c .if3 .taken);
-      right = λ h. try-right (s .args .b) (s .pre .0) (s .pre .1) q (c .before .if2 .taken) (c .if3 .taken);
+      small = try-small (s .args .b) (s .pre .0) (s .pre .1) q (omega (arith, c .before .if2 .taken)) (omega (arith, c .if3 .taken));
+      right = λ h. try-right (s .args .b) (s .pre .0) (s .pre .1) q (omega (arith, c .before .if2 .taken)) (omega (arith, c .if3 .taken));
     }
 
 -- src/lib.rt:356:1

@@ -7,9 +7,10 @@ use mathlib.Core.Bool.{Bool, true, false, not}
 use lib.Dec.{T, lit<, lit≤}
 use lib.Ieee.{Float, binary32, fits, ofBits, toBits}
 use lib.Ieee.Bits.{ofBits-toBits}
-use Rattle.ieee.specs.Root.{sqrt, IsSqrt}
+use Rattle.ieee.specs.Root.{sqrt}
+use Rattle.ieee.specs.Operations.{IsRoot}
 use Rattle.packing.proofs.Plain.{no-nan32, above-no-nan}
-use Rattle.ieee.proofs.Rooted.{is-sqrt}
+use Rattle.ieee.proofs.Midpoints.{root-ieee}
 use Rattle.ieee.proofs.sqrt.Statement.{statement}
 use Rattle.ieee.proofs.sqrt.Tie as tie
 use Rattle.ieee.proofs.sqrt.Reads as reads
@@ -22,8 +23,8 @@ held : (c : tie.Start) → T (fits binary32 (c .args .x))
 held c = subst T (sym (c .good .0 .1)) tt
 
 -- both clauses from the first
-both : (x r : Float) → T (fits binary32 x) → r ≡ sqrt binary32 x → (r ≡ sqrt binary32 x) × IsSqrt binary32 x r
-both x r h e = (e, subst (IsSqrt binary32 x) (sym e) (is-sqrt x h))
+both : (x r : Float) → T (fits binary32 x) → r ≡ sqrt binary32 x → (r ≡ sqrt binary32 x) × IsRoot binary32 x r
+both x r h e = (e, subst (IsRoot binary32 x) (sym e) (root-ieee x h))
 
 -- src/lib.rt:380:17
 float-to-bits-b : tie.Need-float-to-bits-b
@@ -53,7 +54,7 @@ root-other-requires c κs = search needs
 
 -- src/lib.rt:375:1
 returns-2 : tie.Need-returns-2
-returns-2 c = search needs
+returns-2 c = let s = c .before .before in both (s .args .x) (c .root-other .result) (held s) (c .root-other .ensures)
 
 pub sqrt-spec : {M : Type 1} → statement M
 sqrt-spec =

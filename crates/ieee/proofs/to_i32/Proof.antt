@@ -10,7 +10,6 @@ use mir.ValLaws.{toZ-ofZ}
 use lib.Ieee.{toSigned}
 use Rattle.ieee.specs.Whole.{saturate}
 use Rattle.ieee.proofs.Wholes.{saturate-same}
-use Rattle.ieee.proofs.Flat.{floor-le}
 use Rattle.ieee.proofs.Casts.{cut-large, cut-small}
 use Rattle.ieee.proofs.to_i32.Statement.{statement}
 use Rattle.ieee.proofs.to_i32.Tie as tie
@@ -34,7 +33,7 @@ floor-size-requires : tie.Need-floor-size-requires
 floor-size-requires c κs = search needs
 
 small-signed-requires : tie.Need-small-signed-requires
-small-signed-requires c κs = let u = c .before .before .unpack in lt-of-le-of-lt (subst (λ (x : ℕ). x ≤ 2 ^ 24) (sym (c .floor-size .ensures)) (floor-le false (u .result .m) (149 - u .result .x) (u .ensures .digits))) (lit< tt)
+small-signed-requires c κs = lt-of-le-of-lt (c .floor-size .ensures .1) (lit< tt)
 
 extreme-requires : tie.Need-extreme-requires
 extreme-requires c κs = search needs
@@ -56,7 +55,7 @@ returns-2 c =
     let u = d .unpack in
     toZ-ofZ w32 (c .small-signed .result) (record { sfits = c .small-signed .ok })
     ∙ c .small-signed .ensures
-    ∙ ap (λ (k : ℕ). saturate 31 (u .result .s) k) (z .floor-size .ensures)
+    ∙ ap (λ (k : ℕ). saturate 31 (u .result .s) k) (z .floor-size .ensures .0)
     ∙ sym (cut-small 31 (d .before .before .before .args .x) (u .result .s) (u .result .m) (u .result .x) (u .ensures) (le-of-lt (z .before .if2 .left)))
 
 returns-3 : tie.Need-returns-3

@@ -7,7 +7,7 @@ use native.Mathlib.Nat.{le-trans, le-of-eq, lt-of-le-of-lt, mul-one, mul-le-mul-
 use native.Mathlib.Omega.{arith}
 use lib.Pow.{pow-pos}
 use lib.IntN.{pos}
-use lib.Ieee.{Float, fin, binary32, round, sum, ofBits}
+use lib.Ieee.{Float, fin, binary32, round, sum, ofBits, neg}
 use Rattle.packing.specs.Parts.{Jammed, Aligned}
 use Rattle.packing.proofs.Cases.{at-zero}
 use Rattle.packing.proofs.Sums.{sum-like, sum-more, sum-less, sum-none, diff-mul}
@@ -87,7 +87,7 @@ returns-3 c = c .pack3 .ensures ∙ (let a = c .before .before .before .before .
 
 -- src/lib.rt:147:1
 returns-4 : tie.Need-returns-4
-unfolding ofBits
+unfolding ofBits neg
 returns-4 c = let a = c .before .before .before .before in none (a .args .s) (a .args .a) (a .args .t) (a .args .b) (a .args .d) (a .args .e) (c .before .before .before .jam .result) (a .pre) (c .before .before .before .jam .ensures) (c .before .before .if1 .left) (omega arith)
 
 pub combine-spec : {M : Type 1} → statement M

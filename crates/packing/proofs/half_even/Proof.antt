@@ -74,11 +74,11 @@ returns c = let a = c .before in even (a .args .n) (a .args .sh) (a .pre .0) (a 
 
 -- src/lib.rt:9:1
 returns-2 : tie.Need-returns-2
-returns-2 c = let a = c .before .before in halfway (a .args .n) (a .args .sh) (a .pre .0) (a .fits .n .fits) (c .before .if1 .left) (c .if2 .taken)
+returns-2 c = let a = c .before .before in omega arith ∙ halfway (a .args .n) (a .args .sh) (a .pre .0) (a .fits .n .fits) (c .before .if1 .left) (omega (arith, c .if2 .taken))
 
 -- src/lib.rt:9:1
 returns-3 : tie.Need-returns-3
-returns-3 c = let a = c .before .before in above (a .args .n) (a .args .sh) (a .pre .0) (a .fits .n .fits) (c .before .if1 .left) (c .if2 .left)
+returns-3 c = let a = c .before .before in above (a .args .n) (a .args .sh) (a .pre .0) (a .fits .n .fits) (c .before .if1 .left) (λ e. c .if2 .left (omega arith))
 
 pub half-even-spec : {M : Type 1} → statement M
 half-even-spec =

@@ -90,7 +90,7 @@ returns-2 c = let a = c .before .before in whole (a .args .b) (a .args .d) (a .p
 
 -- src/lib.rt:135:1
 returns-3 : tie.Need-returns-3
-returns-3 c = let a = c .before .before in part (a .args .b) (a .args .d) (a .pre .0) (a .pre .1) (a .pre .2) (c .if2 .left)
+returns-3 c = let a = c .before .before in subst (Jammed (a .args .b) (a .args .d)) (omega arith) (part (a .args .b) (a .args .d) (a .pre .0) (a .pre .1) (a .pre .2) (c .if2 .left))
 
 pub jam-spec : {M : Type 1} → statement M
 jam-spec = tie.close (tie.spec returns shr-h shl-if2 mul-result add-result returns-2 returns-3)

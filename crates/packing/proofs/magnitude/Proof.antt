@@ -109,7 +109,7 @@ sub-d c = search needs
 
 -- src/lib.rt:47:13
 returns-3 : tie.Need-returns-3
-returns-3 c = let a = c .before .before .before in (search needs, tiny (a .args .m) (a .args .x) (c .before .before .if1 .left) (a .fits .m .fits) (c .before .if2 .left) (c .if4 .taken))
+returns-3 c = let a = c .before .before .before in (search needs, tiny (a .args .m) (a .args .x) (c .before .before .if1 .left) (a .fits .m .fits) (c .before .if2 .left) (omega (arith, c .if4 .taken)))
 
 -- src/lib.rt:49:22
 add-half-even : tie.Need-add-half-even

@@ -1,0 +1,1 @@
+// Laws of rounding; specs/ states them. No code.

@@ -1,5 +1,6 @@
 pub mod Faults
 pub mod Answers
 pub mod Room
+pub mod Scans
 pub mod SignLaw
 pub mod Rules

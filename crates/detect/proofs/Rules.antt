@@ -12,7 +12,7 @@ use lib.Dec.{leb}
 use lib.ListN.{length, getD}
 use lib.Ieee.{Float}
 use Rattle.lists.specs.Ranges.{joined}
-use Rattle.params.specs.Limits.{border}
+use Rattle.params.specs.Limits.{border, maxMoves}
 use Rattle.params.specs.Threshold.{thresholdOf}
 use Rattle.params.specs.declared.Settings.{Settings}
 use Rattle.refine.specs.Keypoint.{Place, refineOf}
@@ -20,6 +20,7 @@ use Rattle.refine.specs.Sound.{Sound}
 use Rattle.refine.specs.declared.RawKeypoint.{RawKeypoint}
 use Rattle.refine.specs.declared.Refined.{Refined}
 use Rattle.refine.specs.declared.Refined.the-variants.{Dropped, At}
+use Rattle.refine.proofs.Settled.{few-moves}
 use Rattle.refine.proofs.Sounds.{refine-sound}
 use Rattle.extrema.specs.Neighbours.{tied, candidate}
 use Rattle.extrema.specs.Scan.{kept, found, rowOf, keypoints}
@@ -61,25 +62,35 @@ module _ {A : Type 0} (P : A → Type 0) where
   every-at (a ∷ xs) (more p ps) past zero l = p
   every-at (a ∷ xs) (more p ps) past (suc i) l = every-at xs ps past i (le-of-suc-le-suc l)
 
+-- ---- what holds of each keypoint that a cell of the border's inside is refined to holds of every one of the list
+module _ (P : RawKeypoint → Type 0) (d : List Float) (w h layer octave : ℕ) (s : Settings)
+    (at : (r c : ℕ) → border ≤ r → r < h - border → border ≤ c → c < w - border → (k : RawKeypoint) → refineOf d w h s octave layer r c ≡ At k → P k) where
+  of-kept : (r c : ℕ) → border ≤ r → r < h - border → border ≤ c → c < w - border → (x : Refined) → refineOf d w h s octave layer r c ≡ x → Every P (kept x)
+  of-kept r c t b l e Dropped q = none
+  of-kept r c t b l e (At k) q = more (at r c t b l e k q) none
+
+  of-list : Every P (listOf d w h layer octave s)
+  unfolding keypoints rowOf found
+  of-list =
+      every-joined P border (h - border) _ (λ r t b.
+      every-joined P border (w - border) _ (λ c l e.
+      every-cond P (candidate tied (thresholdOf (s .contrast) (s .layers)) d w h layer r c) (λ _. of-kept r c t b l e _ refl)))
+
+  of-each : (past : RawKeypoint) (i : ℕ) → i < length (listOf d w h layer octave s) → P (getD (listOf d w h layer octave s) i past)
+  of-each past i l = every-at P (listOf d w h layer octave s) of-list past i l
+
 -- ---- every keypoint is sound
 module _ (d : List Float) (w h planes layer octave : ℕ) (s : Settings) (a : Right d w h planes layer octave s) where
-  kept-sound : (r c : ℕ) → border ≤ r → r < h - border → border ≤ c → c < w - border → (x : Refined) → refineOf d w h s octave layer r c ≡ x → Every (Sound w h s octave) (kept x)
-  kept-sound r c t b l e Dropped q = none
-  kept-sound r c t b l e (At k) q =
+  sound-at : (r c : ℕ) → border ≤ r → r < h - border → border ≤ c → c < w - border → (k : RawKeypoint) → refineOf d w h s octave layer r c ≡ At k → Sound w h s octave k
+  sound-at r c t b l e k q =
       let z = a .stack in
       let p : Place (length d) w h planes (s .layers) layer r c = record { whole = z .whole; wide = z .wide; high = z .high; planes = z .planes; many = z .many; first = z .first; last = z .last; top = t; bottom = b; start = l; end = e } in
-      more (refine-sound d w h planes s octave layer r c k p (a .settings) (a .good) q) none
-
-  all-sound : Every (Sound w h s octave) (listOf d w h layer octave s)
-  unfolding keypoints rowOf found
-  all-sound =
-      every-joined (Sound w h s octave) border (h - border) _ (λ r t b.
-      every-joined (Sound w h s octave) border (w - border) _ (λ c l e.
-      every-cond (Sound w h s octave) (candidate tied (thresholdOf (s .contrast) (s .layers)) d w h layer r c) (λ _. kept-sound r c t b l e _ refl)))
+      refine-sound d w h planes s octave layer r c k p (a .settings) (a .good) q
 
 pub detect-rule : DetectRule
 detect-rule =
     record {
       few = few;
-      sound = λ d w h planes layer octave s z past i l. every-at (Sound w h s octave) (listOf d w h layer octave s) (all-sound d w h planes layer octave s (right d w h planes layer octave s z)) past i l;
+      moves = λ d w h layer octave s. of-each (λ k. k .moves < maxMoves) d w h layer octave s (λ r c t b l e k q. few-moves d w h s octave layer r c k q);
+      sound = λ d w h planes layer octave s z. of-each (Sound w h s octave) d w h layer octave s (sound-at d w h planes layer octave s (right d w h planes layer octave s z));
     }

@@ -28,7 +28,7 @@ use Rattle.detect.specs.Entry.{faultOf, listOf, extremaAnswer, extremaOu
 use Rattle.detect.proofs.Faults.{right}
 use Rattle.extrema.specs.SameList.{SameList, none, more}
 use Rattle.extrema.proofs.SignLaw.{keypoints-same, same-length}
-use Rattle.detect.specs.SignLaw.{negative, NegativesAgree, SameWords, rest, keypoint, TwoRuns}
+use Rattle.detect.specs.SignLaw.{negative, NegativesAgree, SameWords, rest, keypoint, RunsAgree}
 
 -- ---- the negative of a stack is accepted where the stack is
 
@@ -134,5 +134,5 @@ out-same d w h planes layer octave s out =
     (unfold extremaAnswer in
     landed-same (faultOf d w h planes layer octave s) (length (listOf d w h layer octave s)) (keypointWords * length (listOf d w h layer octave s)) (length out) (list-same d w h planes layer octave s) out)
 
-pub two-runs : (d : List Float) (w h planes layer octave : ℕ) (s : Settings) (out : List ℕ) → TwoRuns d w h planes layer octave s out
+pub two-runs : RunsAgree
 two-runs d w h planes layer octave s out = record { answer = answer-same d w h planes layer octave s (length out); words = out-same d w h planes layer octave s out }

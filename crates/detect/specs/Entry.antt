@@ -12,7 +12,7 @@ use Rattle.refine.specs.declared.RawKeypoint.{RawKeypoint}
 use Rattle.extrema.specs.Neighbours.{tied}
 use Rattle.extrema.specs.Scan.{keypoints, keypointWords, words}
 
--- the checks in the order of the table; 5 has no argument here
+-- the checks of rule A3, in their order; 5 has no argument here
 unfoldable pub faultOf : List Float → ℕ → ℕ → ℕ → ℕ → ℕ → Settings → ℕ
 faultOf d w h planes layer octave s =
     firstFault

@@ -1,7 +1,9 @@
 -- What the functions of the scan ask of where they stand, and what they find. Definitions only.
-use Prim.Native.Nat.{ℕ, _+_, _-_, _*_, _<_, _≤_}
+use Prim.Native.Nat.{ℕ, zero, suc, _+_, _-_, _*_, _<_, _≤_}
 use mathlib.Core.Path.{_≡_}
+use mathlib.Core.Bool.{cond}
 use mathlib.Core.List.{List}
+use lib.Dec.{leb, ltb}
 use lib.ListN.{length}
 use Rattle.lists.specs.Ranges.{joined}
 use Rattle.params.specs.Answers.{answerOf}
@@ -20,7 +22,17 @@ pub record Wide (w h : ℕ) : Type 0 where
 abbrev pub maxHeld : ℕ
 maxHeld = 2048
 
--- what a scan of h rows holds: of the rows before one all keypoints, few enough
+-- a scan that holds so many keypoints goes on with the row r, where so many rows are left: it stops before a row whose keypoints would be too many to hold
+unfoldable pub scanFrom : (ℕ → List RawKeypoint) → ℕ → ℕ → ℕ → Scanned
+scanFrom row zero held r = record { held = held; row = r }
+scanFrom row (suc left) held r =
+    cond (ltb maxHeld (held + length (row r))) (record { held = held; row = r }) (scanFrom row left (held + length (row r)) (r + 1))
+
+-- a scan of h rows, from the border on
+unfoldable pub scanned : ℕ → (ℕ → List RawKeypoint) → Scanned
+scanned h row = scanFrom row (h - 2 * border) 0 border
+
+-- what it holds: of the rows before one all keypoints, few enough
 pub record ScannedOf (h : ℕ) (row : ℕ → List RawKeypoint) (t : Scanned) : Type 0 where
   pub some : t .held ≡ length (joined border (t .row) row)
   pub few : t .held ≤ maxHeld
@@ -38,6 +50,10 @@ pub record Rows (len w h n p row : ℕ) : Type 0 where
   pub after : p + 1 < n
   pub from : border ≤ row
   pub to : row ≤ h - border
+
+-- the count to tell where so many keypoints do not fit in `room` words, and 0 where they do
+unfoldable pub lacking : ℕ → ℕ → ℕ
+lacking count room = cond (leb (keypointWords * count) room) 0 count
 
 -- the answer where no check before that of room fails
 abbrev pub roomAnswer : List RawKeypoint → ℕ → Answer

@@ -1,5 +1,5 @@
--- Demand 3: film comes as negative or positive. Turn the sign of every sample of a stack that the table accepts, and detection gives the same answer and the same keypoints.
--- `proofs/SignLaw.antt` shows `SignLaw` and `TwoRuns`. Definitions only.
+-- Rule D18, of negative and positive film. Turn the sign of every sample of a stack that the table accepts, and detection gives the same answer and the same keypoints.
+-- `proofs/SignLaw.antt` shows `NegativesAgree` and `RunsAgree`. Definitions only.
 use Prim.Native.Nat.{ℕ}
 use mathlib.Core.Path.{_≡_}
 use mathlib.Core.List.{List, _∷_, map}
@@ -31,8 +31,12 @@ pub data SameWords : List ℕ → List ℕ → Type 0 where
   keypoint : {x y size response octave layer xi xi' cc rr moves : ℕ} {ws vs : List ℕ} → Same (f32 xi) (f32 xi') → SameWords ws vs
       → SameWords (x ∷ y ∷ size ∷ response ∷ octave ∷ layer ∷ xi ∷ cc ∷ rr ∷ moves ∷ ws) (x ∷ y ∷ size ∷ response ∷ octave ∷ layer ∷ xi' ∷ cc ∷ rr ∷ moves ∷ vs)
 
--- Two runs of the entry, of whatever arguments, on a stack and on its negative, with lent words that stand alike before. By the entry's contract a run's answer and its words afterwards
+-- Two runs of the entry on a stack and on its negative, with lent words that stand alike before. By the entry's contract a run's answer and its words afterwards
 -- are `extremaAnswer` and `extremaOut`. So the answers are equal, and the words say the same.
 pub record TwoRuns (d : List Float) (w h planes layer octave : ℕ) (s : Settings) (out : List ℕ) : Type 0 where
   pub answer : extremaAnswer (negative d) w h planes layer octave s (length out) ≡ extremaAnswer d w h planes layer octave s (length out)
   pub words : SameWords (extremaOut d w h planes layer octave s out) (extremaOut (negative d) w h planes layer octave s out)
+
+-- the law of two runs: it holds of all arguments, accepted or refused
+abbrev pub RunsAgree : Type 0
+RunsAgree = (d : List Float) (w h planes layer octave : ℕ) (s : Settings) (out : List ℕ) → TwoRuns d w h planes layer octave s out

@@ -2,8 +2,8 @@
 
 ghost use mathlib.Core.Path.{_≡_};
 ghost use mathlib.Core.Bool.{false};
-ghost use Prim.Native.Nat.{ℕ, _+_, _-_, _*_, _^_, _<_, _≤_};
-ghost use lib.ListN.{length, take};
+ghost use Prim.Native.Nat.{_+_, _-_, _*_, _^_, _<_, _≤_, min};
+ghost use lib.ListN.{length};
 ghost use lib.Seq.{sets};
 ghost use Rattle.lists.specs.Ranges.{joined};
 ghost use Rattle.params.specs.Limits.{border};
@@ -15,11 +15,12 @@ ghost use Rattle.extrema.specs.Scan.{rowOf, keypoints, words};
 ghost use Rattle.extrema.specs.Places.{Stack};
 ghost use Rattle.extrema.specs.Hints.{leftOf};
 ghost use Rattle.detect.specs.Entry.{faultOf, extremaAnswer, extremaOut};
-ghost use Rattle.detect.specs.Places.{Wide, Rows, maxHeld, ScannedOf, roomAnswer};
+ghost use Rattle.detect.specs.Places.{Wide, Rows, maxHeld, scanned, ScannedOf, lacking, roomAnswer};
 use params::Answer;
 use params::Settings;
 
-// How many keypoints a scan holds back, until it is known that all fit in what is lent.
+// How many keypoints a scan holds back, until it is known that all fit in what is lent: 80 KB on the stack, and more than most layers of a frame have.
+// Beyond so many the rest is searched again. Any number would do.
 const HELD: usize = 2048;
 
 // What a scan holds: so many keypoints, those of the rows before `row`.
@@ -28,7 +29,7 @@ pub struct Scanned {
     pub row: usize,
 }
 
-// Holds the words of the first keypoints, up to the row whose keypoints would not all fit.
+// Holds the words of the first keypoints, up to the row whose keypoints would be too many. That row's words stand behind them, as far as there is room, and are not counted.
 fn scan(
     dog: &[f32],
     w: usize,
@@ -44,8 +45,9 @@ fn scan(
     requires { ⌜ threshold ≡ thresholdOf (s .contrast) (s .layers) ⌝ }
     requires { ⌜ Wide w h ⌝ }
     requires { ⌜ 10 * maxHeld ≤ length (now hold) ⌝ }
+    ensures { λ t. ⌜ t ≡ scanned h (λ r. rowOf tied (now (dog .entry)) w h s octave p r) ⌝ }
+    ensures { λ t. ⌜ now (hold .exit) ≡ sets (now (hold .entry)) 0 (words (joined border (min (t .row + 1) (h - border)) (λ r. rowOf tied (now (dog .entry)) w h s octave p r))) ⌝ }
     ensures { λ t. ⌜ ScannedOf h (λ r. rowOf tied (now (dog .entry)) w h s octave p r) t ⌝ }
-    ensures { λ t. ⌜ take (10 * t .held) (now (hold .exit)) ≡ words (joined border (t .row) (λ r. rowOf tied (now (dog .entry)) w h s octave p r)) ⌝ }
 {
     let mut held: usize = 0;
     for r in 5..h - 5 {
@@ -61,7 +63,8 @@ fn scan(
     }
 }
 
-// Writes the keypoints of the rows from `row` on, as far as there is room, and counts them.
+// Writes the keypoints of the rows from `row` on, as far as there is room, and counts them. `from` is at most 10 words for each one held; what it has to stay below
+// is said in `rows`.
 fn fill(
     dog: &[f32],
     w: usize,
@@ -121,8 +124,7 @@ fn too_many(
     requires { ⌜ Wide w h ⌝ }
     requires { ⌜ (border ≤ row) × (row ≤ h - border) × (held ≤ maxHeld) ⌝ }
     requires { ⌜ held ≡ length (joined border row (λ r. rowOf tied (now dog) w h s octave p r)) ⌝ }
-    ensures { λ k. ⌜ (k ≡ 0 → 10 * length (keypoints tied (now (dog .entry)) w h s octave p) ≤ room) ⌝ }
-    ensures { λ k. ⌜ (0 < k → (k ≡ length (keypoints tied (now (dog .entry)) w h s octave p)) × (room < 10 * k)) ⌝ }
+    ensures { λ k. ⌜ k ≡ lacking (length (keypoints tied (now (dog .entry)) w h s octave p)) room ⌝ }
 {
     let bound = held + most(dog, w, h, n, threshold, p, row);
     if 10 * bound <= room {

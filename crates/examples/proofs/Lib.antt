@@ -1,2 +1,2 @@
--- The marked examples that carry P.
+-- The marked examples that are proved.
 mod Table

@@ -1,4 +1,4 @@
--- The marked examples of document 01 that carry P, as one table: "Those marked P are proved together, as a single table under a single statement." Definitions only.
+-- The marked examples that are proved, rules E1 to E4, as one table under one statement. Definitions only.
 use Prim.Native.Nat.{ℕ}
 use mathlib.Core.Path.{_≡_}
 use mathlib.Core.Bool.{true}

@@ -1,10 +1,14 @@
-// The marked examples of document 01, run through the public functions. Floats are shown by their bits; what a line says is what document 01 says of the example.
+// The marked examples, rules E1 to E10, run through the public functions. Floats are shown by their bits; what is expected is what the rule says of the example.
+ghost use mathlib.Core.Path.{_≡_};
 ghost use Prim.Native.Nat.{_<_, _≤_};
 use descriptor::Described;
 use libc::STDOUT_FILENO;
 use params::Answer;
 use params::Settings;
 use params::Threshold;
+use refine::Offset;
+use refine::Patch;
+use refine::Step;
 
 fn print(text: &[u8]) {
     io::write_all(STDOUT_FILENO, text);
@@ -87,7 +91,9 @@ fn planes(rest: f32, at: usize, value: f32) -> [f32; 363]
     samples
 }
 
-fn settings() -> Settings {
+fn settings() -> Settings
+    ensures { λ s. ⌜ s .layers ≡ 1 ⌝ }
+{
     Settings {
         contrast: 0.04,
         edge: 10.0,
@@ -120,6 +126,76 @@ fn show_count(example: &[u8], got: Answer, expected: usize) {
     print(b"\n");
 }
 
+// How far a cell comes on its way to a keypoint.
+enum Fate {
+    Quiet,
+    Beaten,
+    Singular,
+    Astray,
+    Dim,
+    Edge,
+    Found,
+}
+
+// How far the middle plane's cell (5, 5) comes with the threshold: asked of the very functions that detection calls, one after the other.
+fn fate_with(samples: &[f32; 363], threshold: f32) -> Fate {
+    if !extrema::is_loud(threshold, picture::at(samples, 11, 11, 3, 1, 5, 5)) {
+        return Fate::Quiet;
+    }
+    if !extrema::is_extremum(samples, 11, 11, 3, 1, 5, 5) {
+        return Fate::Beaten;
+    }
+    let t = refine::patch_at(samples, 11, 11, 3, 1, 5, 5);
+    if refine::det_of(refine::bend_of(t)) == 0.0 {
+        return Fate::Singular;
+    }
+    match refine::step_of(11, 11, 1, 1, 5, 5, t) {
+        Step::Lost => Fate::Astray,
+        Step::Go(_, _, _) => Fate::Astray,
+        Step::Stay(o) => settled(t, o),
+    }
+}
+
+// How far a cell comes that settles with the offset o.
+fn settled(t: Patch, o: Offset) -> Fate {
+    if refine::is_dim(settings(), refine::contrast_of(t, o)) {
+        return Fate::Dim;
+    }
+    if refine::is_edgy(settings(), t) {
+        return Fate::Edge;
+    }
+    Fate::Found
+}
+
+// A threshold that is refused shows as a cell that went astray.
+fn fate_of(samples: &[f32; 363]) -> Fate {
+    let t = params::extrema_threshold(0.04, 1);
+    match t {
+        Threshold::Given(x) => fate_with(samples, x),
+        Threshold::Refused(_) => Fate::Astray,
+    }
+}
+
+fn print_fate(f: Fate) {
+    match f {
+        Fate::Quiet => print(b"no candidate, below the threshold"),
+        Fate::Beaten => print(b"no candidate, a neighbour beats it"),
+        Fate::Singular => print(b"a candidate, its determinant is 0"),
+        Fate::Astray => print(b"a candidate, it does not settle here"),
+        Fate::Dim => print(b"a candidate, it fails the contrast"),
+        Fate::Edge => print(b"a candidate, it fails the edge"),
+        Fate::Found => print(b"a keypoint"),
+    }
+}
+
+// A line: the example, and how far the middle cell comes. What is expected stands in the file that the output is held to.
+fn show_fate(example: &[u8], samples: &[f32; 363]) {
+    print(example);
+    print(b": ");
+    print_fate(fate_of(samples));
+    print(b"\n");
+}
+
 // How many keypoints there are where all samples are 0 but for 100 in one cell of the middle plane.
 fn found_at(at: usize) -> usize
     requires { ⌜ at < 121 ⌝ }
@@ -144,16 +220,18 @@ fn cells_tried() -> usize {
     n
 }
 
-// Zeros, and one value in the middle, the cell (5, 5).
+// Zeros, and one value in the middle, the cell (5, 5): how far it comes, and how many keypoints there are.
 fn middle(example: &[u8], value: f32, expected: usize) {
     let mut out = [0u32; 10];
     let samples = planes(0.0, 60, value);
-    show_count(example, detect_in(&samples, &mut out), expected);
+    show_fate(example, &samples);
+    show_count(b" keypoints", detect_in(&samples, &mut out), expected);
 }
 
 fn middle_fields(value: f32) {
     let mut out = [0u32; 10];
     let samples = planes(0.0, 60, value);
+    show_fate(b" the middle", &samples);
     show_count(b" keypoints", detect_in(&samples, &mut out), 1);
     show(b" x is 5", out[0], ieee::bits_of(5.0));
     show(b" y is 5", out[1], ieee::bits_of(5.0));
@@ -175,25 +253,31 @@ fn detection() {
         Answer::Done(cells_tried()),
         1,
     );
+    show_count(
+        b" of these in the cell (5, 5)",
+        Answer::Done(found_at(60)),
+        1,
+    );
     let tens = planes(10.0, 60, 10.0);
-    show_count(b"three planes of 10", detect_in(&tens, &mut out), 0);
+    show_fate(b"three planes of 10", &tens);
+    show_count(b" keypoints", detect_in(&tens, &mut out), 0);
     print(b"zeros with 100 in the middle:\n");
     middle_fields(100.0);
     print(b"zeros with -100 in the middle:\n");
     middle_fields(-100.0);
-    middle(b"with 5, no candidate", 5.0, 0);
-    middle(b"with 10, fails contrast", 10.0, 0);
-    middle(b"with 11, found", 11.0, 1);
+    middle(b"zeros with 5 in the middle", 5.0, 0);
+    middle(b"zeros with 10 in the middle", 10.0, 0);
+    middle(b"zeros with 11 in the middle", 11.0, 1);
 }
 
-fn marked(x: f32) -> usize
+fn marked(bits: u32) -> usize
     ensures { λ n. ⌜ n ≤ 1 ⌝ }
 {
-    if ieee::bits_of(x) == 0 { 0 } else { 1 }
+    if bits == 0 { 0 } else { 1 }
 }
 
-// How many values are not +0.
-fn not_zero(values: &[f32; 128]) -> usize
+// How many values are not +0, by their bits.
+fn not_zero(values: &[u32; 128]) -> usize
     ensures { λ n. ⌜ n ≤ 128 ⌝ }
 {
     let mut n: usize = 0;
@@ -224,7 +308,7 @@ fn show_described(example: &[u8], got: Described, expected: usize) {
 // A 2 × 2 picture has no cell off its edge.
 fn described() {
     let picture = [1.0f32, 2.0, 3.0, 4.0];
-    let mut values = [7.0f32; 128];
+    let mut values = [7u32; 128];
     let a = descriptor::compute_descriptor(&picture, 2, 2, 1.0, 0.0, 1.6, 30.0, &mut values);
     show_described(b"a 2 x 2 picture, samples", a, 0);
     show_count(

@@ -1,15 +1,15 @@
 -- What is decided of one cell: how a neighbour passes, and what the cell gives. Assumes nothing.
 use Prim.Native.Nat.{ℕ, _+_, _-_}
 use mathlib.Core.Path.{_≡_, refl, sym, subst}
-use mathlib.Core.Bool.{Bool, true, false, _||_, cond}
+use mathlib.Core.Bool.{Bool, true, false, _||_}
 use mathlib.Core.List.{List, []}
 use lib.Ieee.{Float}
-use Rattle.ieee.specs.F32.{_<ᶠ_, _≤ᶠ_}
+use Rattle.ieee.specs.F32.{_<ᶠ_}
 use Rattle.params.specs.Threshold.{thresholdOf}
 use Rattle.params.specs.declared.Settings.{Settings}
 use Rattle.picture.specs.Stack.{sample}
 use Rattle.refine.specs.Keypoint.{refineOf}
-use Rattle.extrema.specs.Neighbours.{tied, nought, keepsOver, centre, passes, isExtremum, loud, candidate}
+use Rattle.extrema.specs.Neighbours.{tied, nought, keepsAs, keepsOver, centre, passes, isExtremum, loud, candidate}
 use Rattle.extrema.specs.Scan.{kept, found}
 
 or-right : (a b : Bool) → b ≡ true → (a || b) ≡ true
@@ -17,7 +17,7 @@ or-right true b e = refl
 or-right false b e = e
 
 -- what the code compared is what the definition compares
-pub kept-as : (b up : Bool) (v n v' n' : Float) → b ≡ cond up (n ≤ᶠ v) (v ≤ᶠ n) → n ≡ n' → v ≡ v' → up ≡ (nought <ᶠ v) → keepsOver tied v' n' ≡ b
+pub kept-as : (b up : Bool) (v n v' n' : Float) → b ≡ keepsAs tied up v n → n ≡ n' → v ≡ v' → up ≡ (nought <ᶠ v) → keepsOver tied v' n' ≡ b
 kept-as b up v n v' n' e p q u = rw (← p, ← q, ← u) (sym e)
 
 module _ (d : List Float) (w h p r c i j k : ℕ) where

@@ -1,14 +1,13 @@
--- What the first look rules out, and how it goes through a run of cells. Assumes nothing.
+-- What the first look rules out, and how many cells it leaves. Assumes nothing.
 use Prim.Native.Nat.{ℕ, zero, suc, _+_, _-_, _*_, _<_, _≤_, zero-le, suc-le-suc}
-use mathlib.Core.Path.{_≡_, refl, sym, _∙_}
-use mathlib.Core.Bool.{Bool, true, false, _&&_, _||_, not, cond}
+use mathlib.Core.Path.{_≡_, refl, sym}
+use mathlib.Core.Bool.{Bool, true, false, _&&_, not, cond}
 use mathlib.Core.Logic.{_⊎_, inl, inr, ⊎-elim}
 use mathlib.Core.List.{List, [], _∷_}
-use native.Mathlib.Nat.{eq-or-lt-of-le, le-of-suc-le-suc, mul-le-mul, mul-one, le-trans}
+use native.Mathlib.Nat.{mul-le-mul, mul-one, le-trans}
 use native.Mathlib.Numerals.{add-one}
 use native.Mathlib.Omega.{arith}
-use lib.ListN.{length, getD, set, length-append}
-use lib.Seq.{getD-set-same, getD-set-other}
+use lib.ListN.{length, length-append}
 use lib.Ieee.{Float}
 use Rattle.lists.specs.Ranges.{joined}
 use Rattle.lists.proofs.Every.{every-stop}
@@ -16,16 +15,15 @@ use Rattle.lists.proofs.Ranges.{joined-none, joined-more, joined-bound, counted
 use Rattle.params.specs.Limits.{border, maxSide}
 use Rattle.params.specs.Threshold.{thresholdOf}
 use Rattle.params.specs.declared.Settings.{Settings}
-use Rattle.params.proofs.Bools.{or-neither}
 use Rattle.picture.specs.Stack.{sample}
 use Rattle.refine.specs.declared.RawKeypoint.{RawKeypoint}
-use Rattle.extrema.specs.Neighbours.{tied, keepsOver, centre, isExtremum, loud, candidate}
-use Rattle.extrema.specs.Scan.{found, cellsOf, rowOf}
+use Rattle.extrema.specs.Neighbours.{tied, keepsOver, centre, isExtremum, candidate}
+use Rattle.extrema.specs.Scan.{found, rowOf}
 use Rattle.extrema.specs.Hints.{hint, hintAt, leftAt, leftOf}
 use Rattle.extrema.proofs.Cells.{pass-none, found-quiet}
 use Rattle.extrema.proofs.Rows.{found-one}
 
-le-or-lt : (m n : ℕ) → (m ≤ n) ⊎ (n < m)
+pub le-or-lt : (m n : ℕ) → (m ≤ n) ⊎ (n < m)
 le-or-lt zero n = inl zero-le
 le-or-lt (suc m) zero = inr (suc-le-suc zero-le)
 le-or-lt (suc m) (suc n) = ⊎-elim (λ p. inl (suc-le-suc p)) (λ q. inr (suc-le-suc q)) (le-or-lt m n)
@@ -81,52 +79,27 @@ module _ (d : List Float) (w h : ℕ) (s : Settings) (octave p r c : ℕ) where
       (λ q. found-quiet d w h s octave p r c q)
       (λ q. ⊎-elim
       (pair _ _
-      (λ f. beaten 1 1 0 (omega arith) (omega arith) (omega arith) refl (sample d w h p r (c - 1)) (rw (p0, r0, c1)) f)
-      (λ f. beaten 1 1 2 (omega arith) (omega arith) (omega arith) refl (sample d w h p r (c + 1)) (rw (p0, r0, c2)) f))
+      (λ f. beaten 1 1 0 (omega arith) (omega arith) (omega arith) refl _ (rw (p0, r0, c1)) f)
+      (λ f. beaten 1 1 2 (omega arith) (omega arith) (omega arith) refl _ (rw (p0, r0, c2)) f))
       (λ q'. ⊎-elim
       (pair _ _
-      (λ f. beaten 1 0 1 (omega arith) (omega arith) (omega arith) refl (sample d w h p (r - 1) c) (rw (p0, r1, c0)) f)
-      (λ f. beaten 1 2 1 (omega arith) (omega arith) (omega arith) refl (sample d w h p (r + 1) c) (rw (p0, r2, c0)) f))
+      (λ f. beaten 1 0 1 (omega arith) (omega arith) (omega arith) refl _ (rw (p0, r1, c0)) f)
+      (λ f. beaten 1 2 1 (omega arith) (omega arith) (omega arith) refl _ (rw (p0, r2, c0)) f))
       (pair _ _
-      (λ f. beaten 0 1 1 (omega arith) (omega arith) (omega arith) refl (sample d w h (p - 1) r c) (rw (p1, r0, c0)) f)
-      (λ f. beaten 2 1 1 (omega arith) (omega arith) (omega arith) refl (sample d w h (p + 1) r c) (rw (p2, r0, c0)) f))
+      (λ f. beaten 0 1 1 (omega arith) (omega arith) (omega arith) refl _ (rw (p1, r0, c0)) f)
+      (λ f. beaten 2 1 1 (omega arith) (omega arith) (omega arith) refl _ (rw (p2, r0, c0)) f))
       (one-false _ _ q'))
       (one-false _ _ q))
       (one-false _ _ e)
 
--- cells without a loud one among them give nothing
-blank : {A : Type 0} (lo hi : ℕ) (f : ℕ → List A) → ((i : ℕ) → lo ≤ i → i < hi → f i ≡ []) → joined lo hi f ≡ []
+-- where each part of a range is empty the whole is
+pub blank : {A : Type 0} (lo hi : ℕ) (f : ℕ → List A) → ((i : ℕ) → lo ≤ i → i < hi → f i ≡ []) → joined lo hi f ≡ []
 blank lo zero f e = joined-none lo zero f (omega arith)
 blank lo (suc hi) f e =
     ⊎-elim
     (λ g. rw (← add-one hi, joined-more lo hi f g, blank lo hi f (λ i a b. e i a (omega arith)), e hi g (omega arith)))
     (λ g. joined-none lo (suc hi) f g)
     (le-or-lt lo hi)
-
-pub quiet-cells : (d : List Float) (w h : ℕ) (s : Settings) (octave p r lo hi : ℕ) (threshold : Float) → threshold ≡ thresholdOf (s .contrast) (s .layers)
-    → ((c : ℕ) → lo ≤ c → c < hi → loud threshold (sample d w h p r c) ≡ false)
-    → cellsOf tied d w h s octave p r lo hi ≡ []
-quiet-cells d w h s octave p r lo hi threshold t e = blank lo hi _ (λ c a b. found-quiet d w h s octave p r c (rw t at (e c a b)))
-
--- one more cell without a loud one among them
-pub quiet-more : (P : ℕ → Bool) (any b : Bool) (lo c : ℕ) → b ≡ P c → (any ≡ false → (i : ℕ) → lo ≤ i → i < c → P i ≡ false)
-    → (any || b) ≡ false → (i : ℕ) → lo ≤ i → i < c + 1 → P i ≡ false
-quiet-more P any b lo c is before e i a l =
-    let q = or-neither any b e in
-    ⊎-elim
-    (λ z. rw z (sym is ∙ q .1))
-    (λ m. before (q .0) i a m)
-    (eq-or-lt-of-le (le-of-suc-le-suc (rw add-one at l)))
-
--- one more mark made
-pub mark-more : (P : ℕ → Bool) (marks : List Bool) (b : Bool) (lo c : ℕ) → lo ≤ c → c - lo < length marks → b ≡ P c
-    → ((i : ℕ) → lo ≤ i → i < c → getD marks (i - lo) false ≡ P i)
-    → (i : ℕ) → lo ≤ i → i < c + 1 → getD (set marks (c - lo) b) (i - lo) false ≡ P i
-mark-more P marks b lo c o room is before i a l =
-    ⊎-elim
-    (λ z. rw z (getD-set-same marks (c - lo) b false room ∙ is))
-    (λ m. getD-set-other marks (c - lo) (i - lo) b false (λ z. absurd (omega arith)) ∙ before i a m)
-    (eq-or-lt-of-le (le-of-suc-le-suc (rw add-one at l)))
 
 -- one more cell counted, where the first look leaves it
 left-length : (b : Bool) (c : ℕ) → length (cond b (c ∷ []) []) ≡ cond b 1 0

@@ -1,4 +1,4 @@
--- Whether a cell is an extremum among its 26 neighbours, whatever the order of the search. Definitions only.
+-- Whether a cell is an extremum among its 26 neighbours, rule D3, whatever the order of the search. Definitions only.
 use Prim.Native.Nat.{ℕ, _+_, _-_}
 use mathlib.Core.Bool.{Bool, _&&_, _||_, cond}
 use mathlib.Core.List.{List}
@@ -19,9 +19,13 @@ larger tied a b = b ≤ᶠ a
 abbrev pub nought : Float
 nought = f32 0
 
+-- v stands beside its neighbour n: as the larger where `up`, else as the smaller
+abbrev pub keepsAs : Rule → Bool → Float → Float → Bool
+keepsAs rule up v n = cond up (larger rule v n) (larger rule n v)
+
 -- a positive cell v has to be the larger beside its neighbour n, any other the smaller
 abbrev pub keepsOver : Rule → Float → Float → Bool
-keepsOver rule v n = cond (nought <ᶠ v) (larger rule v n) (larger rule n v)
+keepsOver rule v n = keepsAs rule (nought <ᶠ v) v n
 
 -- (1, 1, 1) is the cell itself
 abbrev pub centre : ℕ → ℕ → ℕ → Bool

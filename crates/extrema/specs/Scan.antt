@@ -1,4 +1,4 @@
--- The keypoints of one layer, row by row, and the words that they go out as. Definitions only.
+-- The keypoints of one layer, row by row, rules D2 and D17, and the words that they go out as, rule A18. Definitions only.
 use Prim.Native.Nat.{ℕ, _+_, _-_}
 use mathlib.Core.Bool.{cond}
 use mathlib.Core.List.{List, [], _∷_, _++_}

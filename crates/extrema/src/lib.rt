@@ -1,18 +1,19 @@
 // The cells of one layer of a stack of difference planes: a first look at them, the search among a cell's neighbours, and what a cell gives.
 
 ghost use mathlib.Core.Path.{_≡_};
-ghost use mathlib.Core.Bool.{false, cond};
-ghost use Prim.Native.Nat.{ℕ, _+_, _-_, _*_, _<_, _≤_};
+ghost use mathlib.Core.Bool.{cond};
+ghost use Prim.Native.Nat.{_+_, _-_, _<_, _≤_};
 ghost use lib.ListN.{length};
-ghost use Rattle.ieee.specs.F32.{_<ᶠ_, _≤ᶠ_};
+ghost use lib.Seq.{sets};
+ghost use Rattle.ieee.specs.F32.{_<ᶠ_};
 ghost use Rattle.params.specs.Limits.{maxOctave};
 ghost use Rattle.params.specs.Threshold.{thresholdOf};
 ghost use Rattle.picture.specs.Stack.{sample};
 ghost use Rattle.refine.specs.Keypoint.{Place};
-ghost use Rattle.extrema.specs.Neighbours.{tied, nought, centre, isExtremum, loud};
+ghost use Rattle.extrema.specs.Neighbours.{tied, nought, keepsAs, centre, isExtremum, loud};
 ghost use Rattle.extrema.specs.Scan.{kept, found};
 ghost use Rattle.extrema.specs.Places.{Around, Run};
-ghost use Rattle.extrema.specs.Hints.{hint, hintAt, Marked, leftOf};
+ghost use Rattle.extrema.specs.Hints.{hint, hintAt, anyLoud, looks, leftOf};
 use params::Settings;
 use refine::Refined;
 
@@ -25,12 +26,12 @@ fn is_centre(i: usize, j: usize, k: usize) -> bool
 
 // Whether a cell stands beside a neighbour: as the larger where `up`, else as the smaller. Ties pass.
 fn keeps(up: bool, val: f32, other: f32) -> bool
-    ensures { λ b. ⌜ b ≡ cond up (other ≤ᶠ val) (val ≤ᶠ other) ⌝ }
+    ensures { λ b. ⌜ b ≡ keepsAs tied up val other ⌝ }
 {
     if up { val >= other } else { val <= other }
 }
 
-// Whether none of its 26 neighbours beats the cell (p, r, c). The search stops at the first that does.
+// Whether none of its 26 neighbours beats the cell (p, r, c). The search stops at the first that does: rule D4.
 fn stands(
     dog: &[f32],
     w: usize,
@@ -67,7 +68,7 @@ fn stands(
 }
 
 // Whether a cell is an extremum among its neighbours. A positive one has to be the larger, any other the smaller.
-fn is_extremum(dog: &[f32], w: usize, h: usize, n: usize, p: usize, r: usize, c: usize) -> bool
+pub fn is_extremum(dog: &[f32], w: usize, h: usize, n: usize, p: usize, r: usize, c: usize) -> bool
     requires { ⌜ Around (length (now dog)) w h n p r c ⌝ }
     ensures { λ b. ⌜ b ≡ isExtremum tied (now (dog .entry)) w h p r c ⌝ }
 {
@@ -80,13 +81,13 @@ fn is_extremum(dog: &[f32], w: usize, h: usize, n: usize, p: usize, r: usize, c:
 }
 
 // Whether the magnitude exceeds the threshold.
-fn is_loud(threshold: f32, val: f32) -> bool
+pub fn is_loud(threshold: f32, val: f32) -> bool
     ensures { λ b. ⌜ b ≡ loud threshold val ⌝ }
 {
     ieee::abs(val) > threshold
 }
 
-// What a cell gives: nothing where it is no candidate, else what it is refined to.
+// What a cell gives: nothing where it is no candidate, else what it is refined to. `kept` tells the two cases apart, so that its value names the answer; so in `seen`.
 fn cell(
     dog: &[f32],
     w: usize,
@@ -164,7 +165,7 @@ pub fn any_loud(
     hi: usize,
 ) -> bool
     requires { ⌜ Run (length (now dog)) w h n p r lo hi ⌝ }
-    ensures { λ x. ⌜ (x ≡ false → (c : ℕ) → lo ≤ c → c < hi → loud threshold (sample (now (dog .entry)) w h p r c) ≡ false) ⌝ }
+    ensures { λ x. ⌜ x ≡ anyLoud threshold (now (dog .entry)) w h p r lo hi ⌝ }
 {
     let mut any = false;
     for c in lo..hi {
@@ -173,7 +174,7 @@ pub fn any_loud(
     any
 }
 
-// Takes the first look at the cells from column lo to below hi.
+// Takes the first look at the cells from column lo to below hi. The marks from hi - lo on stay as they were.
 pub fn mark(
     dog: &[f32],
     w: usize,
@@ -188,7 +189,7 @@ pub fn mark(
 )
     requires { ⌜ Run (length (now dog)) w h n p r lo hi ⌝ }
     requires { ⌜ (hi ≤ lo + 64) × (length (now marks) ≡ 64) ⌝ }
-    ensures { λ _. ⌜ Marked threshold (now (dog .entry)) w h p r lo hi (now (marks .exit)) ⌝ }
+    ensures { λ _. ⌜ now (marks .exit) ≡ sets (now (marks .entry)) 0 (looks threshold (now (dog .entry)) w h p r lo hi) ⌝ }
 {
     for c in lo..hi {
         marks[c - lo] = may_be_at(dog, w, h, n, threshold, p, r, c);

@@ -13,7 +13,7 @@ use Rattle.ieee.proofs.Monotone.{nil}
 use Rattle.ieee.proofs.Bounds.{Bounds, bounds-point, mul-bounds, mul-bounds-by, div-bounds, floor-bounds, convert-bounds, ofInt-bounds}
 use Rattle.params.specs.Limits.{maxLayers, maxOctave, contrastLow, contrastHigh, edgeLow, edgeHigh, sigmaLow, sigmaHigh}
 use Rattle.params.specs.Table.{within, contrastWrong, settingsWrong}
-use Rattle.params.specs.Threshold.{half64, full64, thresholdOf}
+use Rattle.params.specs.Threshold.{half64, full64, levelOf, thresholdOf}
 use Rattle.params.specs.declared.Settings.{Settings}
 use Rattle.params.proofs.Bools.{or-neither}
 
@@ -36,7 +36,7 @@ module _ (contrast : Float) (right : contrastWrong contrast ≡ false) where
     most = ofBits binary64 0x405f_e000_0000_0000
 
     abbrev level : Float
-    level = mul binary64 (div binary64 (mul binary64 half64 contrast) (ofInt binary64 (pos layers))) full64
+    level = levelOf contrast layers
 
     pub level-bounds : Bounds nil most level
     unfolding ofBits mul div ofInt lt le

@@ -1,4 +1,4 @@
--- What an answer says in document 01's numbers, which answer an entry gives, and what it leaves in the lent list. Definitions only.
+-- What an answer says as a number and a count, which answer an entry gives, and what it leaves in the lent list: rules A14, A16, A17 and A19. Definitions only.
 use Prim.Native.Nat.{ℕ, zero, suc}
 use mathlib.Core.Bool.{Bool, cond}
 use mathlib.Core.List.{List}

@@ -1,4 +1,4 @@
--- The table of refusals: the tests by their numbers, and the first that fails. Definitions only.
+-- The table of refusals, rules A2 and A3: the tests by their numbers, and the first that fails. Definitions only.
 use Prim.Native.Nat.{ℕ, _+_, _*_}
 use mathlib.Core.Bool.{Bool, true, false, _&&_, _||_, not}
 use mathlib.Core.List.{List, [], _∷_}
@@ -17,19 +17,19 @@ firstFault [] = 0
 firstFault (line n true ∷ ls) = n
 firstFault (line n false ∷ ls) = firstFault ls
 
--- 1: width or height is 0 or above the limit
+-- 1, rule A4: a side is 0, or above the limit
 abbrev pub sideWrong : ℕ → Bool
 sideWrong n = eqb n 0 || ltb maxSide n
 
 unfoldable pub shapeWrong : ℕ → ℕ → Bool
 shapeWrong width height = sideWrong width || sideWrong height
 
--- 2: not 1 ≤ layer ≤ layers ≤ planes − 2, or layers above 15, or planes above 17
+-- 2, rule A5: the layer searched is none of the layers, or these and a plane on either side of them are more than the planes, or layers or planes are too many
 unfoldable pub layersWrong : ℕ → ℕ → ℕ → Bool
 layersWrong planes layer layers =
     not (leb 1 layer && (leb layer layers && leb (layers + 2) planes)) || (ltb maxLayers layers || ltb maxPlanes planes)
 
--- 3: a plane slice hasn't exactly the length that the shape gives
+-- 3, rule A6: a list of samples is longer or shorter than its shape
 unfoldable pub lengthWrong : ℕ → ℕ → Bool
 lengthWrong length need = not (eqb length need)
 
@@ -37,7 +37,7 @@ lengthWrong length need = not (eqb length need)
 abbrev pub within : Float → Float → Float → Bool
 within low high x = le low x && le x high
 
--- 4: contrast not in 0 to 1, edge not in 1 to 1,000, sigma not in 0.5 to 16, octave not in 0 to 15, or any of them not-a-number
+-- 4, rule A7: a setting or the octave is out of its range
 unfoldable pub contrastWrong : Float → Bool
 contrastWrong x = not (within contrastLow contrastHigh x)
 
@@ -46,7 +46,7 @@ settingsWrong s octave =
     contrastWrong (s .contrast)
     || (not (within edgeLow edgeHigh (s .edge)) || (not (within sigmaLow sigmaHigh (s .sigma)) || ltb maxOctave octave))
 
--- 6: a sample is not-a-number, infinite or above 2 ^ 20 in magnitude
+-- 6, rule A13: a sample is no number, or its magnitude is above 2 ^ 20
 abbrev pub goodSample : Float → Bool
 goodSample x = within (neg sampleLimit) sampleLimit x
 

@@ -1,4 +1,4 @@
--- The threshold of detection. Definitions only.
+-- The threshold of detection, rule D1. Definitions only.
 use Prim.Native.Nat.{ℕ}
 use mathlib.Core.Bool.{Bool, false, _||_, not}
 use mathlib.Core.List.{[], _∷_}
@@ -20,16 +20,19 @@ half64 = ofBits binary64 0x3fe0_0000_0000_0000
 abbrev pub full64 : Float
 full64 = ofBits binary64 0x406f_e000_0000_0000
 
--- 0.5 × contrast / layers × 255 in f64, in that order, floor, as f32
-unfoldable pub thresholdOf : Float → ℕ → Float
-thresholdOf contrast layers =
-    narrowed (floor binary64 (mul binary64 (div binary64 (mul binary64 half64 contrast) (ofInt binary64 (pos layers))) full64))
+-- half of the contrast, over the layers, times 255: in f64, and in this order
+abbrev pub levelOf : Float → ℕ → Float
+levelOf contrast layers = mul binary64 (div binary64 (mul binary64 half64 contrast) (ofInt binary64 (pos layers))) full64
 
--- the threshold's own refusals: layers 0 or above 15 is 2, contrast not in 0 to 1 is 4
+-- its floor, as f32
+unfoldable pub thresholdOf : Float → ℕ → Float
+thresholdOf contrast layers = narrowed (floor binary64 (levelOf contrast layers))
+
+-- the threshold's own refusals: 2 for the layers, 4 for the contrast
 unfoldable pub thresholdFault : Float → ℕ → ℕ
 thresholdFault contrast layers = firstFault (line 2 (eqb layers 0 || ltb maxLayers layers) ∷ line 4 (contrastWrong contrast) ∷ [])
 
--- what the entry answers, what that says in document 01's numbers, and the value beside the number: +0 on a refusal
+-- what the entry answers, the number that this stands for, and the value beside it: +0 on a refusal, rule A16
 unfoldable pub thresholdAnswer : Float → ℕ → Threshold
 thresholdAnswer contrast layers = onFault (thresholdFault contrast layers) (Given (thresholdOf contrast layers)) (Refused (thresholdFault contrast layers))
 

@@ -7,8 +7,8 @@ ghost use lib.IntN.{pos};
 ghost use lib.Ieee.{fin, binary64, le, lt};
 ghost use Rattle.ieee.specs.Whole.{floor};
 ghost use Rattle.params.specs.Limits.{maxLayers};
-ghost use Rattle.params.specs.Table.{shapeWrong, layersWrong, contrastWrong, settingsWrong};
-ghost use Rattle.params.specs.Threshold.{thresholdOf, thresholdAnswer};
+ghost use Rattle.params.specs.Table.{shapeWrong, layersWrong, within, contrastWrong, settingsWrong};
+ghost use Rattle.params.specs.Threshold.{levelOf, thresholdOf, thresholdAnswer};
 
 // What a frame is searched with.
 pub struct Settings {
@@ -18,14 +18,14 @@ pub struct Settings {
     pub layers: usize,
 }
 
-// What an entry answers: done, with the count written; short of room, with the count needed; or refused, by document 01's number.
+// What an entry answers: done, with the count written; short of room, with the count needed; or refused, by the number of rule A2.
 pub enum Answer {
     Done(usize),
     Short(usize),
     Refused(u32),
 }
 
-// What the threshold's entry answers: the threshold, or a refusal by document 01's number.
+// What the threshold's entry answers: the threshold, or a refusal by the number of rule A2.
 pub enum Threshold {
     Given(f32),
     Refused(u32),
@@ -39,14 +39,14 @@ const MAX_PLANES: usize = 17;
 
 const MAX_OCTAVE: u32 = 15;
 
-// Number 1: a side is 0 or above the limit.
+// Number 1, rule A4.
 pub fn shape_wrong(width: usize, height: usize) -> bool
     ensures { λ b. ⌜ b ≡ shapeWrong width height ⌝ }
 {
     ((width == 0) | (width > MAX_SIDE)) | ((height == 0) | (height > MAX_SIDE))
 }
 
-// Number 2: not 1 <= layer <= layers <= planes - 2, or too many layers or planes.
+// Number 2, rule A5. The layers are held to their limit first, so that the sum of layers and 2 does not wrap.
 pub fn layers_wrong(planes: usize, layer: usize, layers: usize) -> bool
     ensures { λ b. ⌜ b ≡ layersWrong planes layer layers ⌝ }
 {
@@ -56,20 +56,27 @@ pub fn layers_wrong(planes: usize, layer: usize, layers: usize) -> bool
     !((1 <= layer) & ((layer <= layers) & (layers + 2 <= planes))) | (planes > MAX_PLANES)
 }
 
-// Number 4, of the contrast: not in 0 to 1.
+// Whether x lies from low to high. No not-a-number does.
+fn is_within(low: f64, high: f64, x: f64) -> bool
+    ensures { λ b. ⌜ b ≡ within low high x ⌝ }
+{
+    (low <= x) & (x <= high)
+}
+
+// Number 4, of the contrast: rule A7.
 pub fn contrast_wrong(contrast: f64) -> bool
     ensures { λ b. ⌜ b ≡ contrastWrong contrast ⌝ }
 {
-    !((0.0 <= contrast) & (contrast <= 1.0))
+    !is_within(0.0, 1.0, contrast)
 }
 
-// Number 4: contrast not in 0 to 1, edge not in 1 to 1,000, sigma not in 0.5 to 16, or octave above 15.
+// Number 4, of all settings and the octave: rule A7.
 pub fn settings_wrong(s: Settings, octave: u32) -> bool
     ensures { λ b. ⌜ b ≡ settingsWrong s octave ⌝ }
 {
     contrast_wrong(s.contrast)
-        | (!((1.0 <= s.edge) & (s.edge <= 1000.0))
-            | (!((0.5 <= s.sigma) & (s.sigma <= 16.0)) | (octave > MAX_OCTAVE)))
+        | (!is_within(1.0, 1000.0, s.edge)
+            | (!is_within(0.5, 16.0, s.sigma) | (octave > MAX_OCTAVE)))
 }
 
 // x as a whole number, toward minus infinity. A zero keeps its sign.
@@ -84,15 +91,23 @@ fn floor_of(x: f64) -> f64
     }
 }
 
-// 0.5 * contrast / layers * 255 in f64, in that order, floor, as f32.
+// Half of the contrast, over the layers, times 255: rule D1, whose order decides the last bit.
+fn level_of(contrast: f64, layers: usize) -> f64
+    requires { ⌜ layers ≤ maxLayers ⌝ }
+    ensures { λ x. ⌜ x ≡ levelOf contrast layers ⌝ }
+{
+    0.5 * contrast / (layers as f64) * 255.0
+}
+
+// The threshold: the level's floor, as f32.
 pub fn threshold_of(contrast: f64, layers: usize) -> f32
     requires { ⌜ (contrastWrong contrast ≡ false) × (1 ≤ layers) × (layers ≤ maxLayers) ⌝ }
     ensures { λ t. ⌜ t ≡ thresholdOf contrast layers ⌝ }
 {
-    ieee::narrow(floor_of(0.5 * contrast / (layers as f64) * 255.0))
+    ieee::narrow(floor_of(level_of(contrast, layers)))
 }
 
-// The entry: the threshold, or 2 for layers 0 or above 15, or 4 for a contrast not in 0 to 1.
+// The entry: the threshold, or 2 for the layers, or 4 for the contrast.
 pub fn extrema_threshold(contrast: f64, layers: usize) -> Threshold
     ensures { λ t. ⌜ t ≡ thresholdAnswer contrast layers ⌝ }
 {

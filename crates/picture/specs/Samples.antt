@@ -1,4 +1,4 @@
--- A run of samples in range. Definitions only.
+-- A run of samples in range, rule A13. Definitions only.
 use Prim.Native.Nat.{ℕ}
 use mathlib.Core.Bool.{Bool}
 use mathlib.Core.List.{List}

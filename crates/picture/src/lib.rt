@@ -2,7 +2,7 @@
 
 ghost use mathlib.Core.Path.{_≡_};
 ghost use mathlib.Core.Bool.{_&&_};
-ghost use Prim.Native.Nat.{_+_, _*_, _<_, _≤_};
+ghost use Prim.Native.Nat.{_+_, _*_, _<_, _≤_, min};
 ghost use lib.ListN.{length};
 ghost use Rattle.params.specs.Table.{goodSample, allGood};
 ghost use Rattle.picture.specs.Stack.{sample, Inside};
@@ -11,7 +11,8 @@ ghost use Rattle.picture.specs.Samples.{goodFrom};
 // The largest magnitude of a sample, 2^20.
 const LIMIT: f32 = 1048576.0;
 
-// So many samples are tested between two looks at what came out.
+// So many samples are tested between two looks at what came out: enough that the look costs nothing beside them, and few enough that a stack that is bad early is left early.
+// Any number above 0 would do.
 const BLOCK: usize = 1024;
 
 // The sample of plane p at row r, column c of n planes of h rows of w.
@@ -46,7 +47,7 @@ fn block_good(d: &[f32], from: usize, to: usize) -> bool
 // Where the block that starts at `from` ends: a whole block on, or at the end of all.
 fn block_end(from: usize, len: usize) -> usize
     requires { ⌜ from < len ⌝ }
-    ensures { λ to. ⌜ (from < to) × (to ≤ len) ⌝ }
+    ensures { λ to. ⌜ (to ≡ min (from + 1024) len) × (from < to) × (to ≤ len) ⌝ }
 {
     if len - from > BLOCK {
         from + BLOCK

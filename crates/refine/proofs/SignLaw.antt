@@ -21,7 +21,7 @@ use Rattle.params.specs.declared.Settings.{Settings}
 use Rattle.picture.specs.Stack.{sample}
 use Rattle.refine.specs.Fit.{imgScale, deriv, second, cross, one, two, patchOf, diff, curve, twist, slopeOf, bendOf, mulSub, outer, detOf, offsetOf}
 use Rattle.refine.specs.Moves.{nought, half, small, huge, placed, moved, three, walk, stepOf}
-use Rattle.refine.specs.Keypoint.{float, contrastOf, dim, edgy, codeOf, keypointOf, ended, onStep, settleFrom, refineOf}
+use Rattle.refine.specs.Keypoint.{float, contrastOf, dim, edgy, codeOf, keypointWith, keypointOf, ended, onStep, settleFrom, refineOf}
 use Rattle.refine.specs.declared.Patch.{Patch}
 use Rattle.refine.specs.declared.Slope.{Slope}
 use Rattle.refine.specs.declared.Bend.{Bend}
@@ -234,7 +234,7 @@ module _ (d e : List Float) (w h : ℕ) (s : Settings) (octave : ℕ) (o : (i : 
         rw (le-turned det (zero-any false), le-turned (mul-turned binary32 (same ((et ⊕ one) ⊗ (et ⊕ one))) det) (mul-turned binary32 (mul-turned binary32 tr tr) (same et)))
 
     keypoint-same : (moves : ℕ) {u v : Offset} → Deep p r c → SameOffset u v → SameKeypoint (keypointOf s octave moves p r c here u) (keypointOf s octave moves p r c there v)
-    unfolding keypointOf
+    unfolding keypointOf keypointWith
     keypoint-same moves {u} {v} deep q =
         record {
           x = ap (λ (z : Float). z ⊗ float (2 ^ octave)) (place-same c (le-trans (omega arith) (deep .2)) (q .xc));

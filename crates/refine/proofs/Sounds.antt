@@ -20,7 +20,7 @@ use Rattle.picture.specs.Stack.{sample, Inside}
 use Rattle.picture.proofs.Runs.{good-at}
 use Rattle.refine.specs.Fit.{imgScale, deriv, diff, patchOf, slopeOf, bendOf, detOf, offsetOf}
 use Rattle.refine.specs.Moves.{nought, half, small, stepOf, walk}
-use Rattle.refine.specs.Keypoint.{float, contrastOf, dim, edgy, codeOf, keypointOf, ended, onStep, settleFrom, refineOf, Place}
+use Rattle.refine.specs.Keypoint.{float, contrastOf, codeOf, octaveWord, keypointWith, keypointOf, ended, onStep, settleFrom, refineOf, Place}
 use Rattle.refine.specs.Sound.{Number, Near, Sound}
 use Rattle.refine.specs.declared.Patch.{Patch}
 use Rattle.refine.specs.declared.Offset.{Offset}
@@ -30,7 +30,8 @@ use Rattle.refine.specs.declared.RawKeypoint.{RawKeypoint}
 use Rattle.refine.specs.declared.Refined.{Refined}
 use Rattle.refine.specs.declared.Refined.the-variants.{Dropped, At}
 use Rattle.refine.proofs.Counts.{and-first, and-second}
-use Rattle.refine.proofs.Codes.{code-le}
+use Rattle.refine.proofs.Codes.{code, code-le, code-cast, word-is}
+use Rattle.refine.proofs.Settled.{dropped-not, ended-at, ended-moves, few-moves}
 use Rattle.refine.proofs.Steps.{small-xi, small-xr, small-xc, step-stay, step-offset, step-go, place-moved}
 use Rattle.refine.proofs.Sized.{Within, within-finite, within-wider, limits-within, half-within, sub-within, mul-within, fma-within}
 use Rattle.refine.proofs.Asked.{asked-in, asked-power}
@@ -157,9 +158,11 @@ step-held w h layers p r c t o e =
 keypoint-sound : (w h n len : ℕ) (s : Settings) (octave m p r c : ℕ) (t : Patch) (o : Offset)
     → Place len w h n (s .layers) p r c → Accepted s octave → m < maxMoves → Read t → small o ≡ true → Held o
     → Sound w h s octave (keypointOf s octave m p r c t o)
-unfolding keypointOf
+unfolding keypointOf keypointWith
 keypoint-sound w h n len s octave m p r c t o a q l g k f =
-    let code = code-le (o .xi) (small-xi o k) in
+    let k8 = code (o .xi) (small-xi o k) in
+    let byte = code-le (o .xi) (small-xi o k) in
+    let word : octaveWord octave p (codeOf (o .xi)) ≡ octave + p * 2 ^ 8 + k8 * 2 ^ 16 = rw (← code-cast (o .xi) (small-xi o k)) (word-is octave p k8 (q .octave) (omega arith) byte) in
     let v = contrast-finite t o g k in
     let power = asked-power (s .layers) p (o .xi) (a .first) (omega arith) (a .many) (small-xi o k) in
     record {
@@ -170,9 +173,9 @@ keypoint-sound w h n len s octave m p r c t o a q l g k f =
       first = a .first;
       last = omega arith;
       moves = l;
-      low-byte = word-low octave p (codeOf (o .xi)) (q .octave);
-      next-byte = word-next octave p (codeOf (o .xi)) (q .octave) (omega arith);
-      third-byte = word-third octave p (codeOf (o .xi)) (q .octave) (omega arith) code;
+      low-byte = rw word (word-low octave p k8 (q .octave));
+      next-byte = rw word (word-next octave p k8 (q .octave) (omega arith));
+      third-byte = rw word (word-third octave p k8 (q .octave) (omega arith) byte);
       x-number = record { held = mul-fits binary32 _ _; ends = position-finite octave (q .octave) c (o .xc) (a .start) (omega arith) (small-xc o k) };
       y-number = record { held = mul-fits binary32 _ _; ends = position-finite octave (q .octave) r (o .xr) (a .top) (omega arith) (small-xr o k) };
       size-number = record { held = mul-fits binary32 _ _; ends = size-finite octave (q .octave) (narrowed (s .sigma)) _ (q .sigma) power };
@@ -192,26 +195,12 @@ keypoint-sound w h n len s octave m p r c t o a q l g k f =
 
 -- ---- every keypoint
 
-dropped-not : {A : Type 0} (k : RawKeypoint) → Dropped ≡ At k → A
-dropped-not k e = let z : _≡_ {A = ℕ} 0 1 = cc in absurd (omega arith)
-
-at-same : (k l : RawKeypoint) → At k ≡ At l → k ≡ l
-at-same k l e = cc
-
-ended-at : (s : Settings) (octave m p r c : ℕ) (t : Patch) (o : Offset) (k : RawKeypoint) → ended s octave m p r c t o ≡ At k → keypointOf s octave m p r c t o ≡ k
-unfolding ended
-ended-at s octave m p r c t o k e = go (dim s (contrastOf t o) || edgy s t) e
-  where
-    go : (b : Bool) → cond b Dropped (At (keypointOf s octave m p r c t o)) ≡ At k → keypointOf s octave m p r c t o ≡ k
-    go true e = dropped-not k e
-    go false e = at-same (keypointOf s octave m p r c t o) k e
-
-module _ (d : List Float) (w h n : ℕ) (s : Settings) (octave : ℕ) (q : Accepted s octave) (g : allGood d ≡ true) (k : RawKeypoint) where
-  settle-sound : (left m p r c : ℕ) → m + left ≤ maxMoves → Place (length d) w h n (s .layers) p r c → settleFrom d w h s octave left m p r c ≡ At k → Sound w h s octave k
+module _ (d : List Float) (w h n : ℕ) (s : Settings) (octave : ℕ) (q : Accepted s octave) (g : allGood d ≡ true) (k : RawKeypoint) (few : k .moves < maxMoves) where
+  settle-sound : (left m p r c : ℕ) → Place (length d) w h n (s .layers) p r c → settleFrom d w h s octave left m p r c ≡ At k → Sound w h s octave k
   unfolding settleFrom
-  settle-sound zero m p r c l a e = dropped-not k e
-  settle-sound (suc left) m p r c l a e =
-      go (λ p' r' c' b f. settle-sound left (m + 1) p' r' c' (omega arith) b f) (stepOf w h (s .layers) p r c (patchOf d w h p r c)) refl e
+  settle-sound zero m p r c a e = dropped-not k e
+  settle-sound (suc left) m p r c a e =
+      go (λ p' r' c' b f. settle-sound left (m + 1) p' r' c' b f) (stepOf w h (s .layers) p r c (patchOf d w h p r c)) refl e
     where
       go : ((p' r' c' : ℕ) → Place (length d) w h n (s .layers) p' r' c' → settleFrom d w h s octave left (m + 1) p' r' c' ≡ At k → Sound w h s octave k)
           → (step : Step) → stepOf w h (s .layers) p r c (patchOf d w h p r c) ≡ step
@@ -220,7 +209,7 @@ module _ (d : List Float) (w h n : ℕ) (s : Settings) (octave : ℕ) (q : Accep
       go later Lost i f = dropped-not k f
       go later (Stay o) i f =
           subst (λ (j : RawKeypoint). Sound w h s octave j) (ended-at s octave m p r c (patchOf d w h p r c) o k f)
-          (keypoint-sound w h n (length d) s octave m p r c (patchOf d w h p r c) o a q (omega arith) (read d w h n (s .layers) p r c a g) (step-stay w h (s .layers) p r c (patchOf d w h p r c) o i) (step-held w h (s .layers) p r c (patchOf d w h p r c) o i))
+          (keypoint-sound w h n (length d) s octave m p r c (patchOf d w h p r c) o a q (rw (← ended-moves s octave m p r c (patchOf d w h p r c) o k f) few) (read d w h n (s .layers) p r c a g) (step-stay w h (s .layers) p r c (patchOf d w h p r c) o i) (step-held w h (s .layers) p r c (patchOf d w h p r c) o i))
       go later (Go p' r' c') i f = later p' r' c' (place-moved a (step-go w h (s .layers) p r c (patchOf d w h p r c) p' r' c' i)) f
 
 -- the keypoint that a candidate is refined to, in a stack that the table accepts
@@ -228,4 +217,5 @@ pub refine-sound : (d : List Float) (w h n : ℕ) (s : Settings) (octave p r c :
     → Place (length d) w h n (s .layers) p r c → settingsWrong s octave ≡ false → allGood d ≡ true
     → refineOf d w h s octave p r c ≡ At k → Sound w h s octave k
 unfolding refineOf
-refine-sound d w h n s octave p r c k a q g e = settle-sound d w h n s octave (accepted s octave q) g k maxMoves 0 p r c (omega arith) a e
+refine-sound d w h n s octave p r c k a q g e =
+    settle-sound d w h n s octave (accepted s octave q) g k (few-moves d w h s octave p r c k e) maxMoves 0 p r c a e

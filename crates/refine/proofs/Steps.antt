@@ -4,10 +4,10 @@ use mathlib.Core.Path.{_≡_, refl, sym, ap, _∙_}
 use mathlib.Core.Bool.{Bool, true, false, _&&_, _||_, cond, true≢false, false≢true}
 use native.Mathlib.Omega.{arith}
 use lib.Ieee.{Float}
-use Rattle.ieee.specs.F32.{_<ᶠ_, _=ᶠ_, absOf}
+use Rattle.ieee.specs.F32.{_<ᶠ_, absOf}
 use Rattle.params.specs.Limits.{border}
 use Rattle.refine.specs.Fit.{slopeOf, bendOf, detOf, offsetOf}
-use Rattle.refine.specs.Moves.{nought, half, small, huge, moved, three, walk, stepOf}
+use Rattle.refine.specs.Moves.{half, small, huge, moved, three, walk, singular, stepOf}
 use Rattle.refine.specs.Keypoint.{Place}
 use Rattle.refine.specs.declared.Patch.{Patch}
 use Rattle.refine.specs.declared.Offset.{Offset}
@@ -103,7 +103,7 @@ module _ (w h layers p r c : ℕ) where
 
   pub step-stay : (t : Patch) (o : Offset) → stepOf w h layers p r c t ≡ Stay o → small o ≡ true
   unfolding stepOf
-  step-stay t o e = go (detOf (bendOf t) =ᶠ nought) e
+  step-stay t o e = go (singular (detOf (bendOf t))) e
     where
       go : (b : Bool) → cond b Lost (walk w h layers p r c (offsetOf (slopeOf t) (bendOf t) (detOf (bendOf t)))) ≡ Stay o → small o ≡ true
       go true k = let z : _≡_ {A = ℕ} 0 1 = cc in absurd (omega arith)
@@ -121,7 +121,7 @@ module _ (w h layers p r c : ℕ) where
 
   pub step-offset : (t : Patch) (o : Offset) → stepOf w h layers p r c t ≡ Stay o → o ≡ offsetOf (slopeOf t) (bendOf t) (detOf (bendOf t))
   unfolding stepOf
-  step-offset t o e = go (detOf (bendOf t) =ᶠ nought) e
+  step-offset t o e = go (singular (detOf (bendOf t))) e
     where
       go : (b : Bool) → cond b Lost (walk w h layers p r c (offsetOf (slopeOf t) (bendOf t) (detOf (bendOf t)))) ≡ Stay o
           → o ≡ offsetOf (slopeOf t) (bendOf t) (detOf (bendOf t))
@@ -130,7 +130,7 @@ module _ (w h layers p r c : ℕ) where
 
   pub step-go : (t : Patch) (p' r' c' : ℕ) → stepOf w h layers p r c t ≡ Go p' r' c' → Kept w h layers p' r' c'
   unfolding stepOf
-  step-go t p' r' c' e = go (detOf (bendOf t) =ᶠ nought) e
+  step-go t p' r' c' e = go (singular (detOf (bendOf t))) e
     where
       go : (b : Bool) → cond b Lost (walk w h layers p r c (offsetOf (slopeOf t) (bendOf t) (detOf (bendOf t)))) ≡ Go p' r' c' → Kept w h layers p' r' c'
       go true k = let z : _≡_ {A = ℕ} 0 1 = cc in absurd (omega arith)

@@ -1,4 +1,4 @@
--- The quadratic fit about a cell, operation by operation as `refine` of the source. Definitions only.
+-- The quadratic fit about a cell, rules D5 to D7, operation by operation as `refine` of the source. Definitions only.
 use Prim.Native.Nat.{ℕ, _+_, _-_}
 use mathlib.Core.List.{List}
 use lib.Ieee.{Float, neg}

@@ -1,16 +1,16 @@
--- Where a candidate settles, the tests of contrast and edge, and the keypoint's fields. Definitions only.
-use Prim.Native.Nat.{ℕ, zero, suc, _+_, _-_, _*_, _^_, _<_, _≤_}
+-- Where a candidate settles, the tests of contrast and edge, and the keypoint's fields: rules D12 to D16. Definitions only.
+use Prim.Native.Nat.{ℕ, zero, suc, _+_, _-_, _*_, _%_, _^_, _<_, _≤_}
 use mathlib.Core.Path.{_≡_}
 use mathlib.Core.Bool.{Bool, _||_, cond}
 use mathlib.Core.List.{List}
-use lib.IntN.{pos}
-use lib.Ieee.{Float, binary32, ofInt, toUnsigned}
-use Rattle.ieee.specs.F32.{_⊕_, _⊗_, _⊘_, _<ᶠ_, _≤ᶠ_, f32, fused, absOf, rounded, narrowed}
+use lib.IntN.{ℤ, pos, negsuc, _+ℤ_, _*ℤ_}
+use lib.Ieee.{Float, binary32, ofInt}
+use Rattle.ieee.specs.F32.{_⊕_, _⊗_, _⊘_, _<ᶠ_, _≤ᶠ_, f32, fused, absOf, narrowed}
 use Rattle.hal.specs.Exp.{exp2Of}
 use Rattle.params.specs.Limits.{border, maxSide, maxLayers, maxMoves}
 use Rattle.params.specs.declared.Settings.{Settings}
 use Rattle.refine.specs.Fit.{imgScale, one, two, patchOf, slopeOf, bendOf, mulSub}
-use Rattle.refine.specs.Moves.{nought, half, stepOf}
+use Rattle.refine.specs.Moves.{nought, half, cvRound, stepOf}
 use Rattle.refine.specs.declared.Patch.{Patch}
 use Rattle.refine.specs.declared.Offset.{Offset}
 use Rattle.refine.specs.declared.Step.{Step}
@@ -47,27 +47,40 @@ edgy s t =
     let et = narrowed (s .edge) in
     (det ≤ᶠ nought) || ((et ⊕ one) ⊗ (et ⊕ one) ⊗ det ≤ᶠ tr ⊗ tr ⊗ et)
 
--- (xi + 0.5) * 255, rounded: the third byte of the octave word
-unfoldable pub codeOf : Float → ℕ
-codeOf xi = toUnsigned 64 (rounded ((xi ⊕ half) ⊗ full))
+-- cv_round((xi + 0.5) * 255): how far between the layers, from 0 to 255 where xi is below 0.5 in magnitude
+unfoldable pub codeOf : Float → ℤ
+codeOf xi = cvRound ((xi ⊕ half) ⊗ full)
 
--- the fields of a keypoint that settled at (p, r, c) with the offset o after so many moves
-unfoldable pub keypointOf : Settings → ℕ → ℕ → ℕ → ℕ → ℕ → Patch → Offset → RawKeypoint
-keypointOf s octave moves p r c t o =
+-- a signed number as a word of 32 bits, in two's complement
+abbrev pub wordOf : ℤ → ℕ
+wordOf (pos n) = n % 2 ^ 32
+wordOf (negsuc n) = 2 ^ 32 - 1 - n % 2 ^ 32
+
+-- octave + (layer << 8) + (code << 16), rule D16
+unfoldable pub octaveWord : ℕ → ℕ → ℤ → ℕ
+octaveWord octave layer code = wordOf (pos octave +ℤ pos (layer * 2 ^ 8) +ℤ code *ℤ pos (2 ^ 16))
+
+-- the fields of a keypoint that settled at (p, r, c) with the offset o after so many moves, where its response is given
+unfoldable pub keypointWith : Settings → ℕ → ℕ → ℕ → ℕ → ℕ → Offset → Float → RawKeypoint
+keypointWith s octave moves p r c o response =
     let scale = float (2 ^ octave) in
     let power = exp2Of ((float p ⊕ o .xi) ⊘ float (s .layers)) in
     record {
       x = (float c ⊕ o .xc) ⊗ scale;
       y = (float r ⊕ o .xr) ⊗ scale;
       size = narrowed (s .sigma) ⊗ power ⊗ scale ⊗ two;
-      response = absOf (contrastOf t o);
-      octave = octave + p * 2 ^ 8 + codeOf (o .xi) * 2 ^ 16;
+      response = response;
+      octave = octaveWord octave p (codeOf (o .xi));
       layer = p;
       xi = o .xi;
       cc = c;
       rr = r;
       moves = moves;
     }
+
+-- its response is the magnitude of the contrast there
+unfoldable pub keypointOf : Settings → ℕ → ℕ → ℕ → ℕ → ℕ → Patch → Offset → RawKeypoint
+keypointOf s octave moves p r c t o = keypointWith s octave moves p r c o (absOf (contrastOf t o))
 
 -- what a settled cell gives: dropped by its contrast or its edge, or the keypoint
 unfoldable pub ended : Settings → ℕ → ℕ → ℕ → ℕ → ℕ → Patch → Offset → Refined

@@ -1,4 +1,4 @@
--- One step of the refinement: the cell is lost, stays, or moves by the rounded offsets. Definitions only.
+-- One step of the refinement, rules D8 to D11: the cell is lost, stays, or moves by the rounded offsets. Definitions only.
 use Prim.Native.Nat.{ℕ, _+_, _-_, _<_, _≤_}
 use mathlib.Core.Bool.{Bool, _&&_, _||_, cond}
 use lib.Dec.{leb, ltb}
@@ -32,6 +32,10 @@ small o = (absOf (o .xi) <ᶠ half) && ((absOf (o .xr) <ᶠ half) && (absOf (o .
 unfoldable pub huge : Offset → Bool
 huge o = (limit <ᶠ absOf (o .xi)) || ((limit <ᶠ absOf (o .xr)) || (limit <ᶠ absOf (o .xc)))
 
+-- the source's `cv_round`: to the nearest whole number, ties to even, then `as i32`, which stops at the ends of the range and takes a not-a-number as 0
+abbrev pub cvRound : Float → ℤ
+cvRound x = toI32 (rounded x)
+
 -- u, where it lies from lo to below hi
 unfoldable pub placed : ℕ → ℕ → ℤ → Moved
 placed lo hi (pos u) = cond (leb lo u && ltb u hi) (In u) Out
@@ -39,7 +43,7 @@ placed lo hi (negsuc u) = Out
 
 -- v moved by the rounded offset x; a not-a-number moves by 0
 unfoldable pub moved : ℕ → ℕ → ℕ → Float → Moved
-moved lo hi v x = placed lo hi (pos v +ℤ toI32 (rounded x))
+moved lo hi v x = placed lo hi (pos v +ℤ cvRound x)
 
 abbrev pub three : Moved → Moved → Moved → Step
 three (In p) (In r) (In c) = Go p r c
@@ -54,11 +58,15 @@ walk w h layers p r c o =
     (cond (huge o) Lost
     (three (moved 1 (layers + 1) p (o .xi)) (moved border (h - border) r (o .xr)) (moved border (w - border) c (o .xc))))
 
--- determinant 0: lost
+-- a fit with this determinant has no offset: it is 0
+abbrev pub singular : Float → Bool
+singular det = det =ᶠ nought
+
+-- such a cell is lost
 unfoldable pub stepOf : ℕ → ℕ → ℕ → ℕ → ℕ → ℕ → Patch → Step
 stepOf w h layers p r c t =
     let det = detOf (bendOf t) in
-    cond (det =ᶠ nought) Lost (walk w h layers p r c (offsetOf (slopeOf t) (bendOf t) det))
+    cond (singular det) Lost (walk w h layers p r c (offsetOf (slopeOf t) (bendOf t) det))
 
 -- (p, r, c) is a layer and a cell of a frame within the limits, at least the border from the edges
 pub record Spot (w h layers p r c : ℕ) : Type 0 where

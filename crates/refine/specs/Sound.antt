@@ -1,7 +1,8 @@
--- What holds of every keypoint that refinement gives, for a place, settings and samples that the table accepts. Definitions only.
+-- What holds of every keypoint that refinement gives: of all of them, and of those for a place, settings and samples that the table accepts. Definitions only.
 use Prim.Native.Nat.{ℕ, _+_, _-_, _*_, _/_, _%_, _^_, _<_, _≤_}
 use mathlib.Core.Path.{_≡_}
 use mathlib.Core.Bool.{true}
+use mathlib.Core.List.{List}
 use lib.Dec.{T}
 use lib.Ieee.{Float, binary32, fits}
 use lib.Ieee.Scale.{finite}
@@ -10,8 +11,13 @@ use Rattle.hal.specs.Exp.{inUp}
 use Rattle.params.specs.Limits.{border, maxMoves}
 use Rattle.params.specs.declared.Settings.{Settings}
 use Rattle.refine.specs.Moves.{nought, half}
-use Rattle.refine.specs.Keypoint.{float}
+use Rattle.refine.specs.Keypoint.{float, refineOf}
 use Rattle.refine.specs.declared.RawKeypoint.{RawKeypoint}
+use Rattle.refine.specs.declared.Refined.the-variants.{At}
+
+-- Rule D12, whatever the samples, the shape, the settings and the place: a keypoint settled after fewer moves than five, 0 to 4.
+abbrev pub FewMoves : Type 0
+FewMoves = (d : List Float) (w h : ℕ) (s : Settings) (octave p r c : ℕ) (k : RawKeypoint) → refineOf d w h s octave p r c ≡ At k → k .moves < maxMoves
 
 -- a finite value of an f32
 pub record Number (x : Float) : Type 0 where

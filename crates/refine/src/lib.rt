@@ -4,14 +4,14 @@ use params::Settings;
 ghost use mathlib.Core.Path.{_≡_};
 ghost use mathlib.Core.Bool.{true};
 ghost use Prim.Native.Nat.{ℕ, _+_, _-_, _*_, _^_, _<_, _≤_};
+ghost use lib.IntN.{pos};
 ghost use lib.ListN.{length};
 ghost use Rattle.ieee.specs.F32.{absOf, _<ᶠ_};
 ghost use Rattle.params.specs.Limits.{border, maxSide, maxLayers, maxOctave, maxMoves};
 ghost use Rattle.picture.specs.Stack.{Inside};
 ghost use Rattle.refine.specs.Fit.{patchOf, slopeOf, bendOf, mulSub, outer, detOf, offsetOf};
 ghost use Rattle.refine.specs.Moves.{half, small, huge, placed, moved, walk, stepOf, Spot};
-ghost use Rattle.refine.specs.declared.Patch.{Patch};
-ghost use Rattle.refine.specs.Keypoint.{float, contrastOf, dim, edgy, codeOf, keypointOf, ended, refineOf, Place};
+ghost use Rattle.refine.specs.Keypoint.{float, contrastOf, dim, edgy, codeOf, keypointWith, ended, refineOf, Place};
 
 // The nineteen samples that the fit reads: the middle plane's nine, and five of the plane before and of the plane after.
 pub struct Patch {
@@ -96,18 +96,18 @@ const BORDER: usize = 5;
 // A candidate that is not settled after so many moves is dropped.
 const MAX_MOVES: u32 = 5;
 
-// 1 / 255, half of it and a quarter of it.
+// The f32 nearest to 1 / 255, and half of it and a quarter of it, which are exact.
 const IMG_SCALE: f32 = 0.003921568859368563;
 
 const DERIV: f32 = 0.001960784429684281;
 
 const CROSS: f32 = 0.0009803922148421407;
 
-// The f32 value of 715,827,882.
+// The f32 nearest to 715,827,882, a third of the largest i32: 715,827,904. An offset up to it, rounded and added to a place, stays an i32 in the source.
 const LIM: f32 = 715827882.0;
 
 // The samples about (p, r, c).
-fn patch_at(dog: &[f32], w: usize, h: usize, n: usize, p: usize, r: usize, c: usize) -> Patch
+pub fn patch_at(dog: &[f32], w: usize, h: usize, n: usize, p: usize, r: usize, c: usize) -> Patch
     requires { ⌜ Inside (length (now dog)) w h n (p + 1) (r + 1) (c + 1) ⌝ }
     requires { ⌜ (0 < p) × (0 < r) × (0 < c) ⌝ }
     ensures { λ t. ⌜ t ≡ patchOf (now (dog .entry)) w h p r c ⌝ }
@@ -145,7 +145,7 @@ fn slope_of(t: Patch) -> Slope
     }
 }
 
-fn bend_of(t: Patch) -> Bend
+pub fn bend_of(t: Patch) -> Bend
     ensures { λ b. ⌜ b ≡ bendOf t ⌝ }
 {
     let v2 = t.im * 2.0;
@@ -173,7 +173,7 @@ fn outer3(p0: f32, p1: f32, q0: f32, q1: f32, r0: f32, r1: f32) -> f32
     ieee::mul_add(r0, r1, ieee::mul_add(p0, p1, -(q0 * q1)))
 }
 
-fn det_of(h: Bend) -> f32
+pub fn det_of(h: Bend) -> f32
     ensures { λ x. ⌜ x ≡ detOf h ⌝ }
 {
     let m0 = mul_sub(h.yy, h.ss, h.ys, h.ys);
@@ -266,7 +266,7 @@ fn walk_by(w: usize, h: usize, layers: usize, p: usize, r: usize, c: usize, o: O
 }
 
 // One step on the samples t: lost where the determinant is 0.
-fn step_of(w: usize, h: usize, layers: usize, p: usize, r: usize, c: usize, t: Patch) -> Step
+pub fn step_of(w: usize, h: usize, layers: usize, p: usize, r: usize, c: usize, t: Patch) -> Step
     requires { ⌜ Spot w h layers p r c ⌝ }
     ensures { λ s. ⌜ s ≡ stepOf w h layers p r c t ⌝ }
 {
@@ -279,7 +279,7 @@ fn step_of(w: usize, h: usize, layers: usize, p: usize, r: usize, c: usize, t: P
 }
 
 // The contrast at the offset.
-fn contrast_of(t: Patch, o: Offset) -> f32
+pub fn contrast_of(t: Patch, o: Offset) -> f32
     ensures { λ k. ⌜ k ≡ contrastOf t o ⌝ }
 {
     let g = slope_of(t);
@@ -288,7 +288,7 @@ fn contrast_of(t: Patch, o: Offset) -> f32
 }
 
 // The contrast times the layers is below the setting.
-fn is_dim(s: Settings, contrast: f32) -> bool
+pub fn is_dim(s: Settings, contrast: f32) -> bool
     requires { ⌜ s .layers ≤ maxLayers ⌝ }
     ensures { λ b. ⌜ b ≡ dim s contrast ⌝ }
 {
@@ -296,7 +296,7 @@ fn is_dim(s: Settings, contrast: f32) -> bool
 }
 
 // The plane's bend about the cell is that of an edge: determinant not above 0, or too small beside the trace.
-fn is_edgy(s: Settings, t: Patch) -> bool
+pub fn is_edgy(s: Settings, t: Patch) -> bool
     ensures { λ b. ⌜ b ≡ edgy s t ⌝ }
 {
     let b = bend_of(t);
@@ -322,10 +322,10 @@ fn scale_of(octave: u32) -> f32
     (1u64 << octave) as f32
 }
 
-// (xi + 0.5) * 255, rounded: the third byte of the octave word.
+// (xi + 0.5) * 255, rounded: the third byte of the octave word. It lies in 0 to 255, so that a cast without a sign gives what the source's signed one gives.
 fn code_of(xi: f32) -> u32
     requires { ⌜ (absOf xi <ᶠ half) ≡ true ⌝ }
-    ensures { λ k. ⌜ (k ≡ codeOf xi) × (k ≤ 255) ⌝ }
+    ensures { λ k. ⌜ (pos k ≡ codeOf xi) × (k ≤ 255) ⌝ }
 {
     std::num::truncating_f32_to_u64(ieee::round_ties_even((xi + 0.5) * 255.0)) as u32
 }
@@ -343,7 +343,7 @@ fn keypoint_of(
 ) -> RawKeypoint
     requires { ⌜ (octave ≤ maxOctave) × (s .layers ≤ maxLayers) × (p ≤ maxLayers) × (r ≤ maxSide) × (c ≤ maxSide) ⌝ }
     requires { ⌜ small o ≡ true ⌝ }
-    ensures { λ k. ⌜ ((t : Patch) → response ≡ absOf (contrastOf t o) → k ≡ keypointOf s octave moves p r c t o) ⌝ }
+    ensures { λ k. ⌜ k ≡ keypointWith s octave moves p r c o response ⌝ }
 {
     let scale = scale_of(octave);
     let power = hal::exp2((float(p) + o.xi) / float(s.layers));

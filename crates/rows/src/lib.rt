@@ -1,7 +1,7 @@
 // What a row of cells gives, as words, written as far as there is room.
 
 ghost use mathlib.Core.Path.{_≡_};
-ghost use Prim.Native.Nat.{_+_, _-_, _*_, _^_, _<_, _≤_};
+ghost use Prim.Native.Nat.{_+_, _-_, _*_, _^_, _<_, _≤_, min};
 ghost use lib.ListN.{length, set, take};
 ghost use lib.Seq.{sets};
 ghost use Rattle.params.specs.Threshold.{thresholdOf};
@@ -22,7 +22,9 @@ fn put_word(out: &mut [u32], at: usize, x: u32)
     }
 }
 
-// Writes the first m words of `from` at a place, as far as there is room.
+// Writes the first m words of `from` at a place, as far as there is room. The bounds on places, here and below, only keep a sum of places from wrapping.
+// A frame has at most 2^26 cells, so its keypoints take less than 2^30 words: behind a first place below 2^38 every row starts below 2^39. A row has at most 8,192 cells,
+// so its keypoints take less than 2^20 words: a block starts below 2^39 + 2^20, and each of its keypoints below 2^40.
 pub fn copy(from: &[u32], m: usize, out: &mut [u32], at: usize)
     requires { ⌜ (m ≤ length (now from)) × (at < 2 ^ 40) ⌝ }
     ensures { λ _. ⌜ now (out .exit) ≡ sets (now (out .entry)) at (take m (now (from .entry))) ⌝ }
@@ -52,7 +54,8 @@ fn put(out: &mut [u32], at: usize, k: RawKeypoint)
     copy(&row, 10, out, at);
 }
 
-// So many cells of a row are looked at before the first of them is searched.
+// So many cells of a row are looked at before the first of them is searched. Their samples and marks stay in the processor's nearest memory, and where none of so many
+// is loud, which is the rule in a calm frame, no mark is made. Any number above 0 would do.
 const BLOCK: usize = 64;
 
 // Finds the keypoints of the cells from column lo to below hi, which are marked, and writes their words from the place `from` on, as far as there is room.
@@ -142,7 +145,7 @@ fn block_words(
 // Where the block that starts at c ends: a whole block on, or at the end of the row's cells.
 fn block_end(c: usize, end: usize) -> usize
     requires { ⌜ c < end ⌝ }
-    ensures { λ to. ⌜ (c < to) × (to ≤ end) × (to ≤ c + 64) ⌝ }
+    ensures { λ to. ⌜ (to ≡ min (c + 64) end) × (c < to) × (to ≤ end) × (to ≤ c + 64) ⌝ }
 {
     if end - c > BLOCK { c + BLOCK } else { end }
 }

@@ -1,11 +1,12 @@
 use Prim.Native.Nat.{_-_}
+use mathlib.Core.Path.{_∙_}
 use native.Mathlib.Omega.{arith}
 use borrow.Author.Needs.{needs}
 use denote.Ref.{now}
 use Rattle.extrema.specs.Neighbours.{tied}
 use Rattle.extrema.proofs.Rows.{rows-few}
 use Rattle.extrema.proofs.Hints.{left-few}
-use Rattle.detect.proofs.Room.{total, at-most}
+use Rattle.detect.proofs.Room.{total, at-most, lacking-fits, lacking-more}
 use Rattle.detect.proofs.too_many.Statement.{statement}
 use Rattle.detect.proofs.too_many.Tie as tie
 
@@ -27,7 +28,7 @@ returns c =
     let a = c .before .before .before .args in
     let q = c .before .before .before .pre .1 .1 .1 in
     let m = at-most (now (a .dog)) (a .w) (a .h) (a .s) (a .octave) (a .p) (a .row) (a .held) (q .0 .0) (q .0 .1) (q .1) (a .threshold) (c .before .before .before .pre .1 .0) _ (c .before .most .ensures) in
-    (λ _. omega (arith, m, c .if1 .taken), λ z. absurd (omega arith))
+    lacking-fits _ _ (omega (arith, m, c .if1 .taken))
 
 slice-aggregate-fill : tie.Need-slice-aggregate-fill
 slice-aggregate-fill c = search needs
@@ -52,14 +53,14 @@ returns-2 c =
     let a = c .before .before .before .before .before .before .before .args in
     let q = c .before .before .before .before .before .before .before .pre .1 .1 .1 in
     let t = total (now (a .dog)) (a .w) (a .h) (a .s) (a .octave) (a .p) (a .row) (a .held) (q .0 .0) (q .0 .1) (q .1) _ (c .before .before .fill .ensures .0) in
-    (λ _. omega (arith, t, c .if2 .taken), λ z. absurd (omega arith))
+    lacking-fits _ _ (omega (arith, t, c .if2 .taken))
 
 returns-3 : tie.Need-returns-3
 returns-3 c =
     let a = c .before .before .before .before .before .before .before .args in
     let q = c .before .before .before .before .before .before .before .pre .1 .1 .1 in
     let t = total (now (a .dog)) (a .w) (a .h) (a .s) (a .octave) (a .p) (a .row) (a .held) (q .0 .0) (q .0 .1) (q .1) _ (c .before .before .fill .ensures .0) in
-    (λ z. omega (arith, t), λ _. (t, omega (arith, c .if2 .left)))
+    t ∙ lacking-more _ _ (omega (arith, t, c .if2 .left))
 
 pub too-many-spec : {M : Type 1} → statement M
 too-many-spec =

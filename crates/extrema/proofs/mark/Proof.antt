@@ -1,24 +1,24 @@
-use Prim.Native.Nat.{ℕ, _<_, _≤_, _-_}
-use mathlib.Core.Path.{_≡_, refl}
-use mathlib.Core.Bool.{false}
+use Prim.Native.Nat.{_≤_, _-_}
+use mathlib.Core.Path.{_≡_, ap, _∙_}
 use native.Mathlib.Omega.{arith}
 use borrow.Author.Needs.{needs}
 use denote.Ref.{now}
-use lib.ListN.{length, getD, length-set}
-use Rattle.extrema.specs.Hints.{hintAt}
-use Rattle.extrema.proofs.Hints.{mark-more}
+use lib.ListN.{length, length-set}
+use lib.Seq.{sets}
+use Rattle.extrema.specs.Hints.{looks}
+use Rattle.extrema.proofs.Looks.{marks-none, marks-more, marks-end}
 use Rattle.extrema.proofs.mark.Statement.{statement}
 use Rattle.extrema.proofs.mark.Tie as tie
 
 abbrev Inv-loop : tie.InvT-loop
 Inv-loop dog w h n threshold p r lo hi marks₀ c₀ marks c =
-    (lo ≤ c) × ((i : ℕ) → lo ≤ i → i < c → getD marks (i - lo) false ≡ hintAt threshold dog w h p r i) × (length marks ≡ 64)
+    (lo ≤ c) × (c - lo ≤ hi - lo) × (marks ≡ sets marks₀ 0 (looks threshold dog w h p r lo c)) × (length marks ≡ 64)
 
 abbrev μ-loop : tie.MeasureT-loop
 μ-loop dog w h n threshold p r lo hi marks₀ c₀ marks c = hi - c
 
 loop-holds : tie.Need-loop-holds Inv-loop μ-loop
-loop-holds c = (omega arith, λ i a b. absurd (omega arith), c .before .pre .1 .1)
+loop-holds c = (omega arith, omega arith, marks-none _ _ _ _ _ _ _ _, c .before .pre .1 .1)
 
 may-be-at-requires : tie.Need-may-be-at-requires Inv-loop μ-loop
 may-be-at-requires c κs = search needs
@@ -38,12 +38,12 @@ loop-less c = search needs
 loop-again : tie.Need-loop-again Inv-loop μ-loop
 loop-again c =
     let l = c .before .before .loop in
-    let a = c .before .before .before .before .args in
-    let room : l .c - a .lo < length (l .marks) = omega arith in
-    (omega arith, mark-more (hintAt (a .threshold) (now (a .dog)) (a .w) (a .h) (a .p) (a .r)) (l .marks) _ (a .lo) (l .c) (l .inv .0) room (c .may-be-at .ensures) (l .inv .1), simp length-set (l .inv .2))
+    (omega arith, omega arith, marks-more _ _ _ _ _ _ _ (l .c) _ _ _ (l .inv .0) (l .inv .2) (c .may-be-at .ensures), simp length-set (l .inv .3))
 
 returns : tie.Need-returns Inv-loop μ-loop
-returns c = λ i a b. c .before .loop .inv .1 i a (omega arith)
+returns c =
+    let l = c .before .loop in
+    l .inv .2 ∙ ap (sets _ 0) (marks-end _ _ _ _ _ _ _ (l .c) _ (l .inv .0) (omega arith))
 
 pub mark-spec : {M : Type 1} → statement M
 mark-spec =

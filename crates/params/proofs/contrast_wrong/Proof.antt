@@ -1,13 +1,14 @@
-use mathlib.Core.Path.{refl}
 use Rattle.params.specs.Table.{contrastWrong}
+use borrow.Author.Needs.{needs}
 use Rattle.params.proofs.contrast_wrong.Statement.{statement}
 use Rattle.params.proofs.contrast_wrong.Tie as tie
-use Rattle.params.proofs.contrast_wrong.Reads as reads
-use Rattle.params.proofs.contrast_wrong.Lts as lts
+
+is-within-requires : tie.Need-is-within-requires
+is-within-requires c κs = search needs
 
 returns : tie.Need-returns
 unfolding contrastWrong
-returns c = refl
+returns c = rw (c .is-within .ensures)
 
 pub contrast-wrong-spec : {M : Type 1} → statement M
-contrast-wrong-spec = tie.close (tie.spec returns)
+contrast-wrong-spec = tie.close (tie.spec is-within-requires returns)

@@ -22,7 +22,7 @@ mul-add-requires-3 c κs = search needs
 returns : tie.Need-returns
 unfolding contrastOf
 returns c =
-    rw (c .mul-add3 .ensures, c .before .mul-add2 .ensures, c .before .before .mul-add .ensures, c .before .before .before .before .before .slope-of .ensures)
+    rw (c .mul-add3 .ensures .0, c .before .mul-add2 .ensures .0, c .before .before .mul-add .ensures .0, c .before .before .before .before .before .slope-of .ensures)
 
 pub contrast-of-spec : {M : Type 1} → statement M
 contrast-of-spec =

@@ -1,7 +1,6 @@
 use mathlib.Core.Path.{ap, _∙_}
-use Rattle.ieee.specs.F32.{absOf}
 use Rattle.refine.specs.declared.Refined.the-variants.{At}
-use Rattle.refine.specs.Keypoint.{ended}
+use Rattle.refine.specs.Keypoint.{keypointWith, keypointOf, ended}
 use borrow.Author.Needs.{needs}
 use Rattle.refine.proofs.end_at.Statement.{statement}
 use Rattle.refine.proofs.end_at.Tie as tie
@@ -38,11 +37,11 @@ keypoint-of-requires : tie.Need-keypoint-of-requires
 keypoint-of-requires c κs = search needs
 
 returns-3 : tie.Need-returns-3
-unfolding ended
+unfolding ended keypointOf
 returns-3 c =
     let k = c .before .before .before .before .before .before .contrast-of .ensures in
     rw (← k, ← c .before .before .before .before .before .is-dim .ensures, c .before .before .before .before .if1 .left, ← c .before .before .before .is-edgy .ensures, c .before .before .if2 .left)
-    (ap At (c .keypoint-of .ensures (c .before .before .before .before .before .before .before .args .t) (c .before .abs .ensures ∙ ap absOf k)))
+    (ap At (c .keypoint-of .ensures ∙ ap (keypointWith _ _ _ _ _ _ _) (c .before .abs .ensures)))
 
 pub end-at-spec : {M : Type 1} → statement M
 end-at-spec =

@@ -20,7 +20,7 @@ narrow-requires c κs = search needs
 
 returns : tie.Need-returns
 unfolding dim
-returns c = rw (c .narrow .ensures, c .before .before .abs .ensures)
+returns c = rw (c .narrow .ensures .0, c .before .before .abs .ensures)
 
 pub is-dim-spec : {M : Type 1} → statement M
 is-dim-spec = tie.close (tie.spec abs-requires int-to-float-result narrow-requires returns)

@@ -19,7 +19,7 @@ narrow-requires c κs = search needs
 
 returns : tie.Need-returns
 unfolding edgy
-returns c = rw (c .narrow .ensures, c .before .mul-sub .ensures, c .before .before .before .bend-of .ensures)
+returns c = rw (c .narrow .ensures .0, c .before .mul-sub .ensures, c .before .before .before .bend-of .ensures)
 
 pub is-edgy-spec : {M : Type 1} → statement M
 is-edgy-spec = tie.close (tie.spec bend-of-requires mul-sub-requires narrow-requires returns)

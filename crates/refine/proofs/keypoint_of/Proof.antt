@@ -1,6 +1,8 @@
 use mathlib.Core.Path.{_≡_, refl}
-use Rattle.refine.specs.Keypoint.{keypointOf}
+use Rattle.refine.specs.Keypoint.{keypointWith}
+use Rattle.refine.proofs.Codes.{word-is}
 use Rattle.refine.proofs.Steps.{small-xi}
+use native.Mathlib.Omega.{arith}
 use borrow.Author.Needs.{needs}
 use Rattle.refine.proofs.keypoint_of.Statement.{statement}
 use Rattle.refine.proofs.keypoint_of.Tie as tie
@@ -61,10 +63,11 @@ cast-t29 : tie.Need-cast-t29
 cast-t29 c = search needs
 
 returns : tie.Need-returns
-unfolding keypointOf
-returns c t e =
+unfolding keypointWith
+returns c =
     let a = c .before .before .before .before .before .before .before .before .before .before in
-    rw (c .code-of .ensures .0, c .before .narrow .ensures, c .before .before .before .float4 .ensures, c .before .before .before .before .before .float3 .ensures, c .before .before .before .before .before .before .exp2 .ensures, c .before .before .before .before .before .before .before .float2 .ensures, c .before .before .before .before .before .before .before .before .before .float .ensures, a .scale-of .ensures, e)
+    let k = c .code-of .ensures in
+    rw (← k .0, word-is (a .before .args .octave) (a .before .args .p) (c .code-of .result) (omega arith) (omega arith) (k .1), c .before .narrow .ensures .0, c .before .before .before .float4 .ensures, c .before .before .before .before .before .float3 .ensures, c .before .before .before .before .before .before .exp2 .ensures, c .before .before .before .before .before .before .before .float2 .ensures, c .before .before .before .before .before .before .before .before .before .float .ensures, a .scale-of .ensures)
 
 pub keypoint-of-spec : {M : Type 1} → statement M
 keypoint-of-spec =

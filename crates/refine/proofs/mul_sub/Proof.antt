@@ -11,7 +11,7 @@ mul-add-requires c κs = search needs
 
 returns : tie.Need-returns
 unfolding mulSub
-returns c = c .mul-add .ensures
+returns c = c .mul-add .ensures .0
 
 pub mul-sub-spec : {M : Type 1} → statement M
 mul-sub-spec = tie.close (tie.spec mul-add-requires returns)

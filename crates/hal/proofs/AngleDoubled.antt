@@ -16,7 +16,7 @@ use lib.Ieee.Scale.{round-same}
 use lib.Ieee.Positive.{num, den, den-pos, first-pos}
 use Rattle.ieee.specs.F32.{absOf}
 use Rattle.hal.specs.Numbers.{nought, furthest}
-use Rattle.hal.specs.Angle.{slopeOf, lesserOf, greaterOf, nearOf, foldedOf, directionOf, levelOf, small, inAngle, angleOf}
+use Rattle.hal.specs.Angle.{ratioOf, nearOf, directionOf, levelOf, small, inAngle, angleOf}
 use Rattle.hal.specs.Rules.{double}
 use Rattle.hal.proofs.Range.{below-of}
 use Rattle.hal.proofs.AngleLaws.{angle-level, angle-direction}
@@ -162,19 +162,23 @@ greater-some : (p q c d : ℕ) → 0 < c → q * c ≤ p * d → 0 < p + q → 0
 greater-some zero q c d C l s = absurd (let z : q ≡ 0 = null q c C (let k : 0 * d ≡ 0 = zero-mul d in omega arith) in omega arith)
 greater-some (suc p) q c d C l s = omega arith
 
--- p / c and q / d, not both 0
-near-double : (x y x' y' : Float) (p c q d : ℕ) → 0 < c → 0 < d → 0 < p + q → HasValue x false p c → HasValue y false q d → HasValue x' false (p * 2) c → HasValue y' false (q * 2) d → nearOf x' y' ≡ nearOf x y
-unfolding nearOf
-near-double x y x' y' p c q d C D some hx hy hx' hy' = go (lt x y) refl
+-- The quotient of p / c and q / d, not both 0. What is left of the definition once the quotient is the same must be the same too.
+ratio-double : (x y x' y' : Float) (p c q d : ℕ) → 0 < c → 0 < d → 0 < p + q → HasValue x false p c → HasValue y false q d → HasValue x' false (p * 2) c → HasValue y' false (q * 2) d → ratioOf x' y' ≡ ratioOf x y
+unfolding ratioOf
+ratio-double x y x' y' p c q d C D some hx hy hx' hy' = go (lt x y) refl
   where
-    go : (t : Bool) → lt x y ≡ t → slopeOf (div binary32 (lesserOf x' y') (greaterOf x' y')) ≡ slopeOf (div binary32 (lesserOf x y) (greaterOf x y))
+    go : (t : Bool) → lt x y ≡ t → ratioOf x' y' ≡ ratioOf x y
     go true e =
         let l : p * d < q * c = ltb→lt (p * d) (q * c) (subst T (sym e ∙ lt-value x y p c q d C D hx hy) tt) in
         let Q : 0 < q = first-pos q c (lt-of-le-of-lt zero-le l) in
-        rw (lt-double x y x' y' p c q d C D hx hy hx' hy', e) (ap slopeOf (div-double x y x' y' p c q d C D hx hy hx' hy' Q))
+        rw (lt-double x y x' y' p c q d C D hx hy hx' hy', e, div-double x y x' y' p c q d C D hx hy hx' hy' Q)
     go false e =
         let l : q * c ≤ p * d = nltb→le (p * d) (q * c) (subst (λ (t : Bool). T (not t)) (sym e ∙ lt-value x y p c q d C D hx hy) tt) in
-        rw (lt-double x y x' y' p c q d C D hx hy hx' hy', e) (ap slopeOf (div-double y x y' x' q d p c D C hy hx hy' hx' (greater-some p q c d C l some)))
+        rw (lt-double x y x' y' p c q d C D hx hy hx' hy', e, div-double y x y' x' q d p c D C hy hx hy' hx' (greater-some p q c d C l some))
+
+near-double : (x y x' y' : Float) → ratioOf x' y' ≡ ratioOf x y → nearOf x' y' ≡ nearOf x y
+unfolding nearOf
+near-double x y x' y' e = rw e
 
 some-of : (dx dy : Float) → T (small (absOf dx)) → T (small (absOf dy)) → levelOf dx dy ≡ false → 0 < num dx + num dy
 unfolding levelOf
@@ -189,11 +193,8 @@ direction-double dx dy x y sx sy e =
     let a = size-value dx sx in
     let b = size-value dy sy in
     let l = lt-double (absOf dx) (absOf dy) (absOf (double dx)) (absOf (double dy)) (num dx) (den dx) (num dy) (den dy) (den-pos dx) (den-pos dy) a b (x .size) (y .size) in
-    let n = near-double (absOf dx) (absOf dy) (absOf (double dx)) (absOf (double dy)) (num dx) (den dx) (num dy) (den dy) (den-pos dx) (den-pos dy) (some-of dx dy sx sy e) a b (x .size) (y .size) in
-    ap (λ (z : Bool). foldedOf z (lt (double dx) nought) (lt (double dy) nought) (nearOf (absOf (double dx)) (absOf (double dy)))) l
-    ∙ ap (λ (z : Bool). foldedOf (lt (absOf dx) (absOf dy)) z (lt (double dy) nought) (nearOf (absOf (double dx)) (absOf (double dy)))) (x .sign)
-    ∙ ap (λ (z : Bool). foldedOf (lt (absOf dx) (absOf dy)) (lt dx nought) z (nearOf (absOf (double dx)) (absOf (double dy)))) (y .sign)
-    ∙ ap (foldedOf (lt (absOf dx) (absOf dy)) (lt dx nought) (lt dy nought)) n
+    let n = near-double (absOf dx) (absOf dy) (absOf (double dx)) (absOf (double dy)) (ratio-double (absOf dx) (absOf dy) (absOf (double dx)) (absOf (double dy)) (num dx) (den dx) (num dy) (den dy) (den-pos dx) (den-pos dy) (some-of dx dy sx sy e) a b (x .size) (y .size)) in
+    rw (l, n, x .sign, y .sign)
 
 -- the same bits, where all four lie in the range
 pub angle-double : (dx dy : Float) → T (fits binary32 dx) → T (fits binary32 dy) → T (inAngle dx dy) → T (inAngle (double dx) (double dy)) → angleOf (double dx) (double dy) ≡ angleOf dx dy

@@ -94,13 +94,16 @@ lower m e t =
       | inr u ↦ le-of-eq (sym (eqb→eq (1 * 2 ^ 5 * down e) (m * up e * 1) (and-l (eqb (1 * 2 ^ 5 * down e) (m * up e * 1)) (true || eqb (1 * 2 ^ 5 * down e) 0) u)))
     ] in omega arith
 
-down-product : (m : ℕ) (e : ℤ) → m * up e ≤ 32 * down e → Within 0 99141248320 (mul binary64 (fin false m e) downRate)
+-- 32 * rate is 99141248299.5.., and less 2 ^ 52 the start is 47 * 2 ^ 31 = 100931731456: what is left is 1790483156 at least
+down-product : (m : ℕ) (e : ℤ) → m * up e ≤ 32 * down e → Within 0 99141248300 (mul binary64 (fin false m e) downRate)
+unfolding mul
 down-product m e h =
-    mul-within binary64 (fin false m e) downRate 32 3098164010 0 0 (exact 0 (lit≤ tt)) (exact 99141248320 (lit≤ tt)) (le-trans (le-of-eq (zero-mul (down e))) zero-le, h) (lit≤ tt, lit≤ tt)
+    round-within binary64 0 99141248300 (m * up e * (3248660424278399 * 1)) (down e * 2 ^ 20) (mul-pos (down-pos e) (pow-pos 20)) (exact 0 (lit≤ tt)) (exact 99141248300 (lit≤ tt))
+    (le-trans (le-of-eq (zero-mul (down e * 2 ^ 20))) zero-le) (omega arith)
 
-down-sum : (q : Float) → Within 0 99141248320 q → Within 4503601417853632 4503700559101952 (sub binary64 downStart q)
+down-sum : (q : Float) → Within 0 99141248300 q → Within 4503601417853652 4503700559101952 (sub binary64 downStart q)
 down-sum q w =
-    sub-within binary64 downStart q 4503700559101952 0 99141248320 (lit≤ tt) (lit≤ tt) (exact 4503601417853632 (lit≤ tt)) (exact 4503700559101952 (lit≤ tt)) (lit≤ tt, lit≤ tt) w
+    sub-within binary64 downStart q 4503700559101952 0 99141248300 (lit≤ tt) (lit≤ tt) (exact 4503601417853652 (lit≤ tt)) (exact 4503700559101952 (lit≤ tt)) (lit≤ tt, lit≤ tt) w
 
 mul-neg : (m : ℕ) (e : ℤ) (n : ℕ) (d : ℤ) → mul binary64 (fin true m e) (fin false n d) ≡ neg (mul binary64 (fin false m e) (fin false n d))
 unfolding mul
@@ -114,16 +117,16 @@ down-nought : add binary64 downStart (fin false 0 (pos 0)) ≡ downStart
 unfolding add round
 down-nought = refl
 
-pub down-within : (x : Float) → T (inDown x) → Within 4503601417853632 4503700559101952 (add binary64 downStart (mul binary64 x downRate))
+pub down-within : (x : Float) → T (inDown x) → Within 4503601417853652 4503700559101952 (add binary64 downStart (mul binary64 x downRate))
 unfolding le
 down-within nan t = absurd t
 down-within (inf true) t = absurd t
 down-within (inf false) t = absurd t
 down-within (fin true m e) t =
-    subst (Within 4503601417853632 4503700559101952) (sym (ap (add binary64 downStart) (mul-neg m e 3248660424278399 (negsuc 19)) ∙ sub-is downStart (mul binary64 (fin false m e) downRate)))
+    subst (Within 4503601417853652 4503700559101952) (sym (ap (add binary64 downStart) (mul-neg m e 3248660424278399 (negsuc 19)) ∙ sub-is downStart (mul binary64 (fin false m e) downRate)))
     (down-sum (mul binary64 (fin false m e) downRate) (down-product m e (lower m e (and-l (le minus32 (fin true m e)) (le (fin true m e) nought) t))))
 down-within (fin false m e) t =
-    subst (Within 4503601417853632 4503700559101952) (sym (ap (add binary64 downStart) (mul-nought false m e 3248660424278399 (negsuc 19) (below-zero m e (and-r (le minus32 (fin false m e)) (le (fin false m e) nought) t))) ∙ down-nought))
+    subst (Within 4503601417853652 4503700559101952) (sym (ap (add binary64 downStart) (mul-nought false m e 3248660424278399 (negsuc 19) (below-zero m e (and-r (le minus32 (fin false m e)) (le (fin false m e) nought) t))) ∙ down-nought))
     (lit≤ tt, lit≤ tt)
 
 -- ---- less 2 ^ 52

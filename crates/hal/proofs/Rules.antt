@@ -38,6 +38,11 @@ pub named : (f32 0 ≡ nought) × (f32 0x3f800000 ≡ one) × (f32 0xbf800000 �
 unfolding ofBits
 named = (refl, refl, refl, refl, refl, refl, refl, refl, refl, refl, refl, refl, refl)
 
+-- ---- where exp's exponent starts and where it ends, as docs/ROUTINES.md says
+pub down-ends : (fixedOf downStart downRate minus32 ≡ 1790483156) × (fixedOf downStart downRate nought ≡ 47 * 2147483648)
+unfolding fixedOf toUnsigned add mul round
+down-ends = (refl, refl)
+
 in-of : (z lo hi : Float) (a b : ℕ) → HasValue lo false a 1 → HasValue hi false b 1 → Within a b z → In lo hi z
 in-of z lo hi a b h k w = record { least = ge-of z lo a b w h; most = le-of z hi a b w k }
 
@@ -194,16 +199,20 @@ near-fits : (a b : Float) → T (fits binary32 (nearOf a b))
 unfolding nearOf
 near-fits a b = slope-fits _
 
-below-fits : (w : Float) → T (fits binary32 w) → T (fits binary32 (belowOf w))
-unfolding belowOf
-below-fits w h = cond-fits binary32 (lt w last) w last h (unfold fits in tt)
+record Fit (x : Float) : Type 0 where
+  pub fit : T (fits binary32 x)
+
+held-fit : (t u w : Float) → Fit u → Fit w → Fit (cond (lt w t) w u)
+held-fit t u w a b = record { fit = cond-fits binary32 (lt w t) w u (b .fit) (a .fit) }
+
+below-fit : (w : Float) → Fit w → Fit (belowOf w)
+unfolding belowOf fits ofBits
+below-fit w b = held-fit _ _ w (record { fit = tt }) b
 
 folded-fits : (s l d : Bool) (q : Float) → T (fits binary32 q) → T (fits binary32 (foldedOf s l d q))
 unfolding foldedOf
 folded-fits s l d q h =
-    let p = mirrorOf s quarter q in
-    let r = mirrorOf l half p in
-    below-fits (mirrorOf d full r) (mirror-fits d full r (mirror-fits l half p (mirror-fits s quarter q h)))
+    below-fit _ (record { fit = mirror-fits _ _ _ (mirror-fits _ _ _ (mirror-fits _ _ _ h)) }) .fit
 
 direction-fits : (dx dy : Float) → T (fits binary32 (directionOf dx dy))
 unfolding directionOf

@@ -1,4 +1,4 @@
--- The magnitude of a pair: on the angle's range the square root of the fused dx * dx + (dy * dy). Definitions only.
+-- The magnitude of a pair, on the angle's range: the root of dx * dx, fused with the rounded dy * dy (rule F8). Definitions only.
 use mathlib.Core.Bool.{cond}
 use lib.Ieee.{Float, nan}
 use Rattle.ieee.specs.F32.{_⊗_, fused, rootOf}

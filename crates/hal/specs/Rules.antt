@@ -1,5 +1,5 @@
--- What document 01 asks of the routines ("Routines we add"), sentence by sentence, of the definitions beside this page; and what callers ask besides.
--- proofs/Rules.antt proves each: `table-rule : TableRule`, and so on. Accuracy is no statement here: hal_vectors measures it. Definitions only.
+-- What rules F3 to F8 ask of the routines, of the definitions beside this page; and what callers ask besides.
+-- proofs/Rules.antt proves each: `table-rule : TableRule`, and so on. Accuracy (rule F9) is no statement here: hal_vectors measures it. Definitions only.
 use mathlib.Core.Path.{_≡_}
 use mathlib.Core.Bool.{Bool, true, false}
 use Prim.Native.Nat.{ℕ, _+_, _*_, _/_, _%_, _^_, _≤_, _<_}
@@ -22,16 +22,15 @@ pub record In (lo hi r : Float) : Type 0 where
   pub least : T (lo ≤ᶠ r)
   pub most : T (r ≤ᶠ hi)
 
--- ---- the table
+-- ---- the table: rule F3
 pub record TableRule : Type 0 where
-  -- "a table of 256 entries"
   pub entries : length powers ≡ 256
-  -- "entry i the floor of 2^23 × 2^(i/256)": E^256 ≤ 2^(i + 5,888) < (E + 1)^256
+  -- entry i is the largest whole number that is not above 2 ^ (23 + i / 256)
   pub floor : (i : ℕ) → i < 256 → (entryOf i ^ 256 ≤ 2 ^ (i + 5888)) × (2 ^ (i + 5888) < (entryOf i + 1) ^ 256)
-  -- "2^24 follows the last"
+  -- and behind the last stands 2 ^ 24
   pub after : entryOf 256 ≡ 16777216
 
--- ---- exp2
+-- ---- exp2: rule F4
 
 -- the whole part of 256 * x. x lies from there to the next, in 256ths; the entries of the first 256 stand for 1 to 2, of the next for 2 to 4
 abbrev pub placeOf : Float → ℕ
@@ -42,32 +41,29 @@ unfoldable pub scaledEntry : ℕ → ℕ → Float
 scaledEntry i k = scaledOf (entryOf i) (104 + k)
 
 pub record Exp2Rule : Type 0 where
-  -- "its result lies between the two neighbouring entries, scaled"
+  -- the result is not below the entry of its place, scaled, and not above the next
   pub between : (x : Float) → T (inUp x) → In (scaledEntry (placeOf x % 256) (placeOf x / 256)) (scaledEntry (placeOf x % 256 + 1) (placeOf x / 256)) (exp2Of x)
-  -- "and is the scaled entry itself at multiples of 1/256"
+  -- where 256 * x is whole it is that entry, scaled
   pub at : (x : Float) → T (inUp x) → placeOf x * den x ≡ num x * 256 → exp2Of x ≡ scaledEntry (placeOf x % 256) (placeOf x / 256)
   pub scaled : (i k : ℕ) → i ≤ 256 → k ≤ 2 → HasValue (scaledEntry i k) false (entryOf i * 2 ^ k) (2 ^ 23)
   pub within : (x : Float) → T (inUp x) → In one four (exp2Of x)
   pub outside : (x : Float) → inUp x ≡ false → exp2Of x ≡ nan
   pub held : (x : Float) → T (fits binary32 (exp2Of x))
 
--- ---- exp
+-- ---- exp: rule F5
 pub record ExpRule : Type 0 where
-  -- "lies in 0 to 1"
   pub within : (x : Float) → T (inDown x) → In nought one (expOf x)
-  -- "and is 1 at zero": at both
+  -- 1 at zero, at both of them
   pub zero : (s : Bool) → expOf (fin s 0 (pos 0)) ≡ one
   pub above : (x : Float) → T (inDown x) → T (nought <ᶠ expOf x)
   pub outside : (x : Float) → inDown x ≡ false → expOf x ≡ nan
   pub held : (x : Float) → T (fits binary32 (expOf x))
 
--- ---- sine and cosine
+-- ---- sine and cosine: rule F6
 
 -- a function of degrees that is a, b, c, d at 0, 90, 180, 270, and a again at 360
 pub record TurnRule (f : Float → Float) (a b c d : Float) : Type 0 where
-  -- "lie in −1 to 1"
   pub within : (x : Float) → T (inTurn x) → In minusOne one (f x)
-  -- "are exact at quarter turns"
   pub at-0 : f nought ≡ a
   pub at-90 : f quarter ≡ b
   pub at-180 : f half ≡ c
@@ -82,7 +78,7 @@ SineRule = TurnRule sinOf nought one nought minusOne
 abbrev pub CosineRule : Type 0
 CosineRule = TurnRule cosOf one nought minusOne nought
 
--- ---- the angle
+-- ---- the angle: rule F7
 
 -- the quarter that the signs name, by whether dx and whether dy is negative: where it starts, and where it ends
 abbrev pub startOf : Bool → Bool → Float
@@ -101,26 +97,25 @@ abbrev pub double : Float → Float
 double x = x ⊕ x
 
 pub record AngleRule : Type 0 where
-  -- "lies in 0 to below 360"
+  -- from 0 on, and less than 360
   pub least : (dx dy : Float) → T (inAngle dx dy) → T (nought ≤ᶠ angleOf dx dy)
   pub below : (dx dy : Float) → T (inAngle dx dy) → T (angleOf dx dy <ᶠ full)
-  -- "and in the quarter that the two signs name"
+  -- between the ends of the quarter
   pub quarters : (dx dy : Float) → T (inAngle dx dy) → In (startOf (dx <ᶠ nought) (dy <ᶠ nought)) (endOf (dx <ᶠ nought) (dy <ᶠ nought)) (angleOf dx dy)
-  -- "is 0, 90, 180, 270 on the axes"
+  -- along the four half axes
   pub east : (dx dy : Float) → T (inAngle dx dy) → T (nought <ᶠ dx) → T (dy =ᶠ nought) → angleOf dx dy ≡ nought
   pub north : (dx dy : Float) → T (inAngle dx dy) → T (dx =ᶠ nought) → T (nought <ᶠ dy) → angleOf dx dy ≡ quarter
   pub west : (dx dy : Float) → T (inAngle dx dy) → T (dx <ᶠ nought) → T (dy =ᶠ nought) → angleOf dx dy ≡ half
   pub south : (dx dy : Float) → T (inAngle dx dy) → T (dx =ᶠ nought) → T (dy <ᶠ nought) → angleOf dx dy ≡ threeQuarters
-  -- "and 0 for (0, 0)"
+  -- (0, 0) has no direction, and the angle 0
   pub none : (dx dy : Float) → T (inAngle dx dy) → T (dx =ᶠ nought) → T (dy =ᶠ nought) → angleOf dx dy ≡ nought
-  -- "and keeps its bits when both are doubled within that range"
+  -- doubling both changes no bit
   pub doubled : (dx dy : Float) → T (fits binary32 dx) → T (fits binary32 dy) → T (inAngle dx dy) → T (inAngle (double dx) (double dy)) → angleOf (double dx) (double dy) ≡ angleOf dx dy
   pub outside : (dx dy : Float) → inAngle dx dy ≡ false → angleOf dx dy ≡ nan
   pub held : (dx dy : Float) → T (fits binary32 (angleOf dx dy))
 
--- ---- the magnitude
+-- ---- the magnitude: rule F8
 pub record MagnitudeRule : Type 0 where
-  -- "on the angle's range, is the square root of the fused dx × dx + (dy × dy)"
   pub root : (dx dy : Float) → T (inAngle dx dy) → magnitudeOf dx dy ≡ rootOf (fused dx dx (dy ⊗ dy))
   -- 2 ^ 22 is a bound that is never reached
   pub within : (dx dy : Float) → T (inAngle dx dy) → In nought (fin false 1 (pos 22)) (magnitudeOf dx dy)

@@ -27,7 +27,7 @@ pub fn table() -> [u32; 256]
     powers::POWERS
 }
 
-// Entry i, and 2^24 after the last.
+// Entry i, and 2^24 = 16777216 after the last.
 fn entry(t: &[u32; 256], i: usize) -> u32
     requires { ⌜ now t ≡ powers ⌝ }
     ensures { λ r. ⌜ r ≡ entryOf i ⌝ }
@@ -35,7 +35,7 @@ fn entry(t: &[u32; 256], i: usize) -> u32
     if i < 256 { t[i] } else { 16777216 }
 }
 
-// From entry i to the next, g / 2^23 of the way.
+// From entry i to the next, g / 2^23 of the way (2^23 = 8388608).
 fn mix(t: &[u32; 256], i: usize, g: u64) -> u32
     requires { ⌜ now t ≡ powers ⌝ ∗ ⌜ (i < 256) × (g ≤ 8388608) ⌝ }
     ensures { λ r. ⌜ r ≡ mixOf i g ⌝ }
@@ -45,7 +45,7 @@ fn mix(t: &[u32; 256], i: usize, g: u64) -> u32
     lo + ((((hi - lo) as u64) * g / 8388608) as u32)
 }
 
-// m times 2^(s - 127).
+// m times 2^(s - 127): s is the exponent field of the factor, and 2^23 moves it there. Below 255, here up to 200, it is a finite one; m up to 2^24 is exact.
 fn scaled(m: u32, s: u32) -> f32
     requires { ⌜ (m ≤ 16777216) × (s ≤ 200) ⌝ }
     ensures { λ r. ⌜ r ≡ scaledOf m s ⌝ }
@@ -53,7 +53,7 @@ fn scaled(m: u32, s: u32) -> f32
     (m as f32) * f32::from_bits(s * 8388608)
 }
 
-// 2^(v / 2^31), times 2^(s - 104).
+// 2^(v / 2^31), times 2^(s - 104). The last 31 bits of v are the place in the table, 8 for the entry and 23 for the way to the next; v goes up to 47 * 2^31 = 100931731456.
 fn power(t: &[u32; 256], s: u32, v: u64) -> f32
     requires { ⌜ now t ≡ powers ⌝ ∗ ⌜ (s ≤ 104) × (v ≤ 100931731456) ⌝ }
     ensures { λ r. ⌜ r ≡ powerOf s v ⌝ }
@@ -63,7 +63,7 @@ fn power(t: &[u32; 256], s: u32, v: u64) -> f32
     scaled(mix(t, i, v % 8388608), s + k)
 }
 
-// w - 2^52, of a w from 2^52 to below 2^53, where the last 52 bits of its pattern are just that.
+// w - 2^52, of a w from 2^52 = 4503599627370496 to below 2^53, where the last 52 bits of its pattern are just that.
 fn fixed(w: f64) -> u64
     requires { ⌜ T (inFixed w) ⌝ }
     ensures { λ r. ⌜ r ≡ toUnsigned 64 w - 4503599627370496 ⌝ }
@@ -78,6 +78,7 @@ fn within(x: f32, lo: f32, hi: f32) -> bool
     if lo <= x { x <= hi } else { false }
 }
 
+// Adding 2^52 rounds x * 2^31 to a whole number. 104 is the field of 2^-23, by which an entry (2^23 to 2^24) is scaled to 1 to 2.
 pub fn exp2_with(t: &[u32; 256], x: f32) -> f32
     requires { ⌜ now t ≡ powers ⌝ }
     ensures { λ r. ⌜ r ≡ exp2Of x ⌝ }
@@ -93,6 +94,8 @@ pub fn exp2_with(t: &[u32; 256], x: f32) -> f32
     }
 }
 
+// 3098164009.3597403 is log2(e) * 2^31. Since 32 * log2(e) is 46.2, the exponent is counted from -47: 4503700559101952 is 2^52 + 47 * 2^31, and what is handed on goes
+// from 1790483156, at -32, up to 47 * 2^31, at 0. 57 is 104 - 47.
 pub fn exp_with(t: &[u32; 256], x: f32) -> f32
     requires { ⌜ now t ≡ powers ⌝ }
     ensures { λ r. ⌜ r ≡ expOf x ⌝ }
@@ -139,7 +142,8 @@ fn turned(v: f32) -> f32
     if v > 0.0 { -v } else { 0.0 }
 }
 
-// The sine of a degrees, a in 0 to 90.
+// The sine of a degrees, a in 0 to 90. The odd polynomial of degree nine whose largest error on 0 to 90 is least (3.4e-9), its coefficients rounded to f32 and the first
+// one place higher, so that it passes 1 at 90 and is held there.
 fn arch(a: f32) -> f32
     ensures { λ r. ⌜ r ≡ archOf a ⌝ }
 {
@@ -194,7 +198,7 @@ pub fn cos(d: f32) -> f32
     }
 }
 
-// The angle in degrees whose tangent is t, t in 0 to 1.
+// The angle in degrees whose tangent is t, t in 0 to 1. The odd polynomial of degree eleven whose largest error on 0 to 1 is least (0.000096 degree), rounded to f32.
 fn slope(t: f32) -> f32
     ensures { λ r. ⌜ r ≡ slopeOf t ⌝ }
 {
@@ -216,7 +220,7 @@ fn mirror(c: bool, k: f32, q: f32) -> f32
     if c { k - q } else { q }
 }
 
-// w, or the largest value below 360.
+// w, or the largest value below 360, which is 360 - 2^-15.
 fn below(w: f32) -> f32
     ensures { λ r. ⌜ r ≡ belowOf w ⌝ }
 {
@@ -242,7 +246,7 @@ fn folded(steep: bool, left: bool, down: bool, q: f32) -> f32
     below(mirror(down, 360.0, mirror(left, 180.0, mirror(steep, 90.0, q))))
 }
 
-// Neither a nor b is a NaN or above 2^21.
+// Neither a nor b is a NaN or above 2^21 = 2097152, twice the largest sample.
 fn both_small(a: f32, b: f32) -> bool
     ensures { λ r. ⌜ r ≡ (small a && small b) ⌝ }
 {

@@ -1,6 +1,6 @@
 -- The answer and the lent words, by cases: room or none, a fault or none. Assumes nothing.
 use Prim.Native.Nat.{ℕ, zero, suc, _*_, _<_, _≤_, min}
-use mathlib.Core.Path.{_≡_, refl, sym, ap, _∙_}
+use mathlib.Core.Path.{_≡_, refl, sym, ap, _∙_, subst}
 use mathlib.Core.List.{List, map}
 use native.Mathlib.Omega.{arith}
 use borrow.Author.Tests.{le-leb, lt-leb}
@@ -14,10 +14,11 @@ use Rattle.refine.specs.declared.RawKeypoint.{RawKeypoint}
 use Rattle.tally.specs.Window.{cellsRead}
 use Rattle.peaks.specs.Found.{Holds}
 use Rattle.orient.specs.Entry.{windowAt, anglesAt, orientFault, orientedOf, orientedList, orientedWords, words, answeredWith, givenBack, orientAnswer, orientOut}
-use Rattle.orient.specs.Given.{roomFor, givenWith, leftWith}
+use Rattle.orient.specs.Given.{directionsOf, roomFor, givenWith, leftWith}
 use Rattle.orient.specs.declared.Directions.{Directions}
 use Rattle.orient.specs.declared.OrientAnswer.{OrientAnswer}
 use Rattle.orient.proofs.Words.{length-map}
+use Rattle.orient.proofs.Checks.{about-holds, about-read}
 
 -- ---- room
 room-yes : (d : Directions) (room : ℕ) → d .angles .count * 6 ≤ room → roomFor d room ≡ Done (d .angles .count)
@@ -59,7 +60,13 @@ module _ (img : List Float) (w h : ℕ) (k : RawKeypoint) where
   unfolding orientOut
   out-refused fault out e n = rw (refused fault (length out) e n)
 
-  module _ (d : Directions) (held : Holds (d .angles) (anglesAt img w h k)) (read : d .read ≡ cellsRead (windowAt w h k)) where
+  module _ (d : Directions) (found : d ≡ directionsOf img w h k) where
+    held : Holds (d .angles) (anglesAt img w h k)
+    held = subst (λ (x : Directions). Holds (x .angles) (anglesAt img w h k)) (sym found) (about-holds w h k img)
+
+    read : d .read ≡ cellsRead (windowAt w h k)
+    read = ap (λ (x : Directions). x .read) found ∙ about-read w h k img
+
     pub few : (d .angles .count ≤ 36) × (d .angles .count ≤ length (d .angles .all))
     few =
         let c = held .count in

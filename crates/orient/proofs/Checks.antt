@@ -19,13 +19,16 @@ use Rattle.tally.specs.Tally.{gatheredOf}
 use Rattle.tally.specs.declared.Gathered.{Gathered}
 use Rattle.tally.specs.declared.Window.{Window}
 use Rattle.peaks.specs.Peaks.{anglesOf}
-use Rattle.peaks.specs.Found.{Holds}
+use Rattle.peaks.specs.Found.{heldOf, Holds}
+use Rattle.peaks.proofs.Rules.{peak-rule}
 use Rattle.peaks.specs.declared.Angles.{Angles}
 use Rattle.tally.specs.Place.{Fits}
 use Rattle.tally.proofs.Values.{and-both}
 use Rattle.tally.proofs.Spans.{window-fits}
 use Rattle.orient.specs.Keypoint.{octaveIn, cellWrong, octaveWrong, floatsWrong, scaleOf, scaleWrong, keypointWrong}
 use Rattle.orient.specs.Entry.{windowAt, anglesAt, orientFault}
+use Rattle.orient.specs.Given.{directionsOf}
+use Rattle.orient.specs.declared.Directions.{Directions}
 use Rattle.orient.specs.Accepted.{Aimed, Ready}
 
 pub sides : (w h : ℕ) → shapeWrong w h ≡ false → (w ≤ maxSide) × (h ≤ maxSide)
@@ -77,11 +80,17 @@ module _ (w h : ℕ) (k : RawKeypoint) where
 
   module _ (img : List Float) where
     -- the angles of the tally that was gathered
-    pub about : (win : Window) (g : Gathered) (a : Angles) → win ≡ windowAt w h k → g ≡ gatheredOf img win → Holds a (anglesOf (g .tally .bins)) → Holds a (anglesAt img w h k) × (g .read ≡ cellsRead (windowAt w h k))
-    unfolding anglesAt gatheredOf
-    about win g a p q r =
-        let e : g ≡ gatheredOf img (windowAt w h k) = q ∙ ap (gatheredOf img) p in
-        (subst (λ (x : Gathered). Holds a (anglesOf (x .tally .bins))) e r, ap (λ (x : Gathered). x .read) e)
+    pub about : (win : Window) (g : Gathered) (a : Angles) → win ≡ windowAt w h k → g ≡ gatheredOf img win → a ≡ heldOf (anglesOf (g .tally .bins)) → record { angles = a; read = g .read } ≡ directionsOf img w h k
+    unfolding directionsOf anglesAt gatheredOf
+    about win g a p q r = rw (r, q, p)
+
+    pub about-holds : Holds (directionsOf img w h k .angles) (anglesAt img w h k)
+    unfolding directionsOf anglesAt
+    about-holds = peak-rule .held _
+
+    pub about-read : directionsOf img w h k .read ≡ cellsRead (windowAt w h k)
+    unfolding directionsOf
+    about-read = refl
 
     abbrev fault : ℕ
     fault = orientFault img w h k

@@ -1,4 +1,4 @@
--- What `assign_orientations` answers and leaves in the lent words. Definitions only.
+-- What `assign_orientations` answers and leaves in the lent words (rules A16 to A19, O11 and O12). Definitions only.
 use Prim.Native.Nat.{ℕ, _*_}
 use mathlib.Core.Bool.{not}
 use mathlib.Core.List.{List, [], _∷_, _++_, map}
@@ -23,7 +23,7 @@ use Rattle.orient.specs.declared.OrientAnswer.{OrientAnswer}
 unfoldable pub windowAt : ℕ → ℕ → RawKeypoint → Window
 windowAt width height k = windowOf width height (k .rr) (k .cc) (scaleOf k)
 
--- the checks in the order of the table; 2 and 4 have no argument here. Only the four neighbours of each sample in the window are tested.
+-- the checks in the order of rule A3: of the samples only the four neighbours of each cell that is read (rule A13; `tested` in tally/specs/Rules.antt says that it is those)
 unfoldable pub orientFault : List Float → ℕ → ℕ → RawKeypoint → ℕ
 orientFault img width height k =
     firstFault
@@ -46,7 +46,7 @@ orientedOf k angle =
 unfoldable pub orientedList : List Float → ℕ → ℕ → RawKeypoint → List OrientedKeypoint
 orientedList img width height k = map (orientedOf k) (anglesAt img width height k)
 
--- an oriented keypoint goes out as so many words
+-- an oriented keypoint goes out as so many words: rule A18
 abbrev pub orientedWords : ℕ
 orientedWords = 6
 

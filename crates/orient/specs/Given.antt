@@ -1,13 +1,19 @@
--- What the last step makes of the angles found: the answer, and the lent words. Definitions only.
+-- The angles found and the cells read, and what the last step makes of them: the answer, and the lent words. Definitions only.
 use Prim.Native.Nat.{ℕ, _*_}
 use mathlib.Core.List.{List, map}
 use lib.ListN.{length, take}
+use lib.Ieee.{Float}
 use Rattle.params.specs.Answers.{answerOf, landed}
 use Rattle.params.specs.declared.Answer.{Answer}
 use Rattle.refine.specs.declared.RawKeypoint.{RawKeypoint}
-use Rattle.orient.specs.Entry.{orientedOf, orientedWords, words, answeredWith}
+use Rattle.tally.specs.Window.{cellsRead}
+use Rattle.peaks.specs.Found.{heldOf}
+use Rattle.orient.specs.Entry.{windowAt, anglesAt, orientedOf, orientedWords, words, answeredWith}
 use Rattle.orient.specs.declared.Directions.{Directions}
 use Rattle.orient.specs.declared.OrientAnswer.{OrientAnswer}
+
+unfoldable pub directionsOf : List Float → ℕ → ℕ → RawKeypoint → Directions
+directionsOf img width height k = record { angles = heldOf (anglesAt img width height k); read = cellsRead (windowAt width height k) }
 
 unfoldable pub roomFor : Directions → ℕ → Answer
 roomFor d room = answerOf 0 (d .angles .count) (orientedWords * d .angles .count) room

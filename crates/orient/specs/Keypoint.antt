@@ -1,4 +1,4 @@
--- What orientation asks of a raw keypoint: number 5 of the table. Definitions only.
+-- What orientation asks of a raw keypoint: number 5, as rule A9 has it. Definitions only.
 use Prim.Native.Nat.{ℕ, _/_, _%_, _^_}
 use mathlib.Core.Bool.{Bool, _&&_, _||_, not}
 use lib.Dec.{leb, ltb}
@@ -11,11 +11,11 @@ use Rattle.refine.specs.Moves.{half}
 use Rattle.refine.specs.Keypoint.{float}
 use Rattle.refine.specs.declared.RawKeypoint.{RawKeypoint}
 
--- the cell must lie in the picture
+-- its cell is none of the picture's
 unfoldable pub cellWrong : ℕ → ℕ → RawKeypoint → Bool
 cellWrong width height k = not (ltb (k .rr) height && ltb (k .cc) width)
 
--- The octave word has 0 to 15 in its low byte, 1 to 15 in the next, 0 to 255 in the third, nothing above.
+-- the octave word's lowest bytes: rule A12
 abbrev pub octaveIn : ℕ → ℕ
 octaveIn word = word % 2 ^ 8
 
@@ -25,17 +25,17 @@ layerIn word = word / 2 ^ 8 % 2 ^ 8
 unfoldable pub octaveWrong : ℕ → Bool
 octaveWrong word = ltb maxOctave (octaveIn word) || (not (leb 1 (layerIn word) && leb (layerIn word) maxLayers) || leb (2 ^ 24) word)
 
--- all floats are finite
+-- a float is an infinity or a not-a-number
 unfoldable pub floatsWrong : RawKeypoint → Bool
 floatsWrong k = not (finite (k .x) && (finite (k .y) && (finite (k .size) && (finite (k .response) && finite (k .xi)))))
 
--- the scale, size × 0.5 / 2^octave, lies in 0.125 to 64
+-- the scale in the keypoint's own octave: rule O1
 unfoldable pub scaleOf : RawKeypoint → Float
 scaleOf k = k .size ⊗ half ⊘ float (2 ^ octaveIn (k .octave))
 
 unfoldable pub scaleWrong : RawKeypoint → Bool
 scaleWrong k = not (within scaleLow scaleHigh (scaleOf k))
 
--- 5: a field is outside its range. The fields layer and moves are free.
+-- any of these; layer and moves are not looked at
 unfoldable pub keypointWrong : ℕ → ℕ → RawKeypoint → Bool
 keypointWrong width height k = cellWrong width height k || (octaveWrong (k .octave) || (floatsWrong k || scaleWrong k))

@@ -12,11 +12,9 @@ ghost use lib.Ieee.{Float};
 ghost use lib.ListN.{length, take};
 ghost use Rattle.lists.specs.Pasted.{pasted};
 ghost use Rattle.params.specs.Limits.{maxOctave};
-ghost use Rattle.peaks.specs.Found.{Holds};
-ghost use Rattle.tally.specs.Window.{cellsRead};
 ghost use Rattle.orient.specs.Keypoint.{cellWrong, octaveIn, octaveWrong, floatsWrong, scaleOf, scaleWrong, keypointWrong};
-ghost use Rattle.orient.specs.Entry.{windowAt, orientFault, anglesAt, orientedOf, orientedWords, wordsOf, words, orientAnswer, orientOut};
-ghost use Rattle.orient.specs.Given.{givenWith, leftWith};
+ghost use Rattle.orient.specs.Entry.{windowAt, orientFault, orientedOf, orientedWords, wordsOf, words, orientAnswer, orientOut};
+ghost use Rattle.orient.specs.Given.{directionsOf, givenWith, leftWith};
 ghost use Rattle.orient.specs.Accepted.{Aimed, Ready};
 
 // A keypoint with an angle, in degrees.
@@ -169,7 +167,7 @@ pub struct Directions {
 
 fn angles_about(img: &[f32], w: usize, h: usize, k: RawKeypoint) -> Directions
     requires { ⌜ Ready (length (now img)) w h k ⌝ }
-    ensures { λ d. ⌜ Holds (d .angles) (anglesAt (now (img .entry)) w h k) × (d .read ≡ cellsRead (windowAt w h k)) ⌝ }
+    ensures { λ d. ⌜ d ≡ directionsOf (now (img .entry)) w h k ⌝ }
 {
     let g = tally::tally_of(img, window_at(w, h, k));
     let t = g.tally;

@@ -1,16 +1,16 @@
 -- The law of orientation's angles that specs/Rules.antt states. Assumes nothing.
 use Prim.Native.Nat.{ℕ, zero, suc, _+_, _-_, _*_, _/_, _%_, _^_, _<_, _≤_}
 use mathlib.Core.Path.{_≡_, refl, sym, ap, _∙_, subst}
-use mathlib.Core.Bool.{Bool, true, false, not, _&&_, cond, false≢true}
+use mathlib.Core.Bool.{Bool, true, false, not, _&&_, _||_, cond, Bool·beq, false≢true}
 use mathlib.Core.List.{List, [], _∷_, _++_, map}
-use mathlib.Core.Logic.{_⊎_, ⊎-elim}
+use mathlib.Core.Logic.{_⊎_, inl, inr, ⊎-elim}
 use native.Mathlib.Omega.{arith}
-use native.Mathlib.Nat.{one-mul, mul-pos}
+use native.Mathlib.Nat.{one-mul, zero-mul, mul-pos, mul-right-comm, eq-of-mul-eq-mul-right}
 use borrow.Author.Tests.{eqb-true, not-false, le-ltb}
-use lib.Dec.{T, lit≤}
+use lib.Dec.{T, eqb, lit≤}
 use lib.ListN.{length, getD, length-append, List·getD-append, List·getD-map}
 use lib.Seq.{getD-append-add}
-use lib.IntN.{pos}
+use lib.IntN.{ℤ, pos}
 use lib.Ieee.{Float, nan, inf, fin, binary32, up, down, sum, neg, add, sub, lt, le, eq, ofBits}
 use lib.Ieee.Bits.{is-true}
 use lib.Ieee.Fits.{down-pos}
@@ -26,8 +26,9 @@ use Rattle.lists.proofs.Ranges.{joined-start, joined-more, joined-empty}
 use Rattle.params.specs.Table.{firstFault, line, shapeWrong, lengthWrong}
 use Rattle.refine.specs.declared.RawKeypoint.{RawKeypoint}
 use Rattle.hal.specs.Numbers.{one}
-use Rattle.hal.specs.Angle.{inAngle}
+use Rattle.hal.specs.Angle.{small, inAngle}
 use Rattle.hal.specs.Rules.{In}
+use Rattle.hal.proofs.AngleValues.{null}
 use Rattle.hal.proofs.Rules.{exp-rule, magnitude-rule}
 use Rattle.picture.specs.Stack.{sample}
 use Rattle.picture.proofs.Index.{index}
@@ -36,7 +37,6 @@ use Rattle.tally.specs.Sample.{slopeAt, weightAt, windowGood}
 use Rattle.tally.specs.Tally.{sampleOf, tallyOf}
 use Rattle.tally.specs.Place.{Placed, cellAt}
 use Rattle.tally.specs.declared.Window.{Window}
-use Rattle.tally.specs.declared.Slope.{Slope}
 use Rattle.tally.proofs.Cells.{placed, placed-at}
 use Rattle.tally.proofs.Cells as cells
 use Rattle.tally.proofs.Rules.{tally-rule}
@@ -157,13 +157,92 @@ zero-level : eq nil nought ≡ true
 unfolding ofBits eq
 zero-level = refl
 
--- a difference with itself is 0, where it is in the angle's range
-self-level : (v : Float) → inAngle (v ⊖ v) (v ⊖ v) ≡ true → eq (v ⊖ v) nought ≡ true
-unfolding sub neg add absOf le lt
-self-level nan h = absurd (false≢true h)
-self-level (inf true) h = absurd (false≢true h)
-self-level (inf false) h = absurd (false≢true h)
-self-level (fin s m e) h = rw (self-zero s (m * up e * down e) (down e * down e) (mul-pos (down-pos e) (down-pos e))) zero-level
+-- two that equal the same number have the difference 0, where it is in the angle's range
+sum-none : (s t : Bool) (c : ℕ) → 0 < c → eq (sum binary32 s 0 t 0 c) nought ≡ true
+unfolding sum eq ofBits
+sum-none true true c C = rw (round-zero binary32 true (0 + 0) c C refl) refl
+sum-none true false c C = rw (round-zero binary32 false (0 - 0) c C refl) refl
+sum-none false true c C = rw (round-zero binary32 false (0 - 0) c C refl) refl
+sum-none false false c C = rw (round-zero binary32 false (0 + 0) c C refl) refl
+
+like : (s t : Bool) → Bool·beq s t ≡ true → s ≡ t
+like true true h = refl
+like true false h = absurd (false≢true h)
+like false true h = absurd (false≢true h)
+like false false h = refl
+
+either : (a b : Bool) → (a || b) ≡ true → (a ≡ true) ⊎ (b ≡ true)
+either true b h = inl refl
+either false b h = inr h
+
+eq-fin : (s : Bool) (m : ℕ) (e : ℤ) (t : Bool) (n : ℕ) (d : ℤ) → eq (fin s m e) (fin t n d) ≡ true → (m * up e * down d ≡ n * up d * down e) × ((s ≡ t) ⊎ (m * up e * down d ≡ 0))
+unfolding eq
+eq-fin s m e t n d h =
+    let p = and-both (eqb (m * up e * down d) (n * up d * down e)) _ h in
+    (eqb-true (m * up e * down d) (n * up d * down e) (p .0), ⊎-elim (λ q. inl (like s t q)) (λ q. inr (eqb-true (m * up e * down d) 0 q)) (either (Bool·beq s t) _ (p .1)))
+
+-- a / e, b / d and o / g are one fraction
+module _ (a e b d o g : ℕ) (E : 0 < e) (D : 0 < d) (G : 0 < g) (p : a * g ≡ o * e) (q : b * g ≡ o * d) where
+  same-size : a * d ≡ b * e
+  same-size =
+      eq-of-mul-eq-mul-right g G (a * d) (b * e)
+      (mul-right-comm a d g ∙ ap (λ (z : ℕ). z * d) p ∙ mul-right-comm o e d ∙ ap (λ (z : ℕ). z * e) (sym q) ∙ mul-right-comm b g e)
+
+  none-left : a * g ≡ 0 → (a ≡ 0) × (b ≡ 0)
+  none-left z =
+      let x : a ≡ 0 = null a g G z in
+      let y : o ≡ 0 = null o e E (sym p ∙ z) in
+      (x, null b g G (q ∙ ap (λ (z : ℕ). z * d) y ∙ zero-mul d))
+
+  none-right : b * g ≡ 0 → (a ≡ 0) × (b ≡ 0)
+  none-right z =
+      let y : o ≡ 0 = null o d D (sym q ∙ z) in
+      (null a g G (p ∙ ap (λ (z : ℕ). z * e) y ∙ zero-mul e), null b g G z)
+
+self-sum : (s t u : Bool) (a b c : ℕ) → 0 < c → s ≡ u → t ≡ u → a ≡ b → eq (sum binary32 s a (not t) b c) nought ≡ true
+self-sum s t u a b c C x y e =
+    subst (λ (v : Bool). eq (sum binary32 v a (not t) b c) nought ≡ true) (sym x)
+    (subst (λ (v : Bool). eq (sum binary32 u a (not v) b c) nought ≡ true) (sym y)
+    (subst (λ (n : ℕ). eq (sum binary32 u a (not u) n c) nought ≡ true) e (ap (λ (z : Float). eq z nought) (self-zero u a c C) ∙ zero-level)))
+
+level-sum : (s t u : Bool) (a e b d o g : ℕ) → 0 < e → 0 < d → 0 < g → (a * g ≡ o * e) × ((s ≡ u) ⊎ (a * g ≡ 0)) → (b * g ≡ o * d) × ((t ≡ u) ⊎ (b * g ≡ 0)) → eq (sum binary32 s (a * d) (not t) (b * e) (e * d)) nought ≡ true
+level-sum s t u a e b d o g E D G p q =
+    ⊎-elim
+    (λ x. ⊎-elim
+    (λ y. self-sum s t u (a * d) (b * e) (e * d) (mul-pos E D) x y (same-size a e b d o g E D G (p .0) (q .0)))
+    (λ y. none (none-right a e b d o g E D G (p .0) (q .0) y))
+    (q .1))
+    (λ x. none (none-left a e b d o g E D G (p .0) (q .0) x))
+    (p .1)
+  where
+    none : (a ≡ 0) × (b ≡ 0) → eq (sum binary32 s (a * d) (not t) (b * e) (e * d)) nought ≡ true
+    none z = rw (z .0, z .1, zero-mul d, zero-mul e) (sum-none s (not t) (e * d) (mul-pos E D))
+
+sub-fin : (s : Bool) (m : ℕ) (e : ℤ) (t : Bool) (n : ℕ) (d : ℤ) → fin s m e ⊖ fin t n d ≡ sum binary32 s (m * up e * down d) (not t) (n * up d * down e) (down e * down d)
+unfolding sub neg add
+sub-fin s m e t n d = refl
+
+level-fin : (s : Bool) (m : ℕ) (e : ℤ) (t : Bool) (n : ℕ) (d : ℤ) (u : Bool) (o : ℕ) (g : ℤ) → eq (fin s m e) (fin u o g) ≡ true → eq (fin t n d) (fin u o g) ≡ true → eq (fin s m e ⊖ fin t n d) nought ≡ true
+level-fin s m e t n d u o g p q =
+    rw (sub-fin s m e t n d) (level-sum s t u (m * up e) (down e) (n * up d) (down d) (o * up g) (down g) (down-pos e) (down-pos d) (down-pos g) (eq-fin s m e u o g p) (eq-fin t n d u o g q))
+
+level-pair : (x y v : Float) → small (absOf (x ⊖ y)) ≡ true → eq x v ≡ true → eq y v ≡ true → eq (x ⊖ y) nought ≡ true
+unfolding sub neg add absOf le lt eq
+level-pair nan y v r p q = absurd (false≢true p)
+level-pair (inf true) nan v r p q = absurd (false≢true q)
+level-pair (inf true) (inf true) v r p q = absurd (false≢true r)
+level-pair (inf true) (inf false) v r p q = absurd (false≢true r)
+level-pair (inf true) (fin t n d) v r p q = absurd (false≢true r)
+level-pair (inf false) nan v r p q = absurd (false≢true q)
+level-pair (inf false) (inf true) v r p q = absurd (false≢true r)
+level-pair (inf false) (inf false) v r p q = absurd (false≢true r)
+level-pair (inf false) (fin t n d) v r p q = absurd (false≢true r)
+level-pair (fin s m e) nan v r p q = absurd (false≢true q)
+level-pair (fin s m e) (inf true) v r p q = absurd (false≢true r)
+level-pair (fin s m e) (inf false) v r p q = absurd (false≢true r)
+level-pair (fin s m e) (fin t n d) nan r p q = absurd (false≢true p)
+level-pair (fin s m e) (fin t n d) (inf u) r p q = absurd (false≢true p)
+level-pair (fin s m e) (fin t n d) (fin u o g) r p q = level-fin s m e t n d u o g p q
 
 -- ---- accepted arguments
 in-bounds : {lo hi r : Float} → finite lo ≡ true → finite hi ≡ true → In lo hi r → Bounds lo hi r
@@ -251,31 +330,31 @@ module _ (img : List Float) (w h : ℕ) (k : RawKeypoint) (fine : orientFault im
     none-still = ap (map (orientedOf k)) (no-angle (tallyOf img win .bins) (tally-filled nil nil bare img win light))
 
   -- ---- a level picture
-  module _ (v : Float) (same : (i : ℕ) → i < length img → getD img i nan ≡ v) where
+  module _ (v : Float) (same : (i : ℕ) → i < length img → eq (getD img i nan) v ≡ true) where
     one-plane : length img ≡ 1 * h * w
     one-plane = same-length ∙ ap (λ (n : ℕ). n * w) (sym (one-mul h))
 
-    at : (y x : ℕ) → y < h → x < w → sample img w h 0 y x ≡ v
+    at : (y x : ℕ) → y < h → x < w → eq (sample img w h 0 y x) v ≡ true
     unfolding sample
     at y x c d = same ((0 * h + y) * w + x) (index {n = 1} {p = 0} {r = y} {c = x} (record { whole = one-plane; plane = omega arith; row = c; column = d }) .below)
 
-    level-slope : (y x : ℕ) → Placed (length img) win y x → slopeAt img win (cell y x) ≡ record { dx = v ⊖ v; dy = v ⊖ v }
+    level-slope : (y x : ℕ) → Placed (length img) win y x → inAngle (slopeAt img win (cell y x) .dx) (slopeAt img win (cell y x) .dy) ≡ true → Still (slopeAt img win (cell y x))
     unfolding slopeAt windowAt windowOf
-    level-slope y x p =
+    level-slope y x p r =
         let up = p .up in
         let down = p .down in
         let left = p .left in
         let right = p .right in
-        rw (at y (x + 1) (omega arith) right, at y (x - 1) (omega arith) (omega arith), at (y - 1) x (omega arith) (omega arith), at (y + 1) x down (omega arith))
+        let q = and-both (small (absOf (sample img w h 0 y (x + 1) ⊖ sample img w h 0 y (x - 1)))) (small (absOf (sample img w h 0 (y - 1) x ⊖ sample img w h 0 (y + 1) x))) r in
+        record {
+          dx = level-pair _ _ v (q .0) (at y (x + 1) (omega arith) right) (at y (x - 1) (omega arith) (omega arith));
+          dy = level-pair _ _ v (q .1) (at (y - 1) x (omega arith) (omega arith)) (at (y + 1) x down (omega arith));
+        }
 
     all-still : (i j : ℕ) → i < win .rows → j < win .cols → Still (slopeAt img win (cell (win .top + i) (win .left + j)))
     all-still i j a b =
         let f = ready-fits w h k (length img) (record { whole = same-length; aimed = aim }) in
-        let e = level-slope (win .top + i) (win .left + j) (placed f i j a b) in
-        let q = tally-rule .slopes img win i j (right .good) a b in
-        let r : inAngle (v ⊖ v) (v ⊖ v) ≡ true = subst (λ (s : Slope). inAngle (s .dx) (s .dy) ≡ true) e q in
-        let z = self-level v r in
-        subst Still (sym e) (record { dx = z; dy = z })
+        level-slope (win .top + i) (win .left + j) (placed f i j a b) (tally-rule .slopes img win i j (right .good) a b)
 
     none-level : orientedList img w h k ≡ []
     none-level = none-still all-still

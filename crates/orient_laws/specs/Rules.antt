@@ -47,6 +47,6 @@ pub record AnglesRule : Type 0 where
   pub still : (img : List Float) (width height : ℕ) (k : RawKeypoint) → orientFault img width height k ≡ 0
       → ((i j : ℕ) → i < windowAt width height k .rows → j < windowAt width height k .cols → Still (slopeAt img (windowAt width height k) (cell (windowAt width height k .top + i) (windowAt width height k .left + j))))
       → orientedList img width height k ≡ []
-  -- so does a level picture
+  -- so does a level picture: all of its samples equal one number, +0 and −0 being equal
   pub level : (img : List Float) (width height : ℕ) (k : RawKeypoint) (v : Float) → orientFault img width height k ≡ 0
-      → ((i : ℕ) → i < length img → getD img i nan ≡ v) → orientedList img width height k ≡ []
+      → ((i : ℕ) → i < length img → (getD img i nan =ᶠ v) ≡ true) → orientedList img width height k ≡ []

@@ -5,15 +5,15 @@ use mathlib.Core.Bool.{Bool, true, false, cond}
 use mathlib.Core.List.{List, [], _∷_, _++_, append-nil}
 use native.Mathlib.Omega.{arith}
 use native.Mathlib.Numerals.{add-one}
-use lib.ListN.{length, take, drop, set, getD, length-append, drop-of-length-le}
+use lib.ListN.{length, take, drop, set, getD, replicate, length-append, drop-of-length-le}
 use lib.Seq.{take-at}
 use lib.Ieee.{Float, nan}
 use Rattle.lists.specs.Ranges.{joined}
 use Rattle.lists.specs.Pasted.{pasted}
 use Rattle.lists.proofs.Ranges.{joined-start, joined-more}
 use Rattle.lists.proofs.Pasted.{pasted-none, pasted-append, pasted-one, length-pasted}
-use Rattle.peaks.specs.Peaks.{bins, largestTo, largerOf, leastOf, isPeak, peakAngle, peakOf, anglesIn}
-use Rattle.peaks.specs.Found.{Holds}
+use Rattle.peaks.specs.Peaks.{bins, nought, largestTo, largerOf, leastOf, isPeak, peakAngle, peakOf, anglesIn}
+use Rattle.peaks.specs.Found.{heldOf, Holds}
 use Rattle.peaks.specs.declared.Angles.{Angles}
 
 -- one more value behind those written
@@ -100,12 +100,15 @@ pub peak-none : (h : List Float) (least : Float) (j : ℕ) (b : Bool) → b ≡ 
 unfolding peakOf
 peak-none h least j b e t = let z : isPeak h least j ≡ false = sym e ∙ t in rw z
 
-pub peaks-held : (h : List Float) (least : Float) {n count : ℕ} {d all : List Float} → least ≡ leastOf h → Filled (peakOf h least) n d all count → n ≡ bins → Holds (record { all = all; count = count }) (anglesIn h)
-unfolding anglesIn
-peaks-held h least {n} {count} {d} {all} p r e =
+pub peaks-held : (h : List Float) (least : Float) {n count : ℕ} {d all : List Float} → least ≡ leastOf h → d ≡ replicate bins nought → Filled (peakOf h least) n d all count → n ≡ bins → record { all = all; count = count } ≡ heldOf (anglesIn h)
+unfolding anglesIn heldOf
+peaks-held h least {n} {count} {d} {all} p z r e =
     let l : joined 0 n (peakOf h least) ≡ joined 0 bins (peakOf h (leastOf h)) = rw (e, p) in
-    record {
-      count = r .many ∙ ap length l;
-      few = rw (← l) (omega arith);
-      first = rw (← l, r .values) (pasted-front (joined 0 n (peakOf h least)) d);
-    }
+    let a : all ≡ pasted 0 (joined 0 bins (peakOf h (leastOf h))) (replicate bins nought) = r .values ∙ rw (l, z) in
+    let c : count ≡ length (joined 0 bins (peakOf h (leastOf h))) = r .many ∙ ap length l in
+    (λ i. record { all = a i; count = c i })
+
+-- a list that fits is read back
+pub held-holds : (list : List Float) → length list ≤ bins → Holds (heldOf list) list
+unfolding heldOf
+held-holds list h = record { count = refl; few = h; first = pasted-front list (replicate bins nought) }

@@ -11,7 +11,7 @@ use Rattle.lists.proofs.Ranges.{joined-start, joined-more}
 use Rattle.ieee.proofs.Order.{lt-le, lt-not-le}
 use Rattle.peaks.specs.Peaks.{bins, around, leastOf, isPeak, peakAngle, peakOf, anglesIn, anglesOf, smoothed}
 use Rattle.peaks.specs.Rules.{maxPeaks, PeakRule}
-use Rattle.peaks.proofs.Fill.{peak-short}
+use Rattle.peaks.proofs.Fill.{peak-short, held-holds}
 
 -- ---- two neighbours are not both peaks
 same-place : (h : List Float) (j : ℕ) → around h (j + 1 + bins - 1) ≡ around h j
@@ -51,6 +51,9 @@ pairs f s (suc n) =
     let z : suc n * 2 ≡ n * 2 + 1 + 1 = omega arith in
     rw (z, joined-more 0 (n * 2 + 1) f (omega arith), joined-more 0 (n * 2) f (omega arith), length-append, length-append) (omega (arith, s (n * 2), pairs f s n))
 
-pub peak-rule : PeakRule
+few : (b : List Float) → length (anglesOf b) ≤ maxPeaks
 unfolding anglesOf anglesIn
-peak-rule = record { few = λ b. pairs (peakOf (smoothed b) (leastOf (smoothed b))) (pair-short (smoothed b) (leastOf (smoothed b))) maxPeaks }
+few b = pairs (peakOf (smoothed b) (leastOf (smoothed b))) (pair-short (smoothed b) (leastOf (smoothed b))) maxPeaks
+
+pub peak-rule : PeakRule
+peak-rule = record { few = few; held = λ b. held-holds (anglesOf b) (omega (arith, few b)) }

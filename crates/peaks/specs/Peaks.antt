@@ -1,4 +1,4 @@
--- From the tally of 36 bins to the angles of a keypoint, operation by operation as `assign_orientations` of the source. Definitions only.
+-- From the tally of 36 bins to the angles of a keypoint, operation by operation as `assign_orientations` of the source (rules O7 to O11). Definitions only.
 use Prim.Native.Nat.{ℕ, zero, suc, _+_, _-_, _%_}
 use mathlib.Core.Bool.{Bool, _&&_, cond}
 use mathlib.Core.List.{List, [], _∷_}
@@ -26,7 +26,7 @@ inner = f32 0x3e80_0000
 abbrev pub middle : Float
 middle = f32 0x3ec0_0000
 
--- Smoothing by [1, 4, 6, 4, 1] / 16 about bin i, wrapping, in the source's fused association
+-- smoothing about bin i, on the circle: rule O7
 unfoldable pub smoothAt : List Float → ℕ → Float
 smoothAt b i =
     fused (around b (i + bins - 2) ⊕ around b (i + 2)) outer
@@ -51,7 +51,7 @@ ratio = f32 0x3f4c_cccd
 unfoldable pub leastOf : List Float → Float
 leastOf h = largestTo h (bins - 1) ⊗ ratio
 
--- a strict peak: above both of its neighbours, and at least `least`
+-- a peak, which is greater than both of its neighbours: rule O8
 unfoldable pub isPeak : List Float → Float → ℕ → Bool
 isPeak h least j =
     (around h (j + bins - 1) <ᶠ around h j) && ((around h (j + 1) <ᶠ around h j) && (least ≤ᶠ around h j))
@@ -78,7 +78,7 @@ turn = f32 0x43b4_0000
 abbrev pub epsilon : Float
 epsilon = f32 0x3400_0000
 
--- the top of the parabola through the peak m at bin j and its neighbours l and r, in bins
+-- the top of the parabola through the peak m at bin j and its neighbours l and r, in bins: rule O9
 unfoldable pub crestOf : ℕ → Float → Float → Float → Float
 crestOf j l m r = ofInt binary32 (pos j) ⊕ half ⊗ (l ⊖ r) ⊘ (l ⊖ two ⊗ m ⊕ r)
 
@@ -86,7 +86,7 @@ crestOf j l m r = ofInt binary32 (pos j) ⊕ half ⊗ (l ⊖ r) ⊘ (l ⊖ two �
 unfoldable pub wrapped : Float → Float
 wrapped b = cond (b <ᶠ nought) (circle ⊕ b) (cond (circle ≤ᶠ b) (b ⊖ circle) b)
 
--- an angle within f32 epsilon of 360 gets 0
+-- a whole turn is no turn: rule O10
 unfoldable pub closed : Float → Float
 closed a = cond (absOf (a ⊖ turn) <ᶠ epsilon) nought a
 
@@ -102,7 +102,7 @@ peakAngle h j = degreesOf (wrapped (crestOf j (around h (j + bins - 1)) (around 
 unfoldable pub peakOf : List Float → Float → ℕ → List Float
 peakOf h least j = cond (isPeak h least j) (peakAngle h j ∷ []) []
 
--- the angles of the smoothed bins' peaks, in the order of the bins; none where there is no peak
+-- the angles of the smoothed bins' peaks, in the order of the bins; none where there is no peak: rule O11
 unfoldable pub anglesIn : List Float → List Float
 anglesIn h = joined 0 bins (peakOf h (leastOf h))
 

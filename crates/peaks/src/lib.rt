@@ -2,11 +2,10 @@
 
 ghost use mathlib.Core.Path.{_≡_};
 ghost use Prim.Native.Nat.{_<_, _≤_};
-ghost use lib.ListN.{length, take};
 ghost use Rattle.peaks.specs.Peaks.{around, smoothAt, smoothed, largerOf, largestTo, leastOf, isPeak, crestOf, wrapped, closed, degreesOf, peakAngle, anglesIn, anglesOf};
-ghost use Rattle.peaks.specs.Found.{Holds};
+ghost use Rattle.peaks.specs.Found.{heldOf};
 
-// The angles found, in the first `count` places.
+// The angles found, in the first `count` places; the other places hold +0.
 pub struct Angles {
     pub all: [f32; 36],
     pub count: usize,
@@ -90,7 +89,7 @@ fn back_in(b: f32) -> f32
     }
 }
 
-// An angle within f32 epsilon of a whole turn is 0.
+// An angle within f32 epsilon, 2^-23 = 0.00000011920929, of a whole turn is 0. Next to 360 an f32 is 2^-15 away, so that this is 360 itself.
 fn closed_at(a: f32) -> f32
     ensures { λ r. ⌜ r ≡ closed a ⌝ }
 {
@@ -112,7 +111,7 @@ fn peak_angle(h: &[f32; 36], j: usize) -> f32
 }
 
 fn angles_in(h: &[f32; 36]) -> Angles
-    ensures { λ r. ⌜ Holds r (anglesIn (now (h .entry))) ⌝ }
+    ensures { λ r. ⌜ r ≡ heldOf (anglesIn (now (h .entry))) ⌝ }
 {
     let least = least_of(h);
     let mut all = [0.0; 36];
@@ -133,7 +132,7 @@ fn angles_in(h: &[f32; 36]) -> Angles
 
 // The angles that a tally gives, none where there is no peak.
 pub fn angles_of(b: &[f32; 36]) -> Angles
-    ensures { λ r. ⌜ Holds r (anglesOf (now (b .entry))) ⌝ }
+    ensures { λ r. ⌜ r ≡ heldOf (anglesOf (now (b .entry))) ⌝ }
 {
     let h = smooth(b);
     angles_in(&h)

@@ -18,7 +18,7 @@ use Rattle.tally.specs.declared.Tally.{Tally}
 use Rattle.tally.specs.declared.Sample.{Sample}
 use Rattle.tally.specs.declared.Window.{Window}
 
-packed : {q m c w : ℕ} → q < m → c < w → q * w + c < m * w
+pub packed : {q m c w : ℕ} → q < m → c < w → q * w + c < m * w
 packed {q} {m} {c} {w} a b = omega (arith, mul-le-mul-right w a, suc-mul q w)
 
 -- ---- parts of one length, joined
@@ -56,7 +56,12 @@ row-at win y j d h =
     ap (λ (k : ℕ). getD (joined (win .left) (win .left + win .cols) (λ x. cell y x ∷ [])) k d) z
     ∙ part-at (win .left) 1 (λ x. cell y x ∷ []) (λ i. refl) (win .cols) d j 0 h (omega arith)
 
-some-cols : (r c k : ℕ) → k < r * c → 0 < c
+-- the cell in row i and column j of the window
+pub cell-in : (win : Window) (i j : ℕ) (d : Cell) → i < win .rows → j < win .cols → getD (cellsOf win) (i * win .cols + j) d ≡ cell (win .top + i) (win .left + j)
+unfolding cellsOf
+cell-in win i j d a b = part-at (win .top) (win .cols) (rowOf win) (length-row win) (win .rows) d i j a b ∙ row-at win (win .top + i) j d b
+
+pub some-cols : (r c k : ℕ) → k < r * c → 0 < c
 some-cols r zero k h = absurd (omega (arith, mul-zero r))
 some-cols r (suc c) k h = omega arith
 

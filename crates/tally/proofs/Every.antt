@@ -38,6 +38,11 @@ every-at n i t e h = go (t i) refl
     go true p = refl
     go false p = absurd (false≢true (sym (every-fails n i t h p) ∙ e))
 
+pub every-all : (n : ℕ) (t : ℕ → Bool) → ((i : ℕ) → i < n → t i ≡ true) → every n t ≡ true
+unfolding every
+every-all zero t f = refl
+every-all (suc n) t f = rw (every-all n t (λ i h. f i (omega arith)), f n (omega arith))
+
 pub every-to : {n m : ℕ} (t : ℕ → Bool) → n ≡ m → every n t ≡ every m t
 every-to t e = ap (λ (k : ℕ). every k t) e
 

@@ -1,10 +1,10 @@
 -- The laws of a window that specs/Rules.antt states. Assumes nothing.
-use Prim.Native.Nat.{ℕ, zero, suc, _+_, _-_, _*_, _<_, _≤_}
-use mathlib.Core.Path.{_≡_, refl, sym, ap, _∙_}
+use Prim.Native.Nat.{ℕ, zero, suc, _+_, _-_, _*_, _/_, _%_, _<_, _≤_}
+use mathlib.Core.Path.{_≡_, refl, sym, ap, _∙_, subst}
 use mathlib.Core.Bool.{Bool, true, false, not, _&&_}
 use mathlib.Core.List.{List, [], _∷_}
 use mathlib.Core.Logic.{_⊎_, ⊎-elim}
-use native.Mathlib.Nat.{mul-le-mul}
+use native.Mathlib.Nat.{mul-le-mul, mod-lt, div-lt-iff-lt-mul}
 use native.Mathlib.Omega.{arith}
 use lib.Dec.{T, lit<}
 use lib.ListN.{length, getD}
@@ -26,14 +26,43 @@ use Rattle.hal.specs.Numbers.{nought, minus32, furthest}
 use Rattle.hal.specs.Exp.{inDown}
 use Rattle.hal.specs.Angle.{small, inAngle}
 use Rattle.lists.specs.Ranges.{every}
-use Rattle.tally.specs.Window.{radiusFactor, sigmaFactor, one, two, radiusOf, sigmaOf, falloffOf, spanOf, windowOf, cell}
+use Rattle.tally.specs.Window.{radiusFactor, sigmaFactor, one, two, radiusOf, sigmaOf, falloffOf, spanOf, windowOf, cell, cellsOf, cellsRead}
 use Rattle.tally.specs.Sample.{pixel, slopeAt, squareAt, apart, fourGood, rowGood, windowGood}
 use Rattle.tally.specs.Rules.{TallyRule}
 use Rattle.tally.specs.declared.Window.{Window}
 use Rattle.tally.proofs.Values.{and-both}
-use Rattle.tally.proofs.Cells.{read-is}
+use Rattle.tally.proofs.Cells.{read-is, cell-at, cell-in, some-cols, packed}
 use Rattle.tally.proofs.Spans.{Spans, spans}
-use Rattle.tally.proofs.Every.{every-at}
+use Rattle.tally.proofs.Every.{every-at, every-all}
+
+-- ---- what is tested is what is read
+module _ (img : List Float) (win : Window) where
+  abbrev cellsTest : ℕ → Bool
+  cellsTest k = fourGood img win (getD (cellsOf win) k (cell 0 0))
+
+  read-good : windowGood img win ≡ true → every (cellsRead win) cellsTest ≡ true
+  unfolding windowGood rowGood
+  read-good g = every-all (cellsRead win) cellsTest (λ k h. each k (subst (λ (n : ℕ). k < n) (read-is win) h))
+    where
+      each : (k : ℕ) → k < win .rows * win .cols → cellsTest k ≡ true
+      each k h =
+          let c = some-cols (win .rows) (win .cols) k h in
+          let r = every-at (win .rows) (k / win .cols) (λ i. rowGood img win (win .top + i)) g (div-lt-iff-lt-mul c .1 h) in
+          ap (fourGood img win) (cell-at win k (cell 0 0) h) ∙ every-at (win .cols) (k % win .cols) (λ j. fourGood img win (cell (win .top + k / win .cols) (win .left + j))) r (mod-lt k c)
+
+  good-read : every (cellsRead win) cellsTest ≡ true → windowGood img win ≡ true
+  unfolding windowGood rowGood
+  good-read g = every-all (win .rows) _ (λ i a. every-all (win .cols) _ (λ j b. each i j a b))
+    where
+      each : (i j : ℕ) → i < win .rows → j < win .cols → fourGood img win (cell (win .top + i) (win .left + j)) ≡ true
+      each i j a b =
+          let h : i * win .cols + j < cellsRead win = subst (λ (n : ℕ). i * win .cols + j < n) (sym (read-is win)) (packed a b) in
+          ap (fourGood img win) (sym (cell-in win i j (cell 0 0) a b)) ∙ every-at (cellsRead win) (i * win .cols + j) cellsTest g h
+
+same-test : (a b : Bool) → (a ≡ true → b ≡ true) → (b ≡ true → a ≡ true) → a ≡ b
+same-test true b f g = sym (f refl)
+same-test false true f g = g refl
+same-test false false f g = refl
 
 -- ---- differences of good samples
 abbrev nearest : Float
@@ -248,4 +277,4 @@ exponents width height row col scale i j r c w a b =
     down-in scale (dy * dy + dx * dx) w n
 
 pub tally-rule : TallyRule
-tally-rule = record { read = read-is; slopes = slopes; exponents = exponents }
+tally-rule = record { read = read-is; tested = λ img win. same-test _ _ (read-good img win) (good-read img win); slopes = slopes; exponents = exponents }

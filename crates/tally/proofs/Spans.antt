@@ -53,5 +53,5 @@ window-fits len width height row col scale l h w r c s =
       after = omega (arith, x .forth);
     }
 
-pub square-small : {i : ℕ} → i ≤ maxReach → i * i ≤ 102400
-square-small {i} h = mul-le-mul {n₁ = i} {m₁ = i} {n₂ = 320} {m₂ = 320} h h
+pub square-small : {i : ℕ} → i ≤ maxReach → i * i ≤ 82944
+square-small {i} h = mul-le-mul {n₁ = i} {m₁ = i} {n₂ = 288} {m₂ = 288} h h

@@ -20,7 +20,7 @@ use Rattle.params.specs.Table.{within}
 use Rattle.tally.specs.Window.{radiusFactor}
 use Rattle.tally.specs.Sample.{bins, tenth, binOf}
 use Rattle.tally.specs.Place.{maxReach}
-use Rattle.tally.proofs.Lifted.{lift, lifted, lifted-back}
+use Rattle.tally.proofs.Lifted.{significand, place, lifts, amount, lift, lifted, lifted-back}
 
 pub and-both : (a b : Bool) → (a && b) ≡ true → (a ≡ true) × (b ≡ true)
 and-both true true h = (refl, refl)
@@ -65,10 +65,14 @@ radius-cuts s h = cuts maxReach refl refl (omega arith) (radius-bounds s h)
 abbrev pub turn : Float
 turn = fin false 45 (pos 3)
 
--- the sum of the turn and 2 ^ 23 can be cast to a u32, and is 2 ^ 23 and the bin
+-- 40: no turn reaches it
+abbrev pub forty : Float
+forty = fin false 5 (pos 3)
+
+-- the sum of the turn and the lift can be cast to a u32, and is the lift's amount and the bin
 pub record Binned (a : Float) : Type 0 where
   pub fine : T (inUnsigned binary32 32 (tenth ⊗ a ⊕ lift))
-  pub is : toUnsigned 32 (tenth ⊗ a ⊕ lift) ≡ toUnsigned 64 (rounded (tenth ⊗ a)) + 2 ^ 23
+  pub is : toUnsigned 32 (tenth ⊗ a ⊕ lift) ≡ toUnsigned 64 (rounded (tenth ⊗ a)) + amount
   pub size : toUnsigned 64 (rounded (tenth ⊗ a)) ≤ bins
 
 module _ (a : Float) (low : T (le (fin false 0 (pos 0)) a)) (high : T (lt a turn)) where
@@ -79,9 +83,9 @@ module _ (a : Float) (low : T (le (fin false 0 (pos 0)) a)) (high : T (lt a turn
   unfolding ofBits mul le
   tenth-bounds = mul-bounds binary32 refl refl refl refl (bounds-point tenth refl) turn-bounds
 
-  pub bin-small : lt (tenth ⊗ a) (f32 0x4220_0000) ≡ true
+  pub bin-small : lt (tenth ⊗ a) forty ≡ true
   unfolding ofBits mul lt
-  bin-small = le-lt-trans (tenth ⊗ a) (tenth ⊗ turn) (f32 0x4220_0000) (tenth-bounds .high) refl
+  bin-small = le-lt-trans (tenth ⊗ a) (tenth ⊗ turn) forty (tenth-bounds .high) refl
 
   bin-cuts : Cuts bins (rounded (tenth ⊗ a))
   unfolding ofBits mul lt roundEven toUnsigned
@@ -95,8 +99,8 @@ module _ (a : Float) (low : T (le (fin false 0 (pos 0)) a)) (high : T (lt a turn
   binned =
       let n = toUnsigned 64 (rounded (tenth ⊗ a)) in
       let s : n ≤ bins = bin-cuts .size in
-      let r = lifted-back n (omega arith) in
-      let e = lifted (tenth ⊗ a) bin-least bin-small in
+      let r = lifted-back significand place amount refl lifts n (omega arith) in
+      let e = lifted significand place amount refl lifts (tenth ⊗ a) bin-least bin-small in
       record { fine = rw e (r .0); is = rw e (r .1); size = s }
 
 -- an angle as the routine gives it: none, or in 0 to below 360
@@ -110,17 +114,17 @@ direction dx dy = go (inAngle dx dy) refl
     go true e = inr (angle-rule .least dx dy (is-T _ e), angle-rule .below dx dy (is-T _ e))
     go false e = inl (angle-rule .outside dx dy e)
 
-no-bin : lt (tenth ⊗ nan) (f32 0x4220_0000) ≡ false
+no-bin : lt (tenth ⊗ nan) forty ≡ false
 unfolding ofBits mul lt
 no-bin = refl
 
-pub binned-in : (a : Float) → Direction a → lt (tenth ⊗ a) (f32 0x4220_0000) ≡ true → Binned a
-binned-in a (inl e) h = absurd (false≢true (sym no-bin ∙ ap (λ (x : Float). lt (tenth ⊗ x) (f32 0x4220_0000)) (sym e) ∙ h))
+pub binned-in : (a : Float) → Direction a → lt (tenth ⊗ a) forty ≡ true → Binned a
+binned-in a (inl e) h = absurd (false≢true (sym no-bin ∙ ap (λ (x : Float). lt (tenth ⊗ x) forty) (sym e) ∙ h))
 binned-in a (inr p) h = binned a (p .0) (p .1)
 
 -- the bin as the code finds it
 abbrev pub found : Float → ℕ
-found a = toUnsigned 32 (tenth ⊗ a ⊕ lift) - 2 ^ 23
+found a = toUnsigned 32 (tenth ⊗ a ⊕ lift) - amount
 
 pub binned-is : (a : Float) → Binned a → found a ≡ toUnsigned 64 (rounded (tenth ⊗ a))
 binned-is a r = rw (r .is) (omega arith)
@@ -130,14 +134,14 @@ unfolding binOf mul roundEven toUnsigned ofBits
 bin-none = refl
 
 -- what has no angle has bin 0
-pub bin-else : (a : Float) → Direction a → lt (tenth ⊗ a) (f32 0x4220_0000) ≡ false → 0 ≡ binOf a
+pub bin-else : (a : Float) → Direction a → lt (tenth ⊗ a) forty ≡ false → 0 ≡ binOf a
 bin-else a (inl e) h = rw (e, bin-none)
 bin-else a (inr p) h = absurd (false≢true (sym h ∙ bin-small a (p .0) (p .1)))
 
-pub bin-high : (a : Float) (b : ℕ) → b ≡ toUnsigned 64 (rounded (tenth ⊗ a)) → bins ≤ b → b - bins ≡ binOf a
+pub bin-high : (a : Float) (b : ℕ) → b ≡ toUnsigned 64 (rounded (tenth ⊗ a)) → bins ≤ b → binOf a ≡ b - bins
 unfolding binOf
 bin-high a b e h = rw (← e, le-leb bins b h)
 
-pub bin-low : (a : Float) (b : ℕ) → b ≡ toUnsigned 64 (rounded (tenth ⊗ a)) → b < bins → b ≡ binOf a
+pub bin-low : (a : Float) (b : ℕ) → b ≡ toUnsigned 64 (rounded (tenth ⊗ a)) → b < bins → binOf a ≡ b
 unfolding binOf
 bin-low a b e h = rw (← e, lt-leb bins b h)

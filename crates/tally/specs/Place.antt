@@ -6,9 +6,9 @@ use Rattle.tally.specs.Window.{Cell, cell}
 use Rattle.tally.specs.Sample.{apart}
 use Rattle.tally.specs.declared.Window.{Window}
 
--- no cell of a window is further than this from its middle, in rows or in columns
+-- no cell of a window is further than this from its middle, in rows or in columns: 4.5 × 64, the radius at the largest scale
 abbrev pub maxReach : ℕ
-maxReach = 320
+maxReach = 288
 
 -- the window lies inside a picture, whose list is `len` long: neither in its first or last row nor in its first or last column
 pub record Fits (len : ℕ) (win : Window) : Type 0 where

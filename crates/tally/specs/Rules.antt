@@ -3,6 +3,7 @@ use Prim.Native.Nat.{ℕ, _+_, _*_, _<_}
 use mathlib.Core.Path.{_≡_}
 use mathlib.Core.Bool.{true}
 use mathlib.Core.List.{List}
+use lib.ListN.{getD}
 use lib.IntN.{pos}
 use lib.Ieee.{Float, binary32, ofInt}
 use Rattle.ieee.specs.F32.{_⊗_}
@@ -10,13 +11,16 @@ use Rattle.params.specs.Limits.{scaleLow, scaleHigh}
 use Rattle.params.specs.Table.{within}
 use Rattle.hal.specs.Exp.{inDown}
 use Rattle.hal.specs.Angle.{inAngle}
-use Rattle.tally.specs.Window.{cell, windowOf, cellsRead}
-use Rattle.tally.specs.Sample.{slopeAt, squareAt, windowGood}
+use Rattle.lists.specs.Ranges.{every}
+use Rattle.tally.specs.Window.{cell, windowOf, cellsOf, cellsRead}
+use Rattle.tally.specs.Sample.{slopeAt, squareAt, fourGood, windowGood}
 use Rattle.tally.specs.declared.Window.{Window}
 
 pub record TallyRule : Type 0 where
   -- n, the number of cells read, is rows × columns
   pub read : (win : Window) → cellsRead win ≡ win .rows * win .cols
+  -- the samples that are tested are the four neighbours of each cell that is read, and no others
+  pub tested : (img : List Float) (win : Window) → windowGood img win ≡ every (cellsRead win) (λ k. fourGood img win (getD (cellsOf win) k (cell 0 0)))
   -- of good samples the angle and the magnitude are asked inside their range
   pub slopes : (img : List Float) (win : Window) (i j : ℕ) → windowGood img win ≡ true → i < win .rows → j < win .cols
       → inAngle (slopeAt img win (cell (win .top + i) (win .left + j)) .dx) (slopeAt img win (cell (win .top + i) (win .left + j)) .dy) ≡ true

@@ -1,4 +1,4 @@
--- What one cell of a window gives: a direction's bin, a weight and a magnitude. Definitions only.
+-- What one cell of a window gives: a direction's bin, a weight and a magnitude (rules O3 and O4). Definitions only.
 use Prim.Native.Nat.{ℕ, _+_, _-_, _*_}
 use mathlib.Core.Bool.{Bool, _&&_, cond}
 use mathlib.Core.List.{List}
@@ -46,13 +46,13 @@ weightAt win c = expOf (ofInt binary32 (pos (squareAt win c)) ⊗ win .falloff)
 abbrev pub tenth : Float
 tenth = f32 0x3dcc_cccd
 
--- the bin of an angle: the nearest of 36 / 360 × angle, ties to even; bin 36 becomes bin 0
+-- the bin of an angle: rule O4
 unfoldable pub binOf : Float → ℕ
 binOf angle =
     let b = toUnsigned 64 (rounded (tenth ⊗ angle)) in
     cond (leb bins b) (b - bins) b
 
--- the four neighbours of a cell are good samples
+-- number 6 (rule A13): the four neighbours of a cell are good samples
 unfoldable pub fourGood : List Float → Window → Cell → Bool
 fourGood img win c =
     (goodSample (pixel img win (c .row) (c .col + 1)) && goodSample (pixel img win (c .row) (c .col - 1)))

@@ -1,4 +1,4 @@
--- The tally of 36 bins that the samples of a window make one after the other. Definitions only.
+-- The tally of 36 bins that the samples of a window make one after the other (rules O5 and O6). Definitions only.
 use Prim.Native.Nat.{ℕ, _+_, _-_, _%_}
 use mathlib.Core.Bool.{cond}
 use mathlib.Core.List.{List, [], _∷_}
@@ -15,7 +15,7 @@ use Rattle.tally.specs.declared.Sample.{Sample}
 use Rattle.tally.specs.declared.Tally.{Tally}
 use Rattle.tally.specs.declared.Gathered.{Gathered}
 
--- the first n − n mod 4 of n samples are early, the rest late
+-- how many of n samples are early: rule O5
 abbrev pub early : ℕ → ℕ
 early n = n - n % 4
 

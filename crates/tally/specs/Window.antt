@@ -1,4 +1,4 @@
--- The cells about a keypoint that are read: those within the radius and not on the picture's edge. Definitions only.
+-- The cells about a keypoint that are read: those within the radius and not on the picture's edge (rule O2). Definitions only.
 use Prim.Native.Nat.{ℕ, _+_, _-_, min, max}
 use mathlib.Core.List.{List, [], _∷_}
 use lib.ListN.{length}
@@ -21,11 +21,11 @@ one = f32 0x3f80_0000
 abbrev pub two : Float
 two = f32 0x4000_0000
 
--- Radius is 4.5 × scale rounded, ties to even
+-- the radius: rule O1
 unfoldable pub radiusOf : Float → ℕ
 radiusOf scale = toUnsigned 64 (rounded (radiusFactor ⊗ scale))
 
--- sigma is 1.5 × scale; the weight's exponent is -1 / (2 × sigma × sigma) for each unit of squared distance
+-- the factor of the weight's exponent, which is multiplied by the squared distance: rule O3
 abbrev pub sigmaOf : Float → Float
 sigmaOf scale = sigmaFactor ⊗ scale
 

@@ -10,7 +10,7 @@ ghost use Rattle.hal.specs.Powers.{powers as table};
 ghost use Rattle.hal.specs.Angle.{angleOf};
 ghost use Rattle.tally.specs.Window.{radiusOf, falloffOf, spanOf, windowOf, cell, cellsRead};
 ghost use Rattle.tally.specs.Sample.{bins, apart, slopeAt, squareAt, weightAt, binOf, fourGood, rowGood, windowGood};
-ghost use Rattle.tally.specs.Tally.{sampleOf, shareOf, added, tallied, empty, tallyOf, gatheredOf};
+ghost use Rattle.tally.specs.Tally.{early, sampleOf, shareOf, added, tallied, empty, tallyOf, gatheredOf};
 ghost use Rattle.tally.specs.Place.{maxReach, Fits, Placed, cellAt};
 
 // The tally: a sum of weighted magnitudes for each 10 degrees of direction.
@@ -137,7 +137,8 @@ fn weight_at(powers: &[u32; 256], win: Window, y: usize, x: usize) -> f32
     hal::exp_with(powers, (square as f32) * win.falloff)
 }
 
-// The bin of a direction. From 2^23 on every f32 is whole, so that the sum rounds the turn, ties to even.
+// The bin of a direction. From 2^23 = 8388608 on every f32 is whole, so that the sum rounds the turn, ties to even. A turn is at most 36, well below 40: the test fails
+// only for a not-a-number, whose bin is 0.
 fn bin_of(dx: f32, dy: f32) -> usize
     ensures { λ r. ⌜ (r ≡ binOf (angleOf dx dy)) × (r < bins) ⌝ }
 {
@@ -150,6 +151,13 @@ fn bin_of(dx: f32, dy: f32) -> usize
     }
 }
 
+// How many of n samples are early: all but the last n mod 4.
+fn early_of(n: usize) -> usize
+    ensures { λ r. ⌜ r ≡ early n ⌝ }
+{
+    n - n % 4
+}
+
 // Of n cells read the one after k others.
 fn sample_at<'a>(img: &'a [f32], powers: &'a [u32; 256], win: Window, n: usize, k: usize) -> Sample
     requires { ⌜ (now powers ≡ table) × (Fits (length (now img)) win × ((n ≡ win .rows * win .cols) × (k < n))) ⌝ }
@@ -158,7 +166,7 @@ fn sample_at<'a>(img: &'a [f32], powers: &'a [u32; 256], win: Window, n: usize, 
     let y = win.top + k / win.cols;
     let x = win.left + k % win.cols;
     let s = slope_at(img, win, y, x);
-    let late = n - n % 4 <= k;
+    let late = early_of(n) <= k;
     Sample {
         bin: bin_of(s.dx, s.dy),
         weight: weight_at(powers, win, y, x),

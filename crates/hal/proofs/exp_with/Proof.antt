@@ -41,7 +41,7 @@ power-requires : tie.Need-power-requires
 unfolding ofBits neg
 power-requires c κs =
     let x = c .before .before .before .before .args .x in
-    let f : Fixed 1790483136 100931731456 (add binary64 downStart (mul binary64 x downRate)) = down-fixed x (subst T (sym (sym (c .before .before .before .within .ensures) ∙ c .before .before .if1 .taken)) tt) in
+    let f : Fixed 1790483156 100931731456 (add binary64 downStart (mul binary64 x downRate)) = down-fixed x (subst T (sym (sym (c .before .before .before .within .ensures) ∙ c .before .before .if1 .taken)) tt) in
     let v : c .fixed .result ≤ 100931731456 = subst (λ (z : ℕ). z ≤ 100931731456) (sym (c .fixed .ensures)) (f .most) in
     (c .before .before .before .before .pre, (lit≤ tt, omega arith))
 

@@ -34,7 +34,7 @@ mul-result c = let m = mixed (c .before .before .args .i) (c .before .before .ar
 
 -- src/lib.rt:293:11
 cast-result-2 : tie.Need-cast-result-2
-cast-result-2 c = let m = mixed (c .before .before .args .i) (c .before .before .args .g) (c .before .before .pre .1 .0) (c .before .before .pre .1 .1) in simp (c .entry2 .ensures, c .before .entry .ensures) (omega (arith, m .share))
+cast-result-2 c = let m = mixed (c .before .before .args .i) (c .before .before .args .g) (c .before .before .pre .1 .0) (c .before .before .pre .1 .1) in simp (c .entry2 .ensures, c .before .entry .ensures) (omega (arith, m .product))
 
 -- src/lib.rt:293:5
 add-result : tie.Need-add-result

@@ -2,9 +2,9 @@ use mathlib.Core.Logic.{⊎-elim}
 use Prim.Native.Nat.{_-_, _≤_}
 use mathlib.Core.Path.{_≡_, refl}
 use native.Mathlib.Omega.{arith}
-use lib.ListN.{length}
+use lib.ListN.{length, replicate}
 use borrow.Author.Needs.{needs}
-use Rattle.peaks.specs.Peaks.{leastOf, peakOf}
+use Rattle.peaks.specs.Peaks.{bins, nought, leastOf, peakOf}
 use Rattle.peaks.proofs.Fill.{Filled, filled-none, filled-more, filled-pass, peak-short, peak-yes, peak-none, peaks-held}
 use Rattle.peaks.proofs.angles_in.Statement.{statement}
 use Rattle.peaks.proofs.angles_in.Tie as tie
@@ -15,7 +15,7 @@ use Rattle.peaks.proofs.least_of.Reads as least-of-reads
 use Rattle.peaks.proofs.peak_angle.Reads as peak-angle-reads
 
 abbrev Inv-loop : tie.InvT-loop
-Inv-loop h least all₀ count₀ j₀ all count j = (j ≤ 36) × ((length all₀ ≡ 36) × ((least ≡ leastOf h) × Filled (peakOf h least) j all₀ all count))
+Inv-loop h least all₀ count₀ j₀ all count j = (j ≤ 36) × ((length all₀ ≡ 36) × ((all₀ ≡ replicate bins nought) × ((least ≡ leastOf h) × Filled (peakOf h least) j all₀ all count)))
 
 abbrev μ-loop : tie.MeasureT-loop
 μ-loop h least all₀ count₀ j₀ all count j = 36 - j
@@ -24,7 +24,7 @@ least-of-requires : tie.Need-least-of-requires Inv-loop μ-loop
 least-of-requires c κs = search needs
 
 loop-holds : tie.Need-loop-holds Inv-loop μ-loop
-loop-holds c = (omega arith, (refl, (c .least-of .ensures, filled-none _ _ (peak-short _ _))))
+loop-holds c = (omega arith, (refl, (refl, (c .least-of .ensures, filled-none _ _ (peak-short _ _)))))
 
 is-peak-requires : tie.Need-is-peak-requires Inv-loop μ-loop
 is-peak-requires c κs = search needs
@@ -57,11 +57,14 @@ loop-again c =
       (
         refl,
         (
-          l .inv .1 .1 .0,
-          ⊎-elim
-              (λ w. rw (w .2, w .3) (filled-more (peakOf h t) (w .1 .result) (l .inv .1 .1 .1) (peak-yes h t (l .j) (p .result) (w .1 .result) (p .ensures) (w .0 .taken) (w .1 .ensures)) (omega arith)))
-              (λ w. rw (w .1, w .2) (filled-pass (peakOf h t) (l .inv .1 .1 .1) (peak-none h t (l .j) (p .result) (p .ensures) (w .0 .left))))
-              (c .if1 .came),
+          refl,
+          (
+            l .inv .1 .1 .1 .0,
+            ⊎-elim
+                (λ w. rw (w .2, w .3) (filled-more (peakOf h t) (w .1 .result) (l .inv .1 .1 .1 .1) (peak-yes h t (l .j) (p .result) (w .1 .result) (p .ensures) (w .0 .taken) (w .1 .ensures)) (omega arith)))
+                (λ w. rw (w .1, w .2) (filled-pass (peakOf h t) (l .inv .1 .1 .1 .1) (peak-none h t (l .j) (p .result) (p .ensures) (w .0 .left))))
+                (c .if1 .came),
+          ),
         ),
       ),
     )
@@ -69,7 +72,7 @@ loop-again c =
 returns : tie.Need-returns Inv-loop μ-loop
 returns c =
     let l = c .before .loop .inv .1 .1 in
-    peaks-held _ _ (l .0) (l .1) (omega arith)
+    peaks-held _ _ (l .1 .0) (l .0) (l .1 .1) (omega arith)
 
 pub angles-in-spec : {M : Type 1} → statement M
 angles-in-spec =

@@ -7,6 +7,7 @@ use Rattle.tally.proofs.sample_at.Tie as tie
 use Rattle.tally.proofs.sample_at.Reads as reads
 use Rattle.tally.proofs.sample_at.Lts as lts
 use Rattle.tally.proofs.bin_of.Reads as bin-of-reads
+use Rattle.tally.proofs.early_of.Reads as early-of-reads
 use Rattle.hal.proofs.magnitude.Reads as magnitude-reads
 use Rattle.tally.proofs.slope_at.Reads as slope-at-reads
 use Rattle.tally.proofs.weight_at.Reads as weight-at-reads
@@ -26,16 +27,16 @@ add-x c = omega (arith, c .before .before .before .before .before .pre .1 .0, pl
 slope-at-requires : tie.Need-slope-at-requires
 slope-at-requires c κs = placed-at (c .before .before .before .before .before .pre .1 .0) (c .before .before .before .before .before .pre .1 .1 .0) (c .before .before .before .before .before .pre .1 .1 .1) .place
 
-sub-late : tie.Need-sub-late
-sub-late c = search needs
+early-of-requires : tie.Need-early-of-requires
+early-of-requires c κs = search needs
 
 bin-of-requires : tie.Need-bin-of-requires
 bin-of-requires c κs = search needs
 
 weight-at-requires : tie.Need-weight-at-requires
 weight-at-requires c κs =
-    let p = placed-at (c .before .before .before .before .before .before .before .pre .1 .0) (c .before .before .before .before .before .before .before .pre .1 .1 .0) (c .before .before .before .before .before .before .before .pre .1 .1 .1) .place in
-    (c .before .before .before .before .before .before .before .pre .0, (p .rows, p .cols))
+    let p = placed-at (c .before .before .before .before .before .before .before .before .pre .1 .0) (c .before .before .before .before .before .before .before .before .pre .1 .1 .0) (c .before .before .before .before .before .before .before .before .pre .1 .1 .1) .place in
+    (c .before .before .before .before .before .before .before .before .pre .0, (p .rows, p .cols))
 
 magnitude-requires : tie.Need-magnitude-requires
 magnitude-requires c κs = search needs
@@ -43,11 +44,12 @@ magnitude-requires c κs = search needs
 returns : tie.Need-returns
 unfolding sampleOf
 returns c =
-    let s = c .before .before .before .slope-at .ensures in
+    let s = c .before .before .before .before .slope-at .ensures in
+    let l = c .before .before .before .early-of .ensures in
     let b = c .before .before .bin-of .ensures in
     let m = c .magnitude .ensures in
     let w = c .before .weight-at .ensures in
-    (rw (m, w, b .0, s), b .1)
+    (rw (m, w, b .0, l, s), b .1)
 
 pub sample-at-spec : {M : Type 1} → statement M
 sample-at-spec =
@@ -58,7 +60,7 @@ sample-at-spec =
     rem-x
     add-x
     slope-at-requires
-    sub-late
+    early-of-requires
     bin-of-requires
     weight-at-requires
     magnitude-requires

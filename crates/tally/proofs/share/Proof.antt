@@ -11,7 +11,7 @@ mul-add-requires c κs = search needs
 
 returns : tie.Need-returns
 unfolding shareOf
-returns c = rw (c .before .if1 .taken) (c .mul-add .ensures)
+returns c = rw (c .before .if1 .taken) (c .mul-add .ensures .0)
 
 returns-2 : tie.Need-returns-2
 unfolding shareOf

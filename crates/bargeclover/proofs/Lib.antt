@@ -1,1 +1,1 @@
-mod Oriented
+mod Inputs

@@ -2,7 +2,7 @@
 // Where a parameter or an answer stands for a float and is a u32 (or a u64), it is the float's bits, and every pattern is taken;
 // a not-a-number answered has the bits 2143289344.
 ghost use mathlib.Core.Path.{_≡_};
-ghost use lib.Ieee.{nan, ofBits, binary64};
+ghost use lib.Ieee.{ofBits, binary64};
 ghost use lib.ListN.{length};
 ghost use Rattle.ieee.specs.F32.{f32, bitsOf, fused, rootOf, narrowed, floorOf, rounded, toI32};
 ghost use Rattle.params.specs.Answers.{numberOf, countOf};
@@ -14,19 +14,19 @@ ghost use Rattle.descriptor.specs.Entry.{numberOf as describedNumber, countOf a
 ghost use Rattle.sheet.specs.Layout.{edition1};
 ghost use Rattle.sheet.specs.Writes.{frameOf, writeAnswer, writeOut};
 ghost use Rattle.sheet.specs.Reads.{readAnswer, readOut};
-ghost use Rattle.bargeclover.specs.Given.{settingsOf, wordsIn, broken, keypointIn};
-ghost use Rattle.bargeclover.specs.Oriented.{unoriented, sixIn, orientedIn, inputWords, wordsOut, inputsNumber, inputsLeft};
+ghost use Rattle.words.specs.Keypoint.{keypointIn};
+ghost use Rattle.words.specs.Oriented.{orientedIn};
+ghost use Rattle.bargeclover.specs.Given.{settingsOf};
+ghost use Rattle.bargeclover.specs.Inputs.{inputWords, wordsOut, inputsNumber, inputsLeft};
 ghost use Rattle.hal.specs.Exp.{exp2Of, expOf};
 ghost use Rattle.hal.specs.Turn.{sinOf, cosOf};
 ghost use Rattle.hal.specs.Angle.{angleOf};
 ghost use Rattle.hal.specs.Magnitude.{magnitudeOf};
 use descriptor::Described;
 use inputs::Inputs;
-use orient::OrientedKeypoint;
 use params::Answer;
 use params::Settings;
 use params::Threshold;
-use refine::RawKeypoint;
 
 // ---- routines
 
@@ -118,7 +118,7 @@ pub extern "C" fn bargeclover_to_i32(x: u32) -> i32
 
 // ---- answers
 
-// The number that document 01 gives to an answer.
+// The number of an answer (rule A2).
 fn number_of(a: Answer) -> u32
     ensures { λ r. ⌜ r ≡ numberOf a ⌝ }
 {
@@ -129,7 +129,7 @@ fn number_of(a: Answer) -> u32
     }
 }
 
-// The count beside it.
+// The count beside it (rule A17).
 fn count_of(a: Answer) -> usize
     ensures { λ r. ⌜ r ≡ countOf a ⌝ }
 {
@@ -208,61 +208,6 @@ pub extern "C" fn bargeclover_find_extrema(
 
 // ---- orientation
 
-fn not_a_number() -> f32
-    ensures { λ r. ⌜ r ≡ nan ⌝ }
-{
-    0.0 / 0.0
-}
-
-// A keypoint that no entry takes.
-fn broken_keypoint() -> RawKeypoint
-    ensures { λ r. ⌜ r ≡ broken ⌝ }
-{
-    let x = not_a_number();
-    RawKeypoint {
-        x: x,
-        y: x,
-        size: x,
-        response: x,
-        octave: 0,
-        layer: 0,
-        xi: x,
-        cc: 0,
-        rr: 0,
-        moves: 0,
-    }
-}
-
-// The keypoint of ten words.
-fn whole_keypoint(k: &[u32]) -> RawKeypoint
-    requires { ⌜ length (now k) ≡ 10 ⌝ }
-    ensures { λ r. ⌜ r ≡ wordsIn (now (k .entry)) ⌝ }
-{
-    RawKeypoint {
-        x: ieee::of_bits(k[0]),
-        y: ieee::of_bits(k[1]),
-        size: ieee::of_bits(k[2]),
-        response: ieee::of_bits(k[3]),
-        octave: k[4],
-        layer: k[5],
-        xi: ieee::of_bits(k[6]),
-        cc: k[7],
-        rr: k[8],
-        moves: k[9],
-    }
-}
-
-// The keypoint of words, whole or not.
-fn keypoint_in(k: &[u32]) -> RawKeypoint
-    ensures { λ r. ⌜ r ≡ keypointIn (now (k .entry)) ⌝ }
-{
-    if k.len() == 10 {
-        whole_keypoint(k)
-    } else {
-        broken_keypoint()
-    }
-}
-
 #[no_mangle]
 pub extern "C" fn bargeclover_assign_orientations(
     img: &[f32],
@@ -278,7 +223,7 @@ pub extern "C" fn bargeclover_assign_orientations(
     ensures { λ _. ⌜ now (samples .exit) ≡ orientAnswer (now (img .entry)) width height (keypointIn (now (keypoint .entry))) (length (now (out .entry))) .samples ⌝ }
     ensures { λ _. ⌜ now (out .exit) ≡ orientOut (now (img .entry)) width height (keypointIn (now (keypoint .entry))) (now (out .entry)) ⌝ }
 {
-    let k = keypoint_in(keypoint);
+    let k = words::keypoint_in(keypoint);
     let r = orient::assign_orientations(img, width, height, k, out);
     let a = r.answer;
     *count = count_of(a);
@@ -287,52 +232,6 @@ pub extern "C" fn bargeclover_assign_orientations(
 }
 
 // ---- the descriptor's inputs
-
-// An oriented keypoint that no entry takes.
-fn unoriented_keypoint() -> OrientedKeypoint
-    ensures { λ r. ⌜ r ≡ unoriented ⌝ }
-{
-    let x = not_a_number();
-    OrientedKeypoint {
-        x: x,
-        y: x,
-        size: x,
-        response: x,
-        octave: 0,
-        angle: x,
-    }
-}
-
-// The oriented keypoint of six words.
-fn whole_oriented(o: &[u32]) -> OrientedKeypoint
-    requires { ⌜ length (now o) ≡ 6 ⌝ }
-    ensures { λ r. ⌜ r ≡ sixIn (now (o .entry)) ⌝ }
-{
-    OrientedKeypoint {
-        x: ieee::of_bits(o[0]),
-        y: ieee::of_bits(o[1]),
-        size: ieee::of_bits(o[2]),
-        response: ieee::of_bits(o[3]),
-        octave: o[4],
-        angle: ieee::of_bits(o[5]),
-    }
-}
-
-// The oriented keypoint of words, whole or not.
-fn oriented_in(o: &[u32]) -> OrientedKeypoint
-    ensures { λ r. ⌜ r ≡ orientedIn (now (o .entry)) ⌝ }
-{
-    if o.len() == 6 {
-        let k = whole_oriented(o);
-        if k.response == k.response {
-            k
-        } else {
-            unoriented_keypoint()
-        }
-    } else {
-        unoriented_keypoint()
-    }
-}
 
 fn put_inputs(i: Inputs, out: &mut [u32])
     requires { ⌜ length (now out) ≡ inputWords ⌝ }
@@ -353,7 +252,7 @@ pub extern "C" fn bargeclover_descriptor_inputs(
     ensures { λ r. ⌜ r ≡ inputsNumber (inputsOf (orientedIn (now (oriented .entry))) octave) (length (now (out .entry))) ⌝ }
     ensures { λ _. ⌜ now (out .exit) ≡ inputsLeft (inputsOf (orientedIn (now (oriented .entry))) octave) (now (out .entry)) ⌝ }
 {
-    let i = inputs::descriptor_inputs(oriented_in(oriented), octave);
+    let i = inputs::descriptor_inputs(words::oriented_in(oriented), octave);
     if i.number != 0 {
         return i.number;
     }
@@ -405,7 +304,7 @@ pub extern "C" fn bargeclover_compute_descriptor(
     y: f32,
     scale: f32,
     angle: f32,
-    out: &mut [f32],
+    out: &mut [u32],
     count: &mut usize,
     samples: &mut usize,
 ) -> u32

@@ -1,73 +1,50 @@
--- Where all that is read is the same, each sample has no slope; and four neighbours are read for each sample. Assumes nothing.
+-- Where all that is read is level, each sample has no slope; and four neighbours are read for each sample. Assumes nothing.
 use Prim.Native.Nat.{ℕ, zero, suc, _+_, _-_, _*_, _<_, _≤_}
 use mathlib.Core.Path.{_≡_, refl, sym, ap, _∙_, subst}
-use mathlib.Core.Bool.{Bool, true, false, _&&_, cond}
-use mathlib.Core.Logic.{_⊎_, inl, inr, ⊎-elim}
+use mathlib.Core.Bool.{Bool, true, false, cond}
+use mathlib.Core.Logic.{_⊎_, ⊎-elim}
 use mathlib.Core.List.{List, [], _∷_, _++_}
 use native.Mathlib.Nat.{eq-or-lt-of-le, le-of-suc-le-suc}
 use native.Mathlib.Numerals.{add-one}
 use native.Mathlib.Omega.{arith}
 use lib.Dec.{leb}
-use lib.ListN.{length, getD, length-append, List·getD-append}
+use lib.ListN.{length, length-append, List·getD-append}
 use lib.Seq.{getD-append-add}
 use lib.IntN.{pos, _-ℤ_}
 use lib.Ieee.{Float, nan, ofBits, neg, le}
 use lib.Ieee.Scale.{finite}
+use Rattle.ieee.specs.F32.{_=ᶠ_}
 use Rattle.ieee.proofs.Monotone.{nil}
 use Rattle.ieee.proofs.Bounds.{bounds-finite}
 use Rattle.lists.specs.Ranges.{joined}
-use Rattle.lists.proofs.Ranges.{joined-none, joined-more}
+use Rattle.lists.proofs.Ranges.{joined-more}
 use Rattle.params.specs.Limits.{sampleLimit}
 use Rattle.params.specs.Table.{goodSample, allGood}
 use Rattle.patch.specs.Patch.{nought, pixel, endsOf, inRun, gridAt, first, past, usedAt, sampleAt, fourAt, overCells, samplesOf, readsOf}
 use Rattle.patch.specs.Rules.{Used}
 use Rattle.patch.specs.declared.Turn.{Turn}
-use Rattle.grid_laws.proofs.Parts.{sub-same}
+use Rattle.grid_laws.proofs.Parts.{sub-level}
+use Rattle.descriptor.specs.Nothing.{Level}
 use Rattle.descriptor.proofs.Checks.{and-both}
 
--- ---- all of a list is v
-abbrev Same : Float → List Float → Type 0
-Same v l = (i : ℕ) → i < length l → getD l i nan ≡ v
+-- ---- a part of what is level is level
+level-front : (a b : List Float) → Level (a ++ b) → Level a
+level-front a b s i j h k =
+    rw (List·getD-append a b nan i h, List·getD-append a b nan j k) at (s i j (rw length-append (omega arith)) (rw length-append (omega arith)))
 
-same-front : (v : Float) (a b : List Float) → Same v (a ++ b) → Same v a
-same-front v a b s i h = sym (List·getD-append a b nan i h) ∙ s i (rw length-append (omega arith))
+level-back : (a b : List Float) → Level (a ++ b) → Level b
+level-back a b s i j h k =
+    rw (getD-append-add a b i nan, getD-append-add a b j nan) at (s (length a + i) (length a + j) (rw length-append (omega arith)) (rw length-append (omega arith)))
 
-same-back : (v : Float) (a b : List Float) → Same v (a ++ b) → Same v b
-same-back v a b s i h = sym (getD-append-add a b i nan) ∙ s (length a + i) (rw length-append (omega arith))
-
--- each part of a joined list is, where the whole is
-same-part : (v : Float) (lo hi i : ℕ) (f : ℕ → List Float) → lo ≤ i → i < hi → Same v (joined lo hi f) → Same v (f i)
-same-part v lo zero i f a b s = absurd (omega arith)
-same-part v lo (suc hi) i f a b s =
+level-part : (lo hi i : ℕ) (f : ℕ → List Float) → lo ≤ i → i < hi → Level (joined lo hi f) → Level (f i)
+level-part lo zero i f a b s = absurd (omega arith)
+level-part lo (suc hi) i f a b s =
     let l : lo ≤ hi = omega arith in
-    let t : Same v (joined lo hi f ++ f hi) = subst (Same v) (ap (λ (n : ℕ). joined lo n f) (sym (add-one hi)) ∙ joined-more lo hi f l) s in
+    let t : Level (joined lo hi f ++ f hi) = subst Level (ap (λ (n : ℕ). joined lo n f) (sym (add-one hi)) ∙ joined-more lo hi f l) s in
     ⊎-elim
-    (λ e. subst (λ (n : ℕ). Same v (f n)) (sym e) (same-back v (joined lo hi f) (f hi) t))
-    (λ m. same-part v lo hi i f a m (same-front v (joined lo hi f) (f hi) t))
+    (λ e. subst (λ (n : ℕ). Level (f n)) (sym e) (level-back (joined lo hi f) (f hi) t))
+    (λ m. level-part lo hi i f a m (level-front (joined lo hi f) (f hi) t))
     (eq-or-lt-of-le (le-of-suc-le-suc b))
-
-module _ (img : List Float) (w h : ℕ) (t : Turn) where
-  same-used : (v : Float) → Same v (readsOf img w h t) → (r c : ℕ) → Used w h t r c → Same v (fourAt img w h r c)
-  unfolding readsOf overCells
-  same-used v s r c u =
-      let row : Same v (joined (first (t .px) (t .radius)) (past (t .px) (t .radius) w) (λ c. cond (usedAt t r c) (fourAt img w h r c) [])) =
-      same-part v (first (t .py) (t .radius)) (past (t .py) (t .radius) h) r _ (u .top) (u .bottom) s in
-      let cell : Same v (cond (usedAt t r c) (fourAt img w h r c) []) =
-      same-part v (first (t .px) (t .radius)) (past (t .px) (t .radius) w) c (λ c. cond (usedAt t r c) (fourAt img w h r c) []) (u .left) (u .right) row in
-      subst (λ (b : Bool). Same v (cond b (fourAt img w h r c) [])) (u .used) cell
-
-  -- the four neighbours of a used cell
-  pub record Level (v : Float) (r c : ℕ) : Type 0 where
-    pub right : pixel img w h r (c + 1) ≡ v
-    pub left : pixel img w h r (c - 1) ≡ v
-    pub up : pixel img w h (r - 1) c ≡ v
-    pub down : pixel img w h (r + 1) c ≡ v
-
-  pub level : (v : Float) → Same v (readsOf img w h t) → (r c : ℕ) → Used w h t r c → Level v r c
-  unfolding fourAt
-  level v s r c u =
-      let f = same-used v s r c u in
-      record { right = f 0 (omega arith); left = f 1 (omega arith); up = f 2 (omega arith); down = f 3 (omega arith) }
 
 pub used-grid : (t : Turn) (r c : ℕ) → usedAt t r c ≡ true → gridAt t r c ≡ true
 unfolding usedAt
@@ -82,21 +59,31 @@ limits : (finite (neg sampleLimit) ≡ true) × (finite sampleLimit ≡ true)
 unfolding ofBits neg
 limits = (refl, refl)
 
-module _ (img : List Float) (w h : ℕ) (t : Turn) (r c : ℕ) (v : Float) (l : Level img w h t v r c) where
-  pub good-finite : allGood (fourAt img w h r c) ≡ true → finite v ≡ true
-  unfolding fourAt allGood
-  good-finite e =
-      let g : goodSample v ≡ true = subst (λ (z : Float). goodSample z ≡ true) (l .right) (and-both (goodSample (pixel img w h r (c + 1))) _ e .0) in
-      let b = and-both (le (neg sampleLimit) v) (le v sampleLimit) g in
-      bounds-finite (record { from = limits .0; to = limits .1; low = b .0; high = b .1 })
+good-finite : (v : Float) → goodSample v ≡ true → finite v ≡ true
+good-finite v g =
+    let b = and-both (le (neg sampleLimit) v) (le v sampleLimit) g in
+    bounds-finite (record { from = limits .0; to = limits .1; low = b .0; high = b .1 })
 
-  pub no-slope-x : finite v ≡ true → sampleAt img w h t r c .dx ≡ nought
-  unfolding sampleAt
-  no-slope-x f = rw (l .right, l .left, nought-is) (sub-same v f)
+module _ (img : List Float) (w h : ℕ) (t : Turn) where
+  level-used : Level (readsOf img w h t) → (r c : ℕ) → Used w h t r c → Level (fourAt img w h r c)
+  unfolding readsOf overCells
+  level-used s r c u =
+      let row : Level (joined (first (t .px) (t .radius)) (past (t .px) (t .radius) w) (λ c. cond (usedAt t r c) (fourAt img w h r c) [])) =
+      level-part (first (t .py) (t .radius)) (past (t .py) (t .radius) h) r _ (u .top) (u .bottom) s in
+      let cell : Level (cond (usedAt t r c) (fourAt img w h r c) []) =
+      level-part (first (t .px) (t .radius)) (past (t .px) (t .radius) w) c (λ c. cond (usedAt t r c) (fourAt img w h r c) []) (u .left) (u .right) row in
+      subst (λ (b : Bool). Level (cond b (fourAt img w h r c) [])) (u .used) cell
 
-  pub no-slope-y : finite v ≡ true → sampleAt img w h t r c .dy ≡ nought
-  unfolding sampleAt
-  no-slope-y f = rw (l .up, l .down, nought-is) (sub-same v f)
+  -- about a used cell of a level patch: the differences of its neighbours are zeros
+  pub no-slope : Level (readsOf img w h t) → (r c : ℕ) → Used w h t r c → allGood (fourAt img w h r c) ≡ true
+      → ((sampleAt img w h t r c .dx =ᶠ nought) ≡ true) × ((sampleAt img w h t r c .dy =ᶠ nought) ≡ true)
+  unfolding fourAt allGood sampleAt
+  no-slope s r c u g =
+      let f = level-used s r c u in
+      let a = and-both (goodSample (pixel img w h r (c + 1))) _ g in
+      let b = and-both (goodSample (pixel img w h r (c - 1))) _ (a .1) in
+      let d = and-both (goodSample (pixel img w h (r - 1) c)) _ (b .1) in
+      (rw nought-is (sub-level (pixel img w h r (c + 1)) (pixel img w h r (c - 1)) (good-finite _ (a .0)) (f 0 1 (omega arith) (omega arith))), rw nought-is (sub-level (pixel img w h (r - 1) c) (pixel img w h (r + 1) c) (good-finite _ (d .0)) (f 2 3 (omega arith) (omega arith))))
 
 -- ---- four for one
 module _ {A B : Type 0} where

@@ -3,3 +3,4 @@ pub mod Checks
 pub mod Answers
 pub mod Flat
 pub mod Rules
+pub mod Nothing

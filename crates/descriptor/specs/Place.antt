@@ -1,4 +1,4 @@
--- What the descriptor asks of a position, a scale and an angle: number 5 of the table. Definitions only.
+-- What the descriptor asks of a position, a scale and an angle: number 5 of the table (rule A11). Definitions only.
 use Prim.Native.Nat.{ℕ}
 use mathlib.Core.Bool.{Bool, false, not, _&&_}
 use lib.Dec.{ltb}

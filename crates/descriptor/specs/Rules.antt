@@ -1,23 +1,21 @@
--- What is proved of the descriptor beyond the entry's contract: proofs/Rules.antt proves each. Definitions only.
-use Prim.Native.Nat.{ℕ, _*_, _<_}
+-- What is proved of the descriptor beyond the entry's contract and `Nothing`: proofs/Rules.antt proves each. Definitions only.
+use Prim.Native.Nat.{ℕ, _<_}
 use mathlib.Core.Path.{_≡_}
 use mathlib.Core.Bool.{true, false, _||_}
 use mathlib.Core.List.{List}
 use lib.IntN.{pos}
-use lib.ListN.{length, getD, replicate}
+use lib.ListN.{getD}
 use lib.Ieee.{Float, nan}
 use lib.Ieee.Scale.{finite}
 use Rattle.orient.specs.declared.OrientedKeypoint.{OrientedKeypoint}
 use Rattle.inputs.specs.Inputs.{inputsOf}
 use Rattle.inputs.specs.Rules.{Taken}
 use Rattle.inputs.specs.declared.Inputs.{Inputs}
-use Rattle.patch.specs.Patch.{nought, cellOf, samplesOf, readsOf}
-use Rattle.patch.specs.declared.Turn.{Turn}
+use Rattle.patch.specs.Patch.{cellOf}
 use Rattle.values.specs.Values.{values}
 use Rattle.values_laws.specs.Rules.{Byte}
-use Rattle.descriptor.specs.Place.{onSide, spotWrong, turnWrong, turnAt}
-use Rattle.descriptor.specs.Entry.{faultOf, valuesAt, describedOf}
-use Rattle.descriptor.specs.declared.Described.the-variants.{Done}
+use Rattle.descriptor.specs.Place.{onSide, spotWrong, turnWrong}
+use Rattle.descriptor.specs.Entry.{faultOf, valuesAt}
 
 -- the position rounds into the picture
 pub record Inside (w h : ℕ) (i : Inputs) : Type 0 where
@@ -29,16 +27,6 @@ pub record Inside (w h : ℕ) (i : Inputs) : Type 0 where
 pub record DescriptorRule : Type 0 where
   -- each of the 128 values is a whole number from 0 to 255
   pub whole : (img : List Float) (w h : ℕ) (x y scale angle : Float) → faultOf img w h x y scale angle ≡ 0 → (n : ℕ) → n < values → Byte (getD (valuesAt img w h x y scale angle) n nan)
-  -- four neighbours are read for each sample, so that no sample is where nothing is read
-  pub read : (img : List Float) (w h : ℕ) (t : Turn) → length (readsOf img w h t) ≡ 4 * length (samplesOf img w h t)
-  -- no sample gives zeros
-  pub none : (img : List Float) (w h : ℕ) (x y scale angle : Float) → length (samplesOf img w h (turnAt w h x y scale angle)) ≡ 0 → valuesAt img w h x y scale angle ≡ replicate values nought
-  -- and so does a flat patch, where all that is read is the same
-  pub flat : (img : List Float) (w h : ℕ) (x y scale angle v : Float) → faultOf img w h x y scale angle ≡ 0
-      → ((i : ℕ) → i < length (readsOf img w h (turnAt w h x y scale angle)) → getD (readsOf img w h (turnAt w h x y scale angle)) i nan ≡ v)
-      → valuesAt img w h x y scale angle ≡ replicate values nought
-  -- the number of samples, which is given back, tells the two apart
-  pub told : (img : List Float) (w h : ℕ) (x y scale angle : Float) → faultOf img w h x y scale angle ≡ 0 → describedOf img w h x y scale angle values ≡ Done (length (samplesOf img w h (turnAt w h x y scale angle)))
   -- the inputs of an oriented keypoint that orientation gave pass number 5 where the position rounds into the picture
   pub accepted : (w h octave : ℕ) (o : OrientedKeypoint) → Taken o octave → Inside w h (inputsOf o (pos octave))
       → (spotWrong w h (inputsOf o (pos octave) .x) (inputsOf o (pos octave) .y) || turnWrong (inputsOf o (pos octave) .scale) (inputsOf o (pos octave) .angle)) ≡ false

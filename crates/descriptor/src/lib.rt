@@ -2,23 +2,25 @@
 
 use patch::Turn;
 ghost use mathlib.Core.Path.{_≡_};
+ghost use mathlib.Core.List.{map};
 ghost use Prim.Native.Nat.{_+_, _*_, _<_, _≤_};
 ghost use lib.ListN.{length};
+ghost use Rattle.ieee.specs.F32.{bitsOf};
 ghost use Rattle.patch.specs.Patch.{samplesOf};
 ghost use Rattle.patch.specs.Place.{Lies};
 ghost use Rattle.values.specs.Values.{values as wanted};
 ghost use Rattle.descriptor.specs.Place.{onSide, cellAt, spotWrong, turnWrong, turnAt};
-ghost use Rattle.descriptor.specs.Entry.{faultOf, valuesAt, describedOf, describedOut};
+ghost use Rattle.descriptor.specs.Entry.{faultOf, wordsAt, describedOf, describedOut};
 ghost use Rattle.descriptor.specs.Accepted.{Aimed, Ready};
 
-// What `compute_descriptor` answers: done, with the samples used; not 128 places lent; or refused, by document 01's number.
+// What `compute_descriptor` answers: done, with the samples used; not 128 places lent; or refused, by its number (rule A2).
 pub enum Described {
     Done(usize),
     Short,
     Refused(u32),
 }
 
-// ---- number 5
+// ---- number 5 (rule A11)
 
 // Whether z is a cell of a side of n.
 fn on_side(n: usize, z: i32) -> bool
@@ -88,19 +90,19 @@ fn fault_of(img: &[f32], w: usize, h: usize, x: f32, y: f32, scale: f32, angle: 
 
 // ---- the values
 
-// All of v, to a list as long.
-fn put(v: &[f32; 128], out: &mut [f32])
+// The bits of all of v, to a list as long.
+fn put(v: &[f32; 128], out: &mut [u32])
     requires { ⌜ (length (now v) ≡ wanted) × (length (now out) ≡ wanted) ⌝ }
-    ensures { λ _. ⌜ now (out .exit) ≡ now (v .entry) ⌝ }
+    ensures { λ _. ⌜ now (out .exit) ≡ map bitsOf (now (v .entry)) ⌝ }
 {
     let mut n: usize = 0;
     while n < 128 {
-        out[n] = v[n];
+        out[n] = ieee::bits_of(v[n]);
         n += 1;
     }
 }
 
-// The values of the patch, and the number of its samples.
+// The values of the patch by their bits, and the number of its samples.
 fn fill(
     img: &[f32],
     w: usize,
@@ -109,11 +111,11 @@ fn fill(
     y: f32,
     scale: f32,
     angle: f32,
-    out: &mut [f32],
+    out: &mut [u32],
 ) -> usize
     requires { ⌜ Ready (now img) w h x y scale angle × (length (now out) ≡ wanted) ⌝ }
     ensures { λ n. ⌜ n ≡ length (samplesOf (now (img .entry)) w h (turnAt w h x y scale angle)) ⌝ }
-    ensures { λ _. ⌜ now (out .exit) ≡ valuesAt (now (img .entry)) w h x y scale angle ⌝ }
+    ensures { λ _. ⌜ now (out .exit) ≡ wordsAt (now (img .entry)) w h x y scale angle ⌝ }
 {
     let mut hist = [0.0; 360];
     let t = turn_at(w, h, x, y, scale, angle);
@@ -123,7 +125,8 @@ fn fill(
     used
 }
 
-// The 128 values of the patch about a position, and the number of its samples.
+// The 128 values of the patch about a position, each by its bits, and the number of its samples. The values are lent as words and not as floats: a lent word is all its
+// bits, so that a refusal leaves even the payload of a not-a-number as it stood.
 pub fn compute_descriptor(
     img: &[f32],
     w: usize,
@@ -132,7 +135,7 @@ pub fn compute_descriptor(
     y: f32,
     scale: f32,
     angle: f32,
-    out: &mut [f32],
+    out: &mut [u32],
 ) -> Described
     ensures { λ a. ⌜ a ≡ describedOf (now (img .entry)) w h x y scale angle (length (now (out .entry))) ⌝ }
     ensures { λ _. ⌜ now (out .exit) ≡ describedOut (now (img .entry)) w h x y scale angle (now (out .entry)) ⌝ }

@@ -3,10 +3,13 @@
 ghost use Prim.Native.Nat.{_≤_};
 use descriptor::Described;
 
+// How the file begins: "BCL3".
 const MARK: u32 = 0x4243_4c33;
 
+// What stands in the lent words before a call.
 const PATTERN: u32 = 0xa5a5_a5a5;
 
+// The most room a case lends: twice 128, so that more than is wanted is tried too.
 const ROOM: usize = 256;
 
 // A case's head.
@@ -88,13 +91,13 @@ fn compare_answer(counts: &mut [u64; 9], a: Described, c: Case) {
     replay::add(counts, replay::CASES, 1);
 }
 
-// Compares the n lent values, as they stand after the call, with the file's.
-fn compare_values(fd: i32, counts: &mut [u64; 9], out: &[f32; 256], n: usize)
+// Compares the n lent words, as they stand after the call, with the file's.
+fn compare_values(fd: i32, counts: &mut [u64; 9], out: &[u32; 256], n: usize)
     requires { ⌜ n ≤ 256 ⌝ }
 {
     for i in 0..n {
         let want = replay::next(fd, counts);
-        if ieee::bits_of(out[i]) != want {
+        if out[i] != want {
             replay::add(counts, replay::WORDS_DIFFER, 1);
         }
     }
@@ -106,7 +109,7 @@ fn replay_case(fd: i32, counts: &mut [u64; 9], c: Case, n: usize, room: usize)
     requires { ⌜ (n ≤ 65536) × (room ≤ 256) ⌝ }
 {
     let samples = replay::read_samples(fd, counts, n);
-    let mut out = [ieee::of_bits(PATTERN); 256];
+    let mut out = [PATTERN; 256];
     let a = descriptor::compute_descriptor(
         &samples[..n],
         c.width,

@@ -1,4 +1,4 @@
--- The histogram of 6 × 6 cells of 10 slots: what a sample adds to it. Operation by operation as `scatter` of the source. Definitions only.
+-- The histogram of 6 × 6 cells of 10 slots: what a sample adds to it (rules P9 to P12). Operation by operation as `scatter` of the source. Definitions only.
 use Prim.Native.Nat.{ℕ, _+_, _-_}
 use mathlib.Core.Bool.{Bool, _&&_, cond}
 use mathlib.Core.List.{List, [], _∷_}
@@ -20,7 +20,7 @@ use Rattle.grid.specs.declared.Spot.{Spot}
 abbrev pub binsPerDegree : Float
 binsPerDegree = f32 0x3cb6_0b61
 
--- `floor_i`: cut, and one less where that is above
+-- `floor_i` (rule P10): cut, and one less where that is above
 unfoldable pub floorI : Float → ℤ
 floorI v = cond (v <ᶠ floatZ (toI32 v)) (toI32 v -ℤ pos 1) (toI32 v)
 
@@ -34,7 +34,7 @@ unfoldable pub fromBorder : ℤ → ℕ
 fromBorder (pos n) = n + 1
 fromBorder (negsuc n) = 0
 
--- m split by how far it lies past the nearer row, column and slot
+-- m split (rule P11) by how far it lies past the nearer row, column and slot
 unfoldable pub sharesOf : Float → Float → Float → Float → Shares
 sharesOf m rb cb ob =
     let r1 = m ⊗ rb in
@@ -81,7 +81,7 @@ pairAt h i a b = addAt (addAt h i a) (i + 1) b
 unfoldable pub when : Bool → List Float → ℕ → Float → Float → List Float
 when t h i a b = cond t (pairAt h i a b) h
 
--- the outer ring, 0 and 5, takes nothing
+-- the outer ring, 0 and 5, takes nothing (rule P12)
 unfoldable pub live : ℕ → Bool
 live r = leb 1 r && leb r 4
 

@@ -28,7 +28,8 @@ pub struct Spot {
     pub shares: Shares,
 }
 
-// `floor_i` of the source, for a v in -8 to 8, and 8 more. From 2^23 on every f32 is whole, so that the sum rounds v to a whole number: the floor, or the one after it.
+// `floor_i` of the source, for a v in -8 to 8, and 8 more. 12582912 is 1.5 * 2^23, in the middle of the numbers from 2^23 to 2^24, among which the f32s are the whole numbers.
+// So v + (12582912 + 8) is rounded to a whole number, and less 12582912, which is exact, it is v + 8 rounded: the floor and 8, or one more.
 fn floor_i(v: f32) -> u32
     requires { ⌜ Near v ⌝ }
     ensures { λ k. ⌜ Floored v k ⌝ }
@@ -77,6 +78,7 @@ fn spot_of(powers: &[u32; 256], angle: f32, s: patch::Sample) -> Spot
     requires { ⌜ (now powers ≡ table) × Lands angle s ⌝ }
     ensures { λ r. ⌜ (r ≡ spotOf angle s) × Inside r ⌝ }
 {
+    // 8 / 360 slots a degree
     let turn = (hal::angle(s.dx, s.dy) - angle) * 0.022222223;
     let r0 = floor_i(s.rbin);
     let c0 = floor_i(s.cbin);
@@ -108,7 +110,7 @@ fn pair_if(t: bool, hist: &mut [f32; 360], i: usize, a: f32, b: f32)
     }
 }
 
-// The eight shares in the source's order. Pairs of the outer ring, which no value is made of, are left out.
+// The eight shares in the source's order; a column on lies 10 places on, and a row on 60. Pairs of the outer ring, which no value is made of, are left out.
 fn scatter(hist: &mut [f32; 360], p: Spot)
     requires { ⌜ Inside p ⌝ }
     ensures { λ _. ⌜ now (hist .exit) ≡ scattered (now (hist .entry)) p ⌝ }

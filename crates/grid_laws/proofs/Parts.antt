@@ -1,15 +1,16 @@
 -- A share m, from 0 to some top, split by a factor from 0 to 1: both parts lie in 0 to that top. Assumes nothing.
-use Prim.Native.Nat.{_*_, _-_}
+use Prim.Native.Nat.{ℕ, _+_, _*_, _-_, _<_}
 use mathlib.Core.Path.{_≡_, refl, subst}
-use mathlib.Core.Bool.{true, false, false≢true}
+use mathlib.Core.Bool.{Bool, true, false, not, _&&_, false≢true}
 use native.Mathlib.Nat.{mul-one, mul-pos}
 use native.Mathlib.Omega.{arith}
-use borrow.Author.Tests.{le-ltb}
-use lib.Dec.{T, ltb}
-use lib.Ieee.{Float, nan, inf, fin, binary32, up, down, sum, ofBits, neg, add, sub, mul, le, fits}
+use borrow.Author.Tests.{le-ltb, eqb-true}
+use lib.Dec.{T, ltb, eqb}
+use lib.IntN.{pos}
+use lib.Ieee.{Float, nan, inf, fin, binary32, up, down, sum, level, ofBits, neg, add, sub, mul, eq, le, fits}
 use lib.Ieee.Fits.{down-pos, mul-fits, sub-fits}
 use lib.Ieee.Scale.{finite}
-use Rattle.ieee.specs.F32.{_⊖_, _⊗_}
+use Rattle.ieee.specs.F32.{_⊖_, _⊗_, _=ᶠ_}
 use Rattle.ieee.proofs.Turned.{round-zero}
 use Rattle.ieee.proofs.Meaning.{round-held}
 use Rattle.ieee.proofs.Order.{le-trans-float}
@@ -40,6 +41,45 @@ sub-same (fin false m e) h =
     let a = m * up e * down e in
     let z : ltb (m * up e * down e) (m * up e * down e) ≡ false = le-ltb a a (omega arith) in
     rw z (round-zero binary32 false (a - a) (down e * down e) (mul-pos (down-pos e) (down-pos e)) (omega arith))
+
+-- ---- two that are equal as numbers differ by a zero, of either sign
+
+zero-level : (s : Bool) → (fin s 0 (pos 0) =ᶠ nil) ≡ true
+unfolding eq
+zero-level true = refl
+zero-level false = refl
+
+and-both : (a b : Bool) → (a && b) ≡ true → (a ≡ true) × (b ≡ true)
+and-both true b e = (refl, e)
+and-both false b e = absurd (false≢true e)
+
+-- ±x / c less ±y / c, where the two are level
+level-sum : (s t : Bool) (x y c : ℕ) → 0 < c → level s x t y ≡ true → (sum binary32 s x (not t) y c =ᶠ nil) ≡ true
+unfolding sum
+level-sum true true x y c C q =
+    let e = eqb-true x y (and-both (eqb x y) true q .0) in
+    rw (le-ltb x y (omega arith), round-zero binary32 (ltb y x) (x - y) c C (omega arith)) (zero-level (ltb y x))
+level-sum false false x y c C q =
+    let e = eqb-true x y (and-both (eqb x y) true q .0) in
+    rw (le-ltb x y (omega arith), round-zero binary32 false (x - y) c C (omega arith)) (zero-level false)
+level-sum true false x y c C q =
+    let b = and-both (eqb x y) (eqb x 0) q in
+    let e = eqb-true x y (b .0) in
+    let z = eqb-true x 0 (b .1) in
+    rw (round-zero binary32 true (x + y) c C (omega arith)) (zero-level true)
+level-sum false true x y c C q =
+    let b = and-both (eqb x y) (eqb x 0) q in
+    let e = eqb-true x y (b .0) in
+    let z = eqb-true x 0 (b .1) in
+    rw (round-zero binary32 false (x + y) c C (omega arith)) (zero-level false)
+
+pub sub-level : (a b : Float) → finite a ≡ true → (a =ᶠ b) ≡ true → (a ⊖ b =ᶠ nil) ≡ true
+unfolding sub add neg eq
+sub-level nan b h q = absurd (false≢true h)
+sub-level (inf s) b h q = absurd (false≢true h)
+sub-level (fin s m e) nan h q = absurd (false≢true q)
+sub-level (fin s m e) (inf t) h q = absurd (false≢true q)
+sub-level (fin s m e) (fin t n d) h q = level-sum s t (m * up e * down d) (n * up d * down e) (down e * down d) (mul-pos (down-pos e) (down-pos d)) q
 
 -- ---- a part, and a split of it
 

@@ -6,10 +6,10 @@ use mathlib.Core.List.{List}
 use native.Mathlib.Omega.{arith}
 use lib.Dec.{T}
 use lib.ListN.{length, replicate, length-replicate}
-use lib.Ieee.{Float, binary32, ofBits, sub, mul, le, eq}
+use lib.Ieee.{Float, binary32, ofBits, sub, mul, le}
 use lib.Ieee.Bits.{is-true}
 use lib.Ieee.Scale.{finite}
-use Rattle.ieee.specs.F32.{_⊖_, _⊗_, absOf}
+use Rattle.ieee.specs.F32.{_⊖_, _⊗_, _=ᶠ_}
 use Rattle.ieee.proofs.Order.{lt-le}
 use Rattle.ieee.proofs.Monotone.{nil}
 use Rattle.ieee.proofs.Bounds.{Bounds, bounds-point, sub-bounds}
@@ -76,12 +76,12 @@ empty-top : Top nil
 unfolding ofBits mul sub le
 empty-top = record { ended = refl; product = (refl, refl); rest = (refl, (refl, refl)) }
 
-flat-magnitude : magnitudeOf nought nought ≡ nil
-unfolding ofBits absOf le eq
-flat-magnitude = magnitude-rule .none nought nought tt tt tt
+flat-magnitude : (dx dy : Float) → inAngle dx dy ≡ true → (dx =ᶠ nought) ≡ true → (dy =ᶠ nought) ≡ true → magnitudeOf dx dy ≡ nil
+unfolding ofBits
+flat-magnitude dx dy h p q = magnitude-rule .none dx dy (subst T (sym h) tt) (subst T (sym p) tt) (subst T (sym q) tt)
 
-empty-part : (dx dy : Float) → dx ≡ nought → dy ≡ nought → Part nil (magnitudeOf dx dy)
-empty-part dx dy p q = record { bounds = rw (p, q, flat-magnitude) (bounds-point nil refl); held = magnitude-rule .held dx dy }
+empty-part : (dx dy : Float) → inAngle dx dy ≡ true → (dx =ᶠ nought) ≡ true → (dy =ᶠ nought) ≡ true → Part nil (magnitudeOf dx dy)
+empty-part dx dy h p q = record { bounds = rw (flat-magnitude dx dy h p q) (bounds-point nil refl); held = magnitude-rule .held dx dy }
 
 -- ---- a sample's spot and its shares
 
@@ -147,7 +147,7 @@ unfolding gathered
 flat-places angle ss e =
     gathered-kept angle
     (λ s c.
-    (inside-spot angle s (c .counts .lands), eight-to (λ a p. record { kept = λ x h. none-add x a (p .bounds) h }) (spot-parts angle s (c .counts .lands) empty-top (empty-part (s .dx) (s .dy) (c .dx) (c .dy)) (c .counts .fall))))
+    (inside-spot angle s (c .counts .lands), eight-to (λ a p. record { kept = λ x h. none-add x a (p .bounds) h }) (spot-parts angle s (c .counts .lands) empty-top (empty-part (s .dx) (s .dy) (c .counts .lands .slopes) (c .dx) (c .dy)) (c .counts .fall))))
     e (places-of refl)
 
 gathered-count : (angle : Float) (ss : List Sample) → length (gathered angle ss) ≡ places

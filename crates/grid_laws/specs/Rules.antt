@@ -5,7 +5,7 @@ use mathlib.Core.Bool.{true}
 use mathlib.Core.List.{List, [], _∷_}
 use lib.ListN.{length, getD, replicate}
 use lib.Ieee.{Float, nan}
-use Rattle.ieee.specs.F32.{f32}
+use Rattle.ieee.specs.F32.{_=ᶠ_, f32}
 use Rattle.hal.specs.Exp.{inDown}
 use Rattle.hal.specs.Rules.{In}
 use Rattle.patch.specs.Patch.{nought}
@@ -36,11 +36,11 @@ pub record Counts (angle : Float) (s : Sample) : Type 0 where
   pub lands : Lands angle s
   pub fall : inDown (s .fall) ≡ true
 
--- the same, and the picture is flat about it
+-- the same, and the picture is level about it: no slope, whichever sign the zeros have
 pub record Flat (angle : Float) (s : Sample) : Type 0 where
   pub counts : Counts angle s
-  pub dx : s .dx ≡ nought
-  pub dy : s .dy ≡ nought
+  pub dx : (s .dx =ᶠ nought) ≡ true
+  pub dy : (s .dy =ᶠ nought) ≡ true
 
 -- P of each sample of a list
 pub data Each (P : Sample → Type 0) : List Sample → Type 0 where
@@ -56,5 +56,5 @@ pub record GridRule : Type 0 where
   pub count : (angle : Float) (ss : List Sample) → length (gathered angle ss) ≡ places
   -- each holds 0 to 2 ^ 46, however many samples there are, and no minus zero
   pub held : (angle : Float) (ss : List Sample) → Each (Counts angle) ss → (i : ℕ) → i < places → Held (getD (gathered angle ss) i nan)
-  -- samples of a flat picture leave the histogram empty
+  -- samples of a level picture leave the histogram empty, each place +0
   pub flat : (angle : Float) (ss : List Sample) → Each (Flat angle) ss → gathered angle ss ≡ replicate places nought

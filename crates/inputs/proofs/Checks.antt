@@ -1,12 +1,14 @@
 -- The tests of the inputs, and which answer they lead to. Assumes nothing.
-use Prim.Native.Nat.{ℕ, _≤_}
+use Prim.Native.Nat.{ℕ, _*_, _≤_}
 use mathlib.Core.Path.{_≡_, refl, sym, _∙_}
-use mathlib.Core.Bool.{Bool, true, false, _||_, true≢false}
+use mathlib.Core.Bool.{Bool, true, false, not, _||_, Bool·beq, true≢false, false≢true}
 use native.Mathlib.Omega.{arith}
-use borrow.Author.Tests.{ltb-false, le-ltb}
+use borrow.Author.Tests.{ltb-false, le-ltb, eq-eqb}
 use lib.Dec.{T, ltb}
 use lib.IntN.{ℤ, pos, negsuc, natAbs}
 use lib.Signed.{ltZ, nonNeg}
+use lib.Ieee.{Float, nan, inf, fin, up, down, eq, isNan}
+use lib.Ieee.Scale.{finite}
 use mir.Syntax.{w32}
 use mir.Val.{SFits, toZ, ofZ}
 use mir.ValLaws.{toZ-ofZ}
@@ -15,6 +17,24 @@ use Rattle.params.specs.Table.{firstFault}
 use Rattle.orient.specs.declared.OrientedKeypoint.{OrientedKeypoint}
 use Rattle.inputs.specs.Inputs.{octaveWrong, octaveOf, orientedWrong, inputsFault, givenOf, refusedWith, inputsOf}
 
+-- ---- the response: only a not-a-number differs from itself
+same-sign : (s : Bool) → Bool·beq s s ≡ true
+same-sign true = refl
+same-sign false = refl
+
+pub eq-self : (x : Float) → eq x x ≡ not (isNan x)
+unfolding eq isNan
+eq-self nan = refl
+eq-self (inf s) = same-sign s
+eq-self (fin s m e) = rw (eq-eqb (m * up e * down e) (m * up e * down e) refl, same-sign s)
+
+pub finite-number : (x : Float) → finite x ≡ true → isNan x ≡ false
+unfolding isNan
+finite-number nan h = absurd (false≢true h)
+finite-number (inf s) h = refl
+finite-number (fin s m e) h = refl
+
+-- ---- the octave
 pub octave-test : (z : ℤ) → (ltZ z (pos 0) || ltZ (pos 15) z) ≡ octaveWrong z
 octave-test (pos n) = rw (le-ltb n 0 (omega arith))
 octave-test (negsuc n) = refl

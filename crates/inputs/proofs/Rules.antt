@@ -29,7 +29,7 @@ use Rattle.orient.proofs.Rules.{orient-rule}
 use Rattle.inputs.specs.Inputs.{nought, half, wholeTurn, epsilon, float, octaveWrong, orientedWrong, shrinkOf, turnedOf, givenOf, inputsOf}
 use Rattle.inputs.specs.Rules.{Taken, InputRule}
 use Rattle.inputs.specs.declared.Inputs.{Inputs}
-use Rattle.inputs.proofs.Checks.{accepted}
+use Rattle.inputs.proofs.Checks.{finite-number, accepted}
 
 -- ---- the angle
 
@@ -122,7 +122,7 @@ module _ (w h octave : ℕ) (s : Settings) (k : RawKeypoint) (o : OrientedKeypoi
 
   oriented-right : orientedWrong o ≡ false
   unfolding orientedWrong
-  oriented-right = rw (size-from octave (o .size) in-range size-low size-high, angle, p .x, p .y, p .size, z .x-number .ends, z .y-number .ends, z .size-number .ends)
+  oriented-right = rw (size-from octave (o .size) in-range size-low size-high, angle, p .x, p .y, p .size, z .x-number .ends, z .y-number .ends, z .size-number .ends, p .response, finite-number (k .response) (z .response-number .ends))
 
   is-given : inputsOf o (pos octave) ≡ givenOf o octave
   is-given = sym (accepted o (pos octave) (le-ltb maxOctave octave in-range) oriented-right)

@@ -4,7 +4,7 @@ use mathlib.Core.Bool.{Bool, true, _&&_, not, cond}
 use mathlib.Core.List.{[], _∷_}
 use lib.Dec.{ltb}
 use lib.IntN.{ℤ, pos, negsuc}
-use lib.Ieee.{Float, binary32, ofInt}
+use lib.Ieee.{Float, binary32, ofInt, isNan}
 use lib.Ieee.Scale.{finite}
 use Rattle.ieee.specs.F32.{_⊖_, _⊗_, _⊘_, _<ᶠ_, _≤ᶠ_, f32, absOf}
 use Rattle.params.specs.Limits.{maxOctave}
@@ -33,20 +33,24 @@ epsilon = f32 0x3400_0000
 abbrev pub float : ℕ → Float
 float n = ofInt binary32 (pos n)
 
--- 4: octave not in 0 to 15
+-- 4: octave not in 0 to 15 (rule A7)
 abbrev pub octaveWrong : ℤ → Bool
 octaveWrong (pos n) = ltb maxOctave n
 octaveWrong (negsuc n) = true
 
--- 5: a finite position, a finite size from 0 and an angle in 0 to 360
+-- 5 (rule A10): a position or a size that is not finite, a size below 0, an angle outside 0 to 360; and a response that is no number, for then it is no keypoint
 unfoldable pub orientedWrong : OrientedKeypoint → Bool
 orientedWrong o =
-    not (finite (o .x) && (finite (o .y) && (finite (o .size) && ((nought ≤ᶠ o .size) && within nought wholeTurn (o .angle)))))
+    not
+    (finite (o .x)
+    && (finite (o .y)
+    && (finite (o .size)
+    && ((nought ≤ᶠ o .size) && (within nought wholeTurn (o .angle) && not (isNan (o .response)))))))
 
 unfoldable pub inputsFault : OrientedKeypoint → ℤ → ℕ
 inputsFault o octave = firstFault (line 4 (octaveWrong octave) ∷ line 5 (orientedWrong o) ∷ [])
 
--- 1 / 2^octave
+-- 1 / 2^octave (rule P1)
 abbrev pub octaveOf : ℤ → ℕ
 octaveOf (pos n) = n
 octaveOf (negsuc n) = 0

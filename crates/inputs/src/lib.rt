@@ -6,7 +6,7 @@ ghost use Prim.Native.Nat.{_≤_};
 ghost use Rattle.params.specs.Limits.{maxOctave};
 ghost use Rattle.inputs.specs.Inputs.{octaveWrong, octaveOf, orientedWrong, shrinkOf, turnedOf, givenOf, refusedWith, inputsOf};
 
-// Document 01's number, and what the descriptor is asked with; all +0 on a refusal.
+// The number of a refusal, or 0, and what the descriptor is asked with; all +0 on a refusal (rule A16).
 pub struct Inputs {
     pub number: u32,
     pub x: f32,
@@ -22,14 +22,15 @@ fn octave_wrong(octave: i32) -> bool
     (octave < 0) | (octave > 15)
 }
 
-// Number 5: a position or size that is not finite, a size below 0, or an angle outside 0 to 360.
+// Number 5: a position or size that is not finite, a size below 0, an angle outside 0 to 360, or a response that is no number, which alone differs from itself.
 fn oriented_wrong(o: OrientedKeypoint) -> bool
     ensures { λ b. ⌜ b ≡ orientedWrong o ⌝ }
 {
     !(ieee::is_finite(o.x)
         & (ieee::is_finite(o.y)
             & (ieee::is_finite(o.size)
-                & ((0.0 <= o.size) & ((0.0 <= o.angle) & (o.angle <= 360.0))))))
+                & ((0.0 <= o.size)
+                    & (((0.0 <= o.angle) & (o.angle <= 360.0)) & (o.response == o.response))))))
 }
 
 // 1 / 2^octave.
@@ -41,7 +42,7 @@ fn shrink(octave: u32) -> f32
     1.0 / (power as f32)
 }
 
-// The angle counted the other way round, in degrees.
+// The angle counted the other way round, in degrees (rule P1); what lies within f32 epsilon, 2^-23 = 0.00000011920929, of 360 is 0.
 fn turned(angle: f32) -> f32
     ensures { λ r. ⌜ r ≡ turnedOf angle ⌝ }
 {

@@ -1,4 +1,4 @@
--- The patch of a descriptor: its radius, the cells that are read, and what a cell gives. Operation by operation as `compute_descriptor` of the source. Definitions only.
+-- The patch of a descriptor: its radius, the cells that are read, and what a cell gives (rules P2 to P9). Operation by operation as `compute_descriptor` of the source. Definitions only.
 use Prim.Native.Nat.{ℕ, suc, _+_, _-_, min, max}
 use mathlib.Core.Bool.{Bool, not, _&&_, cond}
 use mathlib.Core.List.{List, [], _∷_}
@@ -60,11 +60,11 @@ floatZ z = ofInt binary32 z
 
 -- ---- the patch
 
--- the cell of a position: rounded, ties to even, as a whole number
+-- the cell of a position: rounded, ties to even, as a whole number (rule P2)
 abbrev pub cellOf : Float → ℤ
 cellOf x = toI32 (rounded x)
 
--- 3 × scale
+-- 3 × scale, and the turn over it (rule P3)
 unfoldable pub histWidth : Float → Float
 histWidth scale = three ⊗ scale
 
@@ -74,7 +74,7 @@ cosT scale angle = cosOf angle ⊘ histWidth scale
 unfoldable pub sinT : Float → Float → Float
 sinT scale angle = sinOf angle ⊘ histWidth scale
 
--- hist_width × √2 × 5 × 0.5 rounded
+-- hist_width × √2 × 5 × 0.5 rounded (rule P4)
 unfoldable pub reachOf : Float → ℕ
 reachOf scale = toUnsigned 64 (rounded (histWidth scale ⊗ root2 ⊗ five ⊗ half))
 
@@ -87,7 +87,7 @@ unfoldable pub turnOf : ℕ → ℕ → ℕ → ℕ → Float → Float → Turn
 turnOf w h px py scale angle =
     record { cos = cosT scale angle; sin = sinT scale angle; radius = radiusOf w h scale; px = px; py = py }
 
--- `clip_j`: the ends of a row's run are drawn in to the j with -1 < j × coef + off < 4
+-- `clip_j` (rule P6): the ends of a row's run are drawn in to the j with -1 < j × coef + off < 4
 unfoldable pub clipJ : Float → Float → Ends → Ends
 clipJ coef off e =
     cond (nought <ᶠ coef)
@@ -103,7 +103,7 @@ endsOf t r =
     clipJ (t .cos) (neg i ⊗ t .sin ⊕ middle)
     (clipJ (t .sin) (i ⊗ t .cos ⊕ middle) (record { lo = neg (float (t .radius)); hi = float (t .radius) }))
 
--- j lies in the run, widened by one on each side; no j lies in a run whose ends have crossed
+-- j lies in the run, widened by one on each side (rule P7); no j lies in a run whose ends have crossed
 unfoldable pub inRun : Ends → ℤ → Bool
 inRun e j =
     not (e .hi <ᶠ e .lo)
@@ -116,7 +116,7 @@ rotsOf t r c =
     let j = floatZ (pos c -ℤ pos (t .px)) in
     record { col = j ⊗ t .cos ⊖ i ⊗ t .sin; row = j ⊗ t .sin ⊕ i ⊗ t .cos }
 
--- its place in the grid
+-- its place in the grid (rule P8)
 abbrev pub binOf : Float → Float
 binOf rot = rot ⊕ two ⊖ half
 
@@ -135,7 +135,7 @@ usedAt t r c = inRun (endsOf t r) (pos c -ℤ pos (t .px)) && gridAt t r c
 abbrev pub pixel : List Float → ℕ → ℕ → ℕ → ℕ → Float
 pixel img w h r c = sample img w h 0 r c
 
--- the cell (r, c) as a sample
+-- the cell (r, c) as a sample (rule P9)
 unfoldable pub sampleAt : List Float → ℕ → ℕ → Turn → ℕ → ℕ → Sample
 sampleAt img w h t r c =
     let p = rotsOf t r c in
@@ -152,7 +152,7 @@ unfoldable pub fourAt : List Float → ℕ → ℕ → ℕ → ℕ → List Floa
 fourAt img w h r c =
     pixel img w h r (c + 1) ∷ pixel img w h r (c - 1) ∷ pixel img w h (r - 1) c ∷ pixel img w h (r + 1) c ∷ []
 
--- ---- the cells within the radius of the position, but not on the picture's edge, row by row
+-- ---- the cells within the radius of the position, but not on the picture's edge, row by row (rule P5)
 
 abbrev pub first : ℕ → ℕ → ℕ
 first at radius = max 1 (at - radius)

@@ -57,7 +57,7 @@ fn float(n: usize) -> f32
     n as f32
 }
 
-// hist_width * sqrt(2) * 5 * 0.5, rounded.
+// hist_width * sqrt(2) * 5 * 0.5, rounded: at most 3 * 64 * 1.41421356 * 2.5, some 679 (`maxRadius`).
 fn reach_of(scale: f32) -> usize
     requires { ⌜ within scaleLow scaleHigh scale ≡ true ⌝ }
     ensures { λ r. ⌜ (r ≡ reachOf scale) × (r ≤ maxRadius) ⌝ }

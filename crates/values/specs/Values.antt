@@ -1,4 +1,4 @@
--- From the histogram to the 128 values: folded, normed, clamped, scaled and rounded, as the tail of `compute_descriptor` of the source. Definitions only.
+-- From the histogram to the 128 values (rules P13 to P17): folded, normed, clamped, scaled and rounded, as the tail of `compute_descriptor` of the source. Definitions only.
 use Prim.Native.Nat.{ℕ, zero, suc, _+_, _*_, _/_, _%_}
 use mathlib.Core.Bool.{cond}
 use mathlib.Core.List.{List, [], _∷_}
@@ -30,7 +30,7 @@ epsilon = f32 0x3400_0000
 abbrev pub full : Float
 full = f32 0x437f_0000
 
--- slot k of the inner cell at row i, column j, each 0 to 3; the first slot takes the ninth
+-- slot k of the inner cell at row i, column j, each 0 to 3; the first slot takes the ninth (rule P13)
 unfoldable pub foldedAt : List Float → ℕ → ℕ → ℕ → Float
 foldedAt h i j k =
     let at = place (i + 1) (j + 1) 0 in
@@ -51,15 +51,15 @@ unfoldable pub lane : List Float → ℕ → ℕ → Float
 lane v l zero = nought
 lane v l (suc n) = fused (at v (4 * n + l)) (at v (4 * n + l)) (lane v l n)
 
--- the norm: four fused sums, (first + second) + (third + fourth)
+-- the norm (rule P14): four fused sums, (first + second) + (third + fourth)
 unfoldable pub norm2 : List Float → Float
 norm2 v = (lane v 0 32 ⊕ lane v 1 32) ⊕ (lane v 2 32 ⊕ lane v 3 32)
 
--- each value held to 0.2 of the norm's root
+-- each value held to 0.2 of the norm's root (rule P15)
 unfoldable pub clamped : List Float → List Float
 clamped v = let limit = rootOf (norm2 v) ⊗ clampRatio in listed (λ n. minOf (at v n) limit)
 
--- the clamp's norm is plain
+-- the second norm, of the held values, is plain (rule P16)
 unfoldable pub plainNorm : List Float → ℕ → Float
 plainNorm v zero = nought
 plainNorm v (suc n) = plainNorm v n ⊕ at v n ⊗ at v n
@@ -68,7 +68,7 @@ plainNorm v (suc n) = plainNorm v n ⊕ at v n ⊗ at v n
 unfoldable pub scaleOf : List Float → Float
 scaleOf v = factor ⊘ maxOf (rootOf (plainNorm v values)) epsilon
 
--- rounded, and held in 0 to 255
+-- rounded, and held in 0 to 255 (rule P17)
 unfoldable pub finished : List Float → List Float
 finished v = let scale = scaleOf v in listed (λ n. clampOf (rounded (at v n ⊗ scale)) nought full)
 

@@ -1,6 +1,8 @@
-//! The descriptor through the wrapper: document 01's picture of 2 x 2, a flat patch, a ramp, and what is refused.
+//! The descriptor through the wrapper: the picture of 2 x 2 (rule E10), a flat patch, a ramp, and what is refused.
 
-use bargeclover::{Aim, Oriented, Picture, Refusal, compute_descriptor, descriptor_inputs};
+use bargeclover::{
+    Aim, Oriented, Picture, Refusal, compute_descriptor, descriptor_inputs, entries,
+};
 
 fn picture(samples: &[f32], width: usize) -> Picture<'_> {
     Picture {
@@ -29,10 +31,29 @@ fn nothing_read_and_flat_are_told_apart() {
     };
     let none = compute_descriptor(&picture(&small, 2), &at).unwrap();
     assert_eq!((none.samples, none.values), (0, [0.0; 128]));
+    // zeros of both signs, in turn, are level too
+    let zeros: Vec<f32> = (0..21 * 21)
+        .map(|k| if k % 3 == 0 { -0.0 } else { 0.0 })
+        .collect();
+    for level in [vec![5.0; 21 * 21], zeros] {
+        let flat = compute_descriptor(&picture(&level, 21), &aim()).unwrap();
+        assert_eq!(flat.values.map(f32::to_bits), [0; 128]);
+        assert!(flat.samples > 100);
+    }
+}
+
+#[test]
+fn a_refusal_leaves_every_bit() {
+    // not-a-numbers with a sign and a payload
+    let before: [u32; 128] = std::array::from_fn(|k| 0xffa0_0001 + k as u32);
     let level = [5.0; 21 * 21];
-    let flat = compute_descriptor(&picture(&level, 21), &aim()).unwrap();
-    assert_eq!(flat.values, [0.0; 128]);
-    assert!(flat.samples > 100);
+    let outside = Aim { x: 20.6, ..aim() };
+    for (at, room, number) in [(outside, 128, 5), (aim(), 127, 7)] {
+        let mut out = before.map(f32::from_bits);
+        let told = entries::compute_descriptor(&picture(&level, 21), &at, &mut out[..room]);
+        assert_eq!(told.0, number);
+        assert_eq!(out.map(f32::to_bits), before);
+    }
 }
 
 #[test]
@@ -71,6 +92,11 @@ fn inputs_are_halved_and_turned() {
     let turned = Oriented { angle: 361.0, ..o };
     assert_eq!(descriptor_inputs(&turned, 1), Err(Refusal::Field));
     assert_eq!(descriptor_inputs(&turned, -1), Err(Refusal::Settings));
+    let no_number = Oriented {
+        response: f32::NAN,
+        ..o
+    };
+    assert_eq!(descriptor_inputs(&no_number, 1), Err(Refusal::Field));
 }
 
 #[test]

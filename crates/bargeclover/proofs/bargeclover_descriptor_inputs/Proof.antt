@@ -1,10 +1,10 @@
-use Rattle.bargeclover.proofs.Oriented.{told, refused, short, done}
+use Rattle.bargeclover.proofs.Inputs.{told, refused, short, done}
 use borrow.Author.Needs.{needs}
 use Rattle.bargeclover.proofs.bargeclover_descriptor_inputs.Statement.{statement}
 use Rattle.bargeclover.proofs.bargeclover_descriptor_inputs.Tie as tie
 use Rattle.bargeclover.proofs.bargeclover_descriptor_inputs.Reads as reads
 use Rattle.bargeclover.proofs.bargeclover_descriptor_inputs.Lts as lts
-use Rattle.bargeclover.proofs.oriented_in.Reads as oriented-in-reads
+use Rattle.words.proofs.oriented_in.Reads as oriented-in-reads
 use Rattle.bargeclover.proofs.put_inputs.Reads as put-inputs-reads
 use Rattle.inputs.proofs.descriptor_inputs.Reads as descriptor-inputs-reads
 

@@ -18,7 +18,7 @@ bits-of-requires : tie.Need-bits-of-requires
 bits-of-requires c κs = search needs
 
 returns : tie.Need-returns
-returns c = simp (c .bits-of .ensures, c .before .mul-add .ensures, c .before .before .of-bits3 .ensures, c .before .before .before .of-bits2 .ensures, c .before .before .before .before .of-bits .ensures)
+returns c = simp (c .bits-of .ensures, c .before .mul-add .ensures .0, c .before .before .of-bits3 .ensures, c .before .before .before .of-bits2 .ensures, c .before .before .before .before .of-bits .ensures)
 
 pub bargeclover-fma-spec : {M : Type 1} → statement M
 bargeclover-fma-spec =

@@ -12,7 +12,7 @@ bits-of-requires : tie.Need-bits-of-requires
 bits-of-requires c κs = search needs
 
 returns : tie.Need-returns
-returns c = simp (c .bits-of .ensures, c .before .narrow .ensures, c .before .before .of-bits64 .ensures)
+returns c = simp (c .bits-of .ensures, c .before .narrow .ensures .0, c .before .before .of-bits64 .ensures)
 
 pub bargeclover-narrow-spec : {M : Type 1} → statement M
 bargeclover-narrow-spec =

@@ -1,4 +1,4 @@
-use Rattle.bargeclover.proofs.Oriented.{four-out}
+use Rattle.bargeclover.proofs.Inputs.{four-out}
 use borrow.Author.Needs.{needs}
 use Rattle.bargeclover.proofs.put_inputs.Statement.{statement}
 use Rattle.bargeclover.proofs.put_inputs.Tie as tie

@@ -15,14 +15,11 @@ loop-holds c = search needs
 next-requires : tie.Need-next-requires Inv-loop μ-loop
 next-requires c κs = search needs
 
-mul-bits-of : tie.Need-mul-bits-of Inv-loop μ-loop
-mul-bits-of c = search needs
+mul-if1 : tie.Need-mul-if1 Inv-loop μ-loop
+mul-if1 c = search needs
 
-element-copy-out-bits-of : tie.Need-element-copy-out-bits-of Inv-loop μ-loop
-element-copy-out-bits-of c = search needs
-
-bits-of-requires : tie.Need-bits-of-requires Inv-loop μ-loop
-bits-of-requires c κs = search needs
+element-copy-out-if1 : tie.Need-element-copy-out-if1 Inv-loop μ-loop
+element-copy-out-if1 c = search needs
 
 add-requires : tie.Need-add-requires Inv-loop μ-loop
 add-requires c κs = search needs
@@ -50,9 +47,8 @@ compare-values-spec =
     μ-loop
     loop-holds
     next-requires
-    mul-bits-of
-    element-copy-out-bits-of
-    bits-of-requires
+    mul-if1
+    element-copy-out-if1
     add-requires
     add-i
     loop-less

@@ -7,9 +7,6 @@ use Rattle.descriptor_replay.proofs.replay_case.Tie as tie
 read-samples-requires : tie.Need-read-samples-requires
 read-samples-requires c κs = search needs
 
-of-bits-requires : tie.Need-of-bits-requires
-of-bits-requires c κs = search needs
-
 array-share-prefix-samples : tie.Need-array-share-prefix-samples
 array-share-prefix-samples c = search needs
 
@@ -39,7 +36,6 @@ replay-case-spec =
     tie.close
     (tie.spec
     read-samples-requires
-    of-bits-requires
     array-share-prefix-samples
     slice-aggregate-compute-descriptor
     array-borrow-prefix-out

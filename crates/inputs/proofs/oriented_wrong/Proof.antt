@@ -1,4 +1,5 @@
 use Rattle.inputs.specs.Inputs.{orientedWrong}
+use Rattle.inputs.proofs.Checks.{eq-self}
 use borrow.Author.Needs.{needs}
 use Rattle.inputs.proofs.oriented_wrong.Statement.{statement}
 use Rattle.inputs.proofs.oriented_wrong.Tie as tie
@@ -17,7 +18,7 @@ is-finite-requires-3 c κs = search needs
 
 returns : tie.Need-returns
 unfolding orientedWrong
-returns c = let b = c .before .before .before in rw (b .is-finite3 .ensures, b .before .is-finite2 .ensures, b .before .before .is-finite .ensures)
+returns c = let b = c .before .before .before .before in rw (eq-self _, b .is-finite3 .ensures, b .before .is-finite2 .ensures, b .before .before .is-finite .ensures)
 
 pub oriented-wrong-spec : {M : Type 1} → statement M
 oriented-wrong-spec =

@@ -1,7 +1,7 @@
-use Rattle.bargeclover.specs.Given.{broken}
+use Rattle.words.specs.Keypoint.{broken}
 use borrow.Author.Needs.{needs}
-use Rattle.bargeclover.proofs.broken_keypoint.Statement.{statement}
-use Rattle.bargeclover.proofs.broken_keypoint.Tie as tie
+use Rattle.words.proofs.broken_keypoint.Statement.{statement}
+use Rattle.words.proofs.broken_keypoint.Tie as tie
 
 not-a-number-requires : tie.Need-not-a-number-requires
 not-a-number-requires c κs = search needs

@@ -1,11 +1,11 @@
 use lib.ListN.{getD}
 use denote.Ref.{now}
-use Rattle.bargeclover.specs.Oriented.{sixIn}
+use Rattle.words.specs.Oriented.{sixIn}
 use borrow.Author.Needs.{needs}
-use Rattle.bargeclover.proofs.whole_oriented.Statement.{statement}
-use Rattle.bargeclover.proofs.whole_oriented.Tie as tie
-use Rattle.bargeclover.proofs.whole_oriented.Reads as reads
-use Rattle.bargeclover.proofs.whole_oriented.Lts as lts
+use Rattle.words.proofs.whole_oriented.Statement.{statement}
+use Rattle.words.proofs.whole_oriented.Tie as tie
+use Rattle.words.proofs.whole_oriented.Reads as reads
+use Rattle.words.proofs.whole_oriented.Lts as lts
 use Rattle.ieee.proofs.of_bits.Reads as of-bits-reads
 
 shared-slice-read-of-bits : tie.Need-shared-slice-read-of-bits

@@ -1,9 +1,9 @@
 use lib.ListN.{getD}
 use denote.Ref.{now}
-use Rattle.bargeclover.specs.Given.{wordsIn}
+use Rattle.words.specs.Keypoint.{wordsIn}
 use borrow.Author.Needs.{needs}
-use Rattle.bargeclover.proofs.whole_keypoint.Statement.{statement}
-use Rattle.bargeclover.proofs.whole_keypoint.Tie as tie
+use Rattle.words.proofs.whole_keypoint.Statement.{statement}
+use Rattle.words.proofs.whole_keypoint.Tie as tie
 
 shared-slice-read-of-bits : tie.Need-shared-slice-read-of-bits
 shared-slice-read-of-bits c = search needs

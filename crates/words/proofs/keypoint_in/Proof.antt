@@ -4,10 +4,10 @@ use mathlib.Core.List.{List}
 use lib.ListN.{length}
 use mathlib.Core.Bool.{Bool, cond}
 use borrow.Author.Tests.{eq-eqb, ne-eqb}
-use Rattle.bargeclover.specs.Given.{wordsIn, broken, keypointIn}
+use Rattle.words.specs.Keypoint.{wordsIn, broken, keypointIn}
 use borrow.Author.Needs.{needs}
-use Rattle.bargeclover.proofs.keypoint_in.Statement.{statement}
-use Rattle.bargeclover.proofs.keypoint_in.Tie as tie
+use Rattle.words.proofs.keypoint_in.Statement.{statement}
+use Rattle.words.proofs.keypoint_in.Tie as tie
 
 whole-is : (k : List ℕ) → length k ≡ 10 → wordsIn k ≡ keypointIn k
 unfolding keypointIn

@@ -1,7 +1,7 @@
 use mathlib.Core.Path.{refl}
 use lib.Ieee.{div, ofBits}
-use Rattle.bargeclover.proofs.not_a_number.Statement.{statement}
-use Rattle.bargeclover.proofs.not_a_number.Tie as tie
+use Rattle.words.proofs.not_a_number.Statement.{statement}
+use Rattle.words.proofs.not_a_number.Tie as tie
 
 returns : tie.Need-returns
 unfolding div ofBits

@@ -1,49 +1,19 @@
--- The oriented keypoint of words, and what the inputs' entry answers and leaves. Assumes nothing.
-use Prim.Native.Nat.{ℕ, zero, suc, _*_}
+-- What the inputs' entry answers and leaves. Assumes nothing.
+use Prim.Native.Nat.{ℕ, zero, suc}
 use mathlib.Core.Path.{_≡_, refl, sym, ap, _∙_}
-use mathlib.Core.Bool.{Bool, true, false, not, Bool·beq}
 use mathlib.Core.List.{List, [], _∷_}
 use native.Mathlib.Omega.{arith}
 use borrow.Author.Tests.{eq-eqb, ne-eqb}
 use lib.IntN.{ℤ}
-use lib.ListN.{length, getD, set}
-use lib.Ieee.{Float, nan, inf, fin, up, down, eq, isNan}
+use lib.ListN.{length, set}
 use mir.Syntax.{w32}
 use mir.Val.{SFits, toZ, ofZ}
 use mir.ValLaws.{toZ-ofZ}
-use Rattle.ieee.specs.F32.{f32, bitsOf}
+use Rattle.ieee.specs.F32.{bitsOf}
 use Rattle.orient.specs.declared.OrientedKeypoint.{OrientedKeypoint}
 use Rattle.inputs.specs.Inputs.{inputsOf}
 use Rattle.inputs.specs.declared.Inputs.{Inputs}
-use Rattle.bargeclover.specs.Oriented.{sixIn, unoriented, orientedIn, inputWords, wordsOut, inputsNumber, inputsLeft}
-
-same-sign : (s : Bool) → Bool·beq s s ≡ true
-same-sign true = refl
-same-sign false = refl
-
--- only a not-a-number differs from itself
-eq-self : (x : Float) → eq x x ≡ not (isNan x)
-unfolding eq isNan
-eq-self nan = refl
-eq-self (inf s) = same-sign s
-eq-self (fin s m e) = rw (eq-eqb (m * up e * down e) (m * up e * down e) refl, same-sign s)
-
-module _ (o : List ℕ) where
-  plain-six : (k : OrientedKeypoint) → k ≡ sixIn o → eq (k .response) (k .response) ≡ not (isNan (f32 (getD o 3 0)))
-  unfolding sixIn
-  plain-six k e = rw e (eq-self (f32 (getD o 3 0)))
-
-  pub in-whole : (k : OrientedKeypoint) → length o ≡ 6 → k ≡ sixIn o → eq (k .response) (k .response) ≡ true → k ≡ orientedIn o
-  unfolding orientedIn
-  in-whole k l e t = e ∙ rw (eq-eqb (length o) 6 l, sym (plain-six k e) ∙ t)
-
-  pub in-bare : (k : OrientedKeypoint) → length o ≡ 6 → k ≡ sixIn o → eq (k .response) (k .response) ≡ false → unoriented ≡ orientedIn o
-  unfolding orientedIn
-  in-bare k l e t = rw (eq-eqb (length o) 6 l, sym (plain-six k e) ∙ t)
-
-  pub in-part : (length o ≡ 6 → ⊥) → unoriented ≡ orientedIn o
-  unfolding orientedIn
-  in-part n = rw (ne-eqb (length o) 6 n)
+use Rattle.bargeclover.specs.Inputs.{inputWords, wordsOut, inputsNumber, inputsLeft}
 
 -- four stores fill a list of four
 four-set : (l : List ℕ) (a b c d : ℕ) → length l ≡ 4 → set (set (set (set l 0 a) 1 b) 2 c) 3 d ≡ a ∷ b ∷ c ∷ d ∷ []

@@ -1,0 +1,3 @@
+pub mod Keypoint
+pub mod Oriented
+pub mod Rules

@@ -1,0 +1,104 @@
+// A keypoint and an oriented keypoint of the words that they went out as. Any other number of words stands for a keypoint that no entry takes.
+ghost use mathlib.Core.Path.{_≡_};
+ghost use lib.ListN.{length};
+ghost use lib.Ieee.{nan};
+ghost use Rattle.words.specs.Keypoint.{wordsIn, broken, keypointIn};
+ghost use Rattle.words.specs.Oriented.{sixIn, unoriented, orientedIn};
+use orient::OrientedKeypoint;
+use refine::RawKeypoint;
+
+fn not_a_number() -> f32
+    ensures { λ r. ⌜ r ≡ nan ⌝ }
+{
+    0.0 / 0.0
+}
+
+// A keypoint that no entry takes.
+fn broken_keypoint() -> RawKeypoint
+    ensures { λ r. ⌜ r ≡ broken ⌝ }
+{
+    let x = not_a_number();
+    RawKeypoint {
+        x: x,
+        y: x,
+        size: x,
+        response: x,
+        octave: 0,
+        layer: 0,
+        xi: x,
+        cc: 0,
+        rr: 0,
+        moves: 0,
+    }
+}
+
+// The keypoint of ten words.
+fn whole_keypoint(k: &[u32]) -> RawKeypoint
+    requires { ⌜ length (now k) ≡ 10 ⌝ }
+    ensures { λ r. ⌜ r ≡ wordsIn (now (k .entry)) ⌝ }
+{
+    RawKeypoint {
+        x: ieee::of_bits(k[0]),
+        y: ieee::of_bits(k[1]),
+        size: ieee::of_bits(k[2]),
+        response: ieee::of_bits(k[3]),
+        octave: k[4],
+        layer: k[5],
+        xi: ieee::of_bits(k[6]),
+        cc: k[7],
+        rr: k[8],
+        moves: k[9],
+    }
+}
+
+// The keypoint of words, whole or not.
+pub fn keypoint_in(k: &[u32]) -> RawKeypoint
+    ensures { λ r. ⌜ r ≡ keypointIn (now (k .entry)) ⌝ }
+{
+    if k.len() == 10 {
+        whole_keypoint(k)
+    } else {
+        broken_keypoint()
+    }
+}
+
+// An oriented keypoint that no entry takes.
+fn unoriented_keypoint() -> OrientedKeypoint
+    ensures { λ r. ⌜ r ≡ unoriented ⌝ }
+{
+    let x = not_a_number();
+    OrientedKeypoint {
+        x: x,
+        y: x,
+        size: x,
+        response: x,
+        octave: 0,
+        angle: x,
+    }
+}
+
+// The oriented keypoint of six words.
+fn whole_oriented(o: &[u32]) -> OrientedKeypoint
+    requires { ⌜ length (now o) ≡ 6 ⌝ }
+    ensures { λ r. ⌜ r ≡ sixIn (now (o .entry)) ⌝ }
+{
+    OrientedKeypoint {
+        x: ieee::of_bits(o[0]),
+        y: ieee::of_bits(o[1]),
+        size: ieee::of_bits(o[2]),
+        response: ieee::of_bits(o[3]),
+        octave: o[4],
+        angle: ieee::of_bits(o[5]),
+    }
+}
+
+// The oriented keypoint of words, whole or not.
+pub fn oriented_in(o: &[u32]) -> OrientedKeypoint
+    ensures { λ r. ⌜ r ≡ orientedIn (now (o .entry)) ⌝ }
+{
+    if o.len() == 6 {
+        whole_oriented(o)
+    } else {
+        unoriented_keypoint()
+    }
+}

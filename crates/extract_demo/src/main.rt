@@ -15,8 +15,13 @@ const HEIGHT: usize = 44;
 
 const LAYERS: usize = 3;
 
-// The most records.
+// The most records that there is room for; the coast of the file has 18, and the program says so where there are more.
 const MOST: usize = 64;
+
+// The lengths of the arrays below:
+//     2,464 = 44 × 56, the samples of a plane; 12,320 = 5 × 2,464, those of the difference planes
+//     320 = 10 × 32, the words of 32 keypoints, the most that a layer's list has room for; 108 = 6 × 18, those of 18 oriented keypoints, the most that a keypoint has
+//     8,832 = 138 × 64, the words of 64 records; 8,896 = 139 × 64, the same as the reader gives them; 9,864 = 8 + 154 × 64, the bytes of their sheet
 
 fn settings() -> Settings {
     Settings {
@@ -137,11 +142,12 @@ fn keypoint_at(found: &[u32; 320], i: usize) -> RawKeypoint
 
 // ---- records
 
-fn put_values(records: &mut [u32; 8832], at: usize, values: &[f32; 128])
+// The values, each a whole number, of their bits.
+fn put_values(records: &mut [u32; 8832], at: usize, values: &[u32; 128])
     requires { ⌜ at + 128 ≤ 8832 ⌝ }
 {
     for i in 0..128 {
-        records[at + i] = whole(values[i]);
+        records[at + i] = whole(ieee::of_bits(values[i]));
     }
 }
 
@@ -172,7 +178,7 @@ fn put_record(
     at: usize,
     k: RawKeypoint,
     o: OrientedKeypoint,
-    values: &[f32; 128],
+    values: &[u32; 128],
 )
     requires { ⌜ at + 138 ≤ 8832 ⌝ }
 {
@@ -181,9 +187,9 @@ fn put_record(
     put_values(records, at + 10, values);
 }
 
-// The 128 values of an oriented keypoint of octave 0; zeros where they are refused, which is told.
-fn describe(picture: &[f32], o: OrientedKeypoint) -> [f32; 128] {
-    let mut values = [0.0f32; 128];
+// The bits of the 128 values of an oriented keypoint of octave 0; zeros where they are refused, which is told.
+fn describe(picture: &[f32], o: OrientedKeypoint) -> [u32; 128] {
+    let mut values = [0u32; 128];
     let i = inputs::descriptor_inputs(o, 0);
     if i.number != 0 {
         told(b"the descriptor's inputs", Answer::Refused(i.number));
@@ -267,20 +273,11 @@ fn add_peaks(
     n
 }
 
-// Adds the records of a keypoint, if it settled in that layer, whose plane is the picture.
-fn add_keypoint(
-    picture: &[f32],
-    k: RawKeypoint,
-    layer: u32,
-    records: &mut [u32; 8832],
-    written: usize,
-) -> usize
+// Adds the records of a keypoint on its picture.
+fn add_on(picture: &[f32], k: RawKeypoint, records: &mut [u32; 8832], written: usize) -> usize
     requires { ⌜ written ≤ 64 ⌝ }
     ensures { λ r. ⌜ r ≤ 64 ⌝ }
 {
-    if k.layer != layer {
-        return written;
-    }
     let mut out = [0u32; 108];
     let r = orient::assign_orientations(picture, WIDTH, HEIGHT, k, &mut out);
     let a = r.answer;
@@ -288,11 +285,33 @@ fn add_keypoint(
     add_peaks(picture, k, &out, peaks, records, written)
 }
 
-fn add_found(
-    picture: &[f32],
+// A keypoint's picture is the plane of the layer where it settled, which may be another than the one searched.
+fn add_keypoint<'a>(
+    one: &'a [f32],
+    two: &'a [f32],
+    three: &'a [f32],
+    k: RawKeypoint,
+    records: &mut [u32; 8832],
+    written: usize,
+) -> usize
+    requires { ⌜ written ≤ 64 ⌝ }
+    ensures { λ r. ⌜ r ≤ 64 ⌝ }
+{
+    if k.layer == 1 {
+        return add_on(one, k, records, written);
+    }
+    if k.layer == 2 {
+        return add_on(two, k, records, written);
+    }
+    add_on(three, k, records, written)
+}
+
+fn add_found<'a>(
+    one: &'a [f32],
+    two: &'a [f32],
+    three: &'a [f32],
     found: &[u32; 320],
     count: usize,
-    layer: u32,
     records: &mut [u32; 8832],
     written: usize,
 ) -> usize
@@ -301,30 +320,27 @@ fn add_found(
 {
     let mut n = written;
     for i in 0..count {
-        n = add_keypoint(picture, keypoint_at(found, i), layer, records, n);
+        n = add_keypoint(one, two, three, keypoint_at(found, i), records, n);
     }
     n
 }
 
-// Adds the records of all the keypoints, found in whichever layer, that settled in one.
-fn add_layer(
-    picture: &[f32],
-    a: [u32; 320],
-    na: usize,
-    b: [u32; 320],
-    nb: usize,
-    c: [u32; 320],
-    nc: usize,
-    layer: u32,
+// Searches a layer, and adds the records of what is found there.
+fn add_layer<'a>(
+    dog: &'a [f32],
+    one: &'a [f32],
+    two: &'a [f32],
+    three: &'a [f32],
+    layer: usize,
     records: &mut [u32; 8832],
     written: usize,
 ) -> usize
-    requires { ⌜ (na ≤ 32) × (nb ≤ 32) × (nc ≤ 32) × (written ≤ 64) ⌝ }
+    requires { ⌜ written ≤ 64 ⌝ }
     ensures { λ r. ⌜ r ≤ 64 ⌝ }
 {
-    let first = add_found(picture, &a, na, layer, records, written);
-    let second = add_found(picture, &b, nb, layer, records, first);
-    add_found(picture, &c, nc, layer, records, second)
+    let mut found = [0u32; 320];
+    let n = find(dog, layer, &mut found);
+    add_found(one, two, three, &found, n, records, written)
 }
 
 // ---- the sheet
@@ -441,36 +457,13 @@ fn show(records: [u32; 8832], count: usize)
     print_sheet(&bytes, n);
 }
 
-// A keypoint is described in the layer where it settled, whichever it was found in.
-fn describe_all<'a>(
-    one: &'a [f32],
-    two: &'a [f32],
-    three: &'a [f32],
-    a: [u32; 320],
-    na: usize,
-    b: [u32; 320],
-    nb: usize,
-    c: [u32; 320],
-    nc: usize,
-)
-    requires { ⌜ (na ≤ 32) × (nb ≤ 32) × (nc ≤ 32) ⌝ }
-{
-    let mut records = [0u32; 8832];
-    let first = add_layer(one, a, na, b, nb, c, nc, 1, &mut records, 0);
-    let second = add_layer(two, a, na, b, nb, c, nc, 2, &mut records, first);
-    let third = add_layer(three, a, na, b, nb, c, nc, 3, &mut records, second);
-    show(records, third);
-}
-
-// The whole way.
+// The whole way: the records by the layer searched, in each as detection lists the keypoints and orientation their directions.
 fn extract<'a>(dog: &'a [f32], one: &'a [f32], two: &'a [f32], three: &'a [f32]) {
-    let mut a = [0u32; 320];
-    let mut b = [0u32; 320];
-    let mut c = [0u32; 320];
-    let na = find(dog, 1, &mut a);
-    let nb = find(dog, 2, &mut b);
-    let nc = find(dog, 3, &mut c);
-    describe_all(one, two, three, a, na, b, nb, c, nc);
+    let mut records = [0u32; 8832];
+    let first = add_layer(dog, one, two, three, 1, &mut records, 0);
+    let second = add_layer(dog, one, two, three, 2, &mut records, first);
+    let third = add_layer(dog, one, two, three, 3, &mut records, second);
+    show(records, third);
 }
 
 fn main() {

@@ -1,5 +1,5 @@
--- The descriptor accepts what orientation made of a sound keypoint, on an accepted picture. Assumes nothing.
-use Prim.Native.Nat.{ℕ, zero, suc, _+_, _-_, _<_, _≤_}
+-- What the descriptor answers to what orientation made of a sound keypoint, on a picture of its octave's size. Assumes nothing.
+use Prim.Native.Nat.{ℕ, zero, suc, _+_, _-_, _*_, _<_, _≤_}
 use native.Mathlib.Omega.{arith}
 use mathlib.Core.Path.{_≡_, refl, sym, ap, _∙_, subst}
 use mathlib.Core.Bool.{Bool, true, false, cond}
@@ -15,7 +15,7 @@ use Rattle.ieee.proofs.Bounds.{zero-is}
 use Rattle.ieee.proofs.Order.{lt-le}
 use Rattle.ieee.specs.F32.{_⊗_}
 use Rattle.lists.specs.Ranges.{joined}
-use Rattle.params.specs.Limits.{maxOctave}
+use Rattle.params.specs.Limits.{maxSide, maxOctave}
 use Rattle.params.specs.Table.{allGood, within}
 use Rattle.params.specs.declared.Settings.{Settings}
 use Rattle.params.proofs.Bools.{or-neither}
@@ -36,10 +36,10 @@ use Rattle.patch.proofs.Good.{good-append}
 use Rattle.descriptor.specs.Place.{onSide, spotWrong, turnWrong, turnAt}
 use Rattle.descriptor.specs.Entry.{faultOf}
 use Rattle.descriptor.specs.Rules.{Inside}
-use Rattle.descriptor.proofs.Checks.{fault-none}
+use Rattle.descriptor.proofs.Checks.{fault-sample, fault-none}
 use Rattle.descriptor.proofs.Rules.{descriptor-rule}
-use Rattle.road.specs.Planes.{Plane}
-use Rattle.road.proofs.Oriented.{shape-right, sample-good}
+use Rattle.road.specs.Rules.{sixUnless}
+use Rattle.road.proofs.Oriented.{sides-right, sample-good}
 use Rattle.road.proofs.Position.{position-finite, position-on}
 
 -- ---- what is read is good
@@ -65,11 +65,11 @@ from-first at radius r l = omega (arith, l)
 before-past : (at radius side r : ℕ) → r < past at radius side → r < side - 1
 before-past at radius side r l = omega (arith, l)
 
-module _ (img : List Float) (w h : ℕ) (plane : Plane img w h) where
+module _ (img : List Float) (w h : ℕ) (whole : length img ≡ h * w) (good : allGood img ≡ true) where
   four-good : (r c : ℕ) → 1 ≤ r → r < h - 1 → 1 ≤ c → c < w - 1 → allGood (fourAt img w h r c) ≡ true
   unfolding fourAt allGood
   four-good r c a b d e =
-      rw (sample-good img w h plane r (c + 1) (omega (arith, b)) (omega (arith, e)), sample-good img w h plane r (c - 1) (omega (arith, b)) (omega (arith, e)), sample-good img w h plane (r - 1) c (omega (arith, b)) (omega (arith, e)), sample-good img w h plane (r + 1) c (omega (arith, b)) (omega (arith, e)))
+      rw (sample-good img w h whole good r (c + 1) (omega (arith, b)) (omega (arith, e)), sample-good img w h whole good r (c - 1) (omega (arith, b)) (omega (arith, e)), sample-good img w h whole good (r - 1) c (omega (arith, b)) (omega (arith, e)), sample-good img w h whole good (r + 1) c (omega (arith, b)) (omega (arith, e)))
 
   pub reads-good : (t : patchTurn.Turn) → allGood (readsOf img w h t) ≡ true
   unfolding readsOf overCells
@@ -80,7 +80,7 @@ module _ (img : List Float) (w h : ℕ) (plane : Plane img w h) where
 
 -- ---- an oriented keypoint of a sound one
 
-module _ (img : List Float) (w h octave : ℕ) (s : Settings) (k : RawKeypoint) (plane : Plane img w h) (low : octave ≤ maxOctave) (good : Sound w h s octave k) (i : ℕ) (l : i < length (orientedList img w h k)) where
+module _ (img : List Float) (w h octave : ℕ) (s : Settings) (k : RawKeypoint) (wide : w ≤ maxSide) (high : h ≤ maxSide) (low : octave ≤ maxOctave) (good : Sound w h s octave k) (i : ℕ) (l : i < length (orientedList img w h k)) where
   abbrev given : OrientedKeypoint
   given = getD (orientedList img w h k) i (orientedOf k nan)
 
@@ -114,13 +114,22 @@ module _ (img : List Float) (w h octave : ℕ) (s : Settings) (k : RawKeypoint) 
 
     inside : Inside w h inputs
     inside = record {
-      x-ends = ap finite x-is ∙ position-finite (k .cc) octave w (k .x) (good .left) (good .right) (plane .wide .1) low (good .x-near) (good .x-number .ends) (above (k .x) (good .x-above));
-      y-ends = ap finite y-is ∙ position-finite (k .rr) octave h (k .y) (good .top) (good .bottom) (plane .high .1) low (good .y-near) (good .y-number .ends) (above (k .y) (good .y-above));
-      column = ap (λ (z : Float). onSide w (cellOf z)) x-is ∙ position-on (k .cc) octave w (k .x) (good .left) (good .right) (plane .wide .1) low (good .x-near) (good .x-number .ends) (above (k .x) (good .x-above));
-      row = ap (λ (z : Float). onSide h (cellOf z)) y-is ∙ position-on (k .rr) octave h (k .y) (good .top) (good .bottom) (plane .high .1) low (good .y-near) (good .y-number .ends) (above (k .y) (good .y-above));
+      x-ends = ap finite x-is ∙ position-finite (k .cc) octave w (k .x) (good .left) (good .right) wide low (good .x-near) (good .x-number .ends) (above (k .x) (good .x-above));
+      y-ends = ap finite y-is ∙ position-finite (k .rr) octave h (k .y) (good .top) (good .bottom) high low (good .y-near) (good .y-number .ends) (above (k .y) (good .y-above));
+      column = ap (λ (z : Float). onSide w (cellOf z)) x-is ∙ position-on (k .cc) octave w (k .x) (good .left) (good .right) wide low (good .x-near) (good .x-number .ends) (above (k .x) (good .x-above));
+      row = ap (λ (z : Float). onSide h (cellOf z)) y-is ∙ position-on (k .rr) octave h (k .y) (good .top) (good .bottom) high low (good .y-near) (good .y-number .ends) (above (k .y) (good .y-above));
     }
 
-    pub describe-accepts : faultOf img w h (inputs .x) (inputs .y) (inputs .scale) (inputs .angle) ≡ 0
-    describe-accepts =
-        let a = or-neither (spotWrong w h (inputs .x) (inputs .y)) (turnWrong (inputs .scale) (inputs .angle)) (descriptor-rule .accepted w h octave given taken inside) in
-        sym (fault-none w h (inputs .x) (inputs .y) (inputs .scale) (inputs .angle) img (shape-right img w h plane) (plane .whole) (a .0) (a .1) (reads-good img w h plane (turnAt w h (inputs .x) (inputs .y) (inputs .scale) (inputs .angle))))
+    abbrev reads : List Float
+    reads = readsOf img w h (turnAt w h (inputs .x) (inputs .y) (inputs .scale) (inputs .angle))
+
+    -- only a bad sample that is read is refused
+    pub describe-answers : length img ≡ h * w → faultOf img w h (inputs .x) (inputs .y) (inputs .scale) (inputs .angle) ≡ sixUnless (allGood reads)
+    describe-answers whole = go (allGood reads) refl
+      where
+        apart : (spotWrong w h (inputs .x) (inputs .y) ≡ false) × (turnWrong (inputs .scale) (inputs .angle) ≡ false)
+        apart = or-neither (spotWrong w h (inputs .x) (inputs .y)) (turnWrong (inputs .scale) (inputs .angle)) (descriptor-rule .accepted w h octave given taken inside)
+
+        go : (b : Bool) → allGood reads ≡ b → faultOf img w h (inputs .x) (inputs .y) (inputs .scale) (inputs .angle) ≡ sixUnless b
+        go true e = sym (fault-none w h (inputs .x) (inputs .y) (inputs .scale) (inputs .angle) img (sides-right w h octave s k wide high good) whole (apart .0) (apart .1) e)
+        go false e = sym (fault-sample w h (inputs .x) (inputs .y) (inputs .scale) (inputs .angle) img (sides-right w h octave s k wide high good) whole (apart .0) (apart .1) e)

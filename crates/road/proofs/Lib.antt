@@ -1,7 +1,10 @@
+pub mod Members
 pub mod Record
 pub mod Writer
 pub mod Oriented
-pub mod Rules
 pub mod Position
 pub mod Described
+pub mod Stages
+pub mod Words
 pub mod Road
+pub mod Rules

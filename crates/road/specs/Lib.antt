@@ -1,4 +1,4 @@
 pub mod Record
-pub mod Planes
-pub mod Rules
 pub mod Road
+pub mod Back
+pub mod Rules

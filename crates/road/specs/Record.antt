@@ -12,19 +12,19 @@ use Rattle.orient.specs.declared.OrientedKeypoint.{OrientedKeypoint}
 use Rattle.values_laws.specs.Rules.{Byte}
 use Rattle.sheet.specs.Layout.{valueCount}
 
--- "code 8 (third byte of the octave word)"
+-- the code is the octave word's third byte, above which nothing stands (rule A12)
 abbrev pub codeIn : ℕ → ℕ
 codeIn word = word / 2 ^ 16
 
--- "Row and column are rr and cc; octave, layer and code the octave word's bytes"
+-- rule S4: the keypoint's cell, and the bytes of its octave word
 abbrev pub headOf : RawKeypoint → List ℕ
 headOf k = k .rr ∷ k .cc ∷ octaveIn (k .octave) ∷ layerIn (k .octave) ∷ codeIn (k .octave) ∷ []
 
--- "the floats an oriented keypoint's"
+-- rule S4: the oriented keypoint's floats, by their bits
 abbrev pub floatsOf : OrientedKeypoint → List ℕ
 floatsOf o = bitsOf (o .x) ∷ bitsOf (o .y) ∷ bitsOf (o .size) ∷ bitsOf (o .response) ∷ bitsOf (o .angle) ∷ []
 
--- "the 128 values as whole numbers"
+-- rule S7: the values as whole numbers
 abbrev pub wholesOf : List Float → List ℕ
 wholesOf values = map (toUnsigned 32) values
 

@@ -1,58 +1,115 @@
--- The road from stacks to a sheet: for each stack the keypoints of a layer, for each keypoint its directions, for each direction its record. Definitions only.
-use Prim.Native.Nat.{ℕ, _≤_}
+-- The road from an octave's planes to the records of a frame, and the order that a sheet has them in. Definitions only.
+use Prim.Native.Nat.{ℕ, _+_, _*_, _≤_}
 use mathlib.Core.Path.{_≡_}
-use mathlib.Core.List.{List, [], _∷_, map, flatMap}
+use mathlib.Core.Bool.{true}
+use mathlib.Core.List.{List, map, flatMap, List·Memᴰ}
 use lib.IntN.{pos}
+use lib.ListN.{length}
 use lib.Ieee.{Float}
+use Rattle.lists.specs.Ranges.{joined}
+use Rattle.params.specs.Table.{allGood}
 use Rattle.params.specs.declared.Settings.{Settings}
 use Rattle.refine.specs.declared.RawKeypoint.{RawKeypoint}
-use Rattle.detect.specs.Entry.{faultOf, listOf}
-use Rattle.orient.specs.Entry.{orientedList}
+use Rattle.detect.specs.Entry as Detection
+use Rattle.orient.specs.Entry.{orientFault, orientedList}
 use Rattle.orient.specs.declared.OrientedKeypoint.{OrientedKeypoint}
 use Rattle.inputs.specs.Inputs.{inputsOf}
-use Rattle.descriptor.specs.Entry.{valuesAt}
-use Rattle.road.specs.Planes.{Plane}
+use Rattle.inputs.specs.declared.Inputs.{Inputs}
+use Rattle.patch.specs.Patch.{readsOf}
+use Rattle.descriptor.specs.Place.{turnAt}
+use Rattle.descriptor.specs.Entry as Descriptor
 use Rattle.road.specs.Record.{recordOf}
 
--- one layer of an octave: its stack of differences, and for each layer the picture on which keypoints of that layer are described
-pub record Search : Type 0 where
-  pub stack : List Float
-  pub picture : ℕ → List Float
+-- x stands in a list, at some place
+abbrev pub Among : {A : Type 0} → A → List A → Type 0
+Among x xs = List·Memᴰ x xs
+
+-- ---- the stages, one after the other
+
+-- an octave of a frame: its difference planes, and for each layer the picture on which a keypoint that settled there is turned and described
+pub record Octave : Type 0 where
+  pub number : ℕ
   pub width : ℕ
   pub height : ℕ
   pub planes : ℕ
-  pub layer : ℕ
-  pub octave : ℕ
+  pub stack : List Float
+  pub picture : ℕ → List Float
 
--- the 128 values of an oriented keypoint
-unfoldable pub valuesFor : List Float → ℕ → ℕ → ℕ → OrientedKeypoint → List Float
-valuesFor img w h octave o = let i = inputsOf o (pos octave) in valuesAt img w h (i .x) (i .y) (i .scale) (i .angle)
+-- detection on a layer: the number that it answers, and the keypoints that it finds
+abbrev pub searchFault : Settings → Octave → ℕ → ℕ
+searchFault s q layer = Detection.faultOf (q .stack) (q .width) (q .height) (q .planes) layer (q .number) s
 
--- the records of a keypoint, one for each of its directions
-unfoldable pub recordsFor : List Float → ℕ → ℕ → ℕ → RawKeypoint → List (List ℕ)
-recordsFor img w h octave k = map (λ o. recordOf k (o .angle) (valuesFor img w h octave o)) (orientedList img w h k)
+abbrev pub foundIn : Settings → Octave → ℕ → List RawKeypoint
+foundIn s q layer = Detection.listOf (q .stack) (q .width) (q .height) layer (q .number) s
 
--- of a layer, in the order of the keypoints found
-unfoldable pub recordsIn : Settings → Search → List (List ℕ)
-recordsIn s q =
-    flatMap (λ k. recordsFor (q .picture (k .layer)) (q .width) (q .height) (q .octave) k)
-    (listOf (q .stack) (q .width) (q .height) (q .layer) (q .octave) s)
+-- orientation of a keypoint on a picture of the octave: its number, and the directions
+abbrev pub turnFault : List Float → Octave → RawKeypoint → ℕ
+turnFault img q k = orientFault img (q .width) (q .height) k
 
--- of all layers that are searched; and the words that the writer is handed
-unfoldable pub allRecords : Settings → List Search → List (List ℕ)
-allRecords s qs = flatMap (recordsIn s) qs
+abbrev pub directionsOf : List Float → Octave → RawKeypoint → List OrientedKeypoint
+directionsOf img q k = orientedList img (q .width) (q .height) k
 
-abbrev pub handedOver : List (List ℕ) → List ℕ
-handedOver rs = flatMap (λ r. r) rs
+-- the descriptor of a direction: what it is asked with, its number, what it reads, and the 128 values
+abbrev pub inputsFor : Octave → OrientedKeypoint → Inputs
+inputsFor q o = inputsOf o (pos (q .number))
 
--- detection accepts the stack, the pictures of all layers are accepted ones of its size, and the frame is no smaller
-pub record Accepted (wide high : ℕ) (s : Settings) (q : Search) : Type 0 where
-  pub stack : faultOf (q .stack) (q .width) (q .height) (q .planes) (q .layer) (q .octave) s ≡ 0
-  pub picture : (l : ℕ) → 1 ≤ l → l ≤ s .layers → Plane (q .picture l) (q .width) (q .height)
+abbrev pub patchFault : List Float → Octave → OrientedKeypoint → ℕ
+patchFault img q o = let i = inputsFor q o in Descriptor.faultOf img (q .width) (q .height) (i .x) (i .y) (i .scale) (i .angle)
+
+abbrev pub patchReads : List Float → Octave → OrientedKeypoint → List Float
+patchReads img q o = let i = inputsFor q o in readsOf img (q .width) (q .height) (turnAt (q .width) (q .height) (i .x) (i .y) (i .scale) (i .angle))
+
+abbrev pub valuesFor : List Float → Octave → OrientedKeypoint → List Float
+valuesFor img q o = let i = inputsFor q o in Descriptor.valuesAt img (q .width) (q .height) (i .x) (i .y) (i .scale) (i .angle)
+
+-- a keypoint's picture is that of the layer where it settled, which may be another than the one searched
+abbrev pub pictureFor : Octave → RawKeypoint → List Float
+pictureFor q k = q .picture (k .layer)
+
+-- the record of a keypoint's direction
+abbrev pub recordFor : Octave → RawKeypoint → OrientedKeypoint → List ℕ
+recordFor q k o = recordOf k (o .angle) (valuesFor (pictureFor q k) q o)
+
+-- ---- the records of a frame
+
+-- the pictures of all layers have the octave's size, whatever their samples, and the frame is no smaller
+pub record Sized (wide high : ℕ) (s : Settings) (q : Octave) : Type 0 where
+  pub picture : (layer : ℕ) → 1 ≤ layer → layer ≤ s .layers → length (q .picture layer) ≡ q .height * q .width
   pub across : q .width ≤ wide
   pub down : q .height ≤ high
 
--- so for each that is searched
-pub data AllAccepted (wide high : ℕ) (s : Settings) : List Search → Type 0 where
-  none : AllAccepted wide high s []
-  more : {q : Search} {qs : List Search} → Accepted wide high s q → AllAccepted wide high s qs → AllAccepted wide high s (q ∷ qs)
+-- r is a record of the frame: that of some direction of some keypoint that was found in some layer of some octave, no stage refusing
+pub record OfFrame (wide high : ℕ) (s : Settings) (r : List ℕ) : Type 0 where
+  pub octave : Octave
+  pub layer : ℕ
+  pub keypoint : RawKeypoint
+  pub direction : OrientedKeypoint
+  pub sized : Sized wide high s octave
+  pub searched : searchFault s octave layer ≡ 0
+  pub found : Among keypoint (foundIn s octave layer)
+  pub turned : turnFault (pictureFor octave keypoint) octave keypoint ≡ 0
+  pub given : Among direction (directionsOf (pictureFor octave keypoint) octave keypoint)
+  pub described : patchFault (pictureFor octave keypoint) octave direction ≡ 0
+  pub is : r ≡ recordFor octave keypoint direction
+
+-- ---- the order of a sheet
+
+-- of a keypoint, direction by direction; of a layer searched, keypoint by keypoint as detection lists them
+unfoldable pub recordsFor : Octave → RawKeypoint → List (List ℕ)
+recordsFor q k = map (recordFor q k) (directionsOf (pictureFor q k) q k)
+
+unfoldable pub recordsIn : Settings → Octave → ℕ → List (List ℕ)
+recordsIn s q layer = flatMap (recordsFor q) (foundIn s q layer)
+
+-- of an octave, by the layer searched from 1 on; of a frame, octave by octave
+unfoldable pub octaveRecords : Settings → Octave → List (List ℕ)
+octaveRecords s q = joined 1 (s .layers + 1) (recordsIn s q)
+
+unfoldable pub sheetRecords : Settings → List Octave → List (List ℕ)
+sheetRecords s qs = flatMap (octaveRecords s) qs
+
+-- no stage can refuse: detection accepts every layer, and the pictures have the octave's size and good samples only
+pub record Smooth (wide high : ℕ) (s : Settings) (q : Octave) : Type 0 where
+  pub sized : Sized wide high s q
+  pub searched : (layer : ℕ) → 1 ≤ layer → layer ≤ s .layers → searchFault s q layer ≡ 0
+  pub good : (layer : ℕ) → 1 ≤ layer → layer ≤ s .layers → allGood (q .picture layer) ≡ true

@@ -1,45 +1,72 @@
--- The stages fit: no stage refuses what the stage before made. proofs/Rules.antt proves each. Definitions only.
-use Prim.Native.Nat.{ℕ, _<_, _≤_}
+-- The stages fit, from the planes of a frame to a sheet that reads back. proofs/Rules.antt proves each. Definitions only.
+use Prim.Native.Nat.{ℕ, _*_, _<_, _≤_}
 use mathlib.Core.Path.{_≡_}
-use mathlib.Core.Bool.{true}
+use mathlib.Core.Bool.{Bool, true, cond}
 use mathlib.Core.List.{List}
-use lib.IntN.{pos}
-use lib.ListN.{length, getD}
-use lib.Ieee.{Float, nan}
-use Rattle.params.specs.Limits.{maxSide, maxLayers, maxOctave}
+use lib.ListN.{length, getD, take, drop}
+use lib.Ieee.{Float}
+use Rattle.params.specs.Limits.{maxOctave}
+use Rattle.params.specs.Table.{allGood}
 use Rattle.params.specs.declared.Settings.{Settings}
 use Rattle.refine.specs.Sound.{Sound}
 use Rattle.refine.specs.declared.RawKeypoint.{RawKeypoint}
-use Rattle.detect.specs.Entry.{faultOf, listOf}
-use Rattle.orient.specs.Entry.{orientFault, orientedOf, orientedList}
+use Rattle.extrema.specs.Scan as Raw
+use Rattle.extrema.specs.Scan.{keypointWords}
+use Rattle.tally.specs.Sample.{windowGood}
+use Rattle.orient.specs.Entry as Oriented
+use Rattle.orient.specs.Entry.{windowAt, orientedWords}
 use Rattle.orient.specs.declared.OrientedKeypoint.{OrientedKeypoint}
 use Rattle.orient_laws.specs.Rules.{Turn}
-use Rattle.inputs.specs.Inputs.{inputsOf}
-use Rattle.descriptor.specs.Entry as Descriptor
+use Rattle.words.specs.Keypoint.{keypointIn}
+use Rattle.words.specs.Oriented.{orientedIn}
 use Rattle.sheet.specs.Layout.{edition1, maxCount}
-use Rattle.sheet.specs.Writes.{frameOf, wordsRight, writeFault}
-use Rattle.road.specs.Planes.{Plane}
+use Rattle.sheet.specs.Writes.{frameOf, wordsRight}
 use Rattle.road.specs.Record.{recordOf, Filled}
-use Rattle.road.specs.Road.{Search, allRecords, handedOver, AllAccepted}
+use Rattle.road.specs.Road.{Among, Octave, searchFault, foundIn, turnFault, directionsOf, inputsFor, patchFault, patchReads, OfFrame, Smooth, sheetRecords}
+use Rattle.road.specs.Back.{Framed, ReadsBack}
 
--- `descriptor_inputs` gives the inputs of an oriented keypoint, and `compute_descriptor` takes them on the picture
-pub record Served (img : List Float) (w h octave : ℕ) (o : OrientedKeypoint) : Type 0 where
-  pub given : inputsOf o (pos octave) .number ≡ 0
-  pub taken : Descriptor.faultOf img w h (inputsOf o (pos octave) .x) (inputsOf o (pos octave) .y) (inputsOf o (pos octave) .scale) (inputsOf o (pos octave) .angle) ≡ 0
+-- the number where no line but 6 can be given: 0 if all that is read is good, and else 6
+abbrev pub sixUnless : Bool → ℕ
+sixUnless good = cond good 0 6
+
+-- `compute_descriptor` refuses the inputs of a direction only for a bad sample that it reads, and `descriptor_inputs` gives them
+pub record Served (img : List Float) (q : Octave) (o : OrientedKeypoint) : Type 0 where
+  pub taken : patchFault img q o ≡ sixUnless (allGood (patchReads img q o))
+  pub given : inputsFor q o .number ≡ 0
+
+-- on a picture, orientation refuses nothing of a keypoint, and the descriptor nothing of its directions
+pub record Through (img : List Float) (q : Octave) (k : RawKeypoint) : Type 0 where
+  pub turned : turnFault img q k ≡ 0
+  pub described : (o : OrientedKeypoint) → Among o (directionsOf img q k) → patchFault img q o ≡ 0
 
 pub record RoadRule : Type 0 where
-  -- of an accepted stack, every keypoint found is accepted by orientation on every accepted picture of that size
-  pub oriented : (d : List Float) (w h planes layer octave : ℕ) (s : Settings) → faultOf d w h planes layer octave s ≡ 0
-      → (img : List Float) → Plane img w h → (past : RawKeypoint) (i : ℕ) → i < length (listOf d w h layer octave s)
-      → orientFault img w h (getD (listOf d w h layer octave s) i past) ≡ 0
-  -- and every oriented keypoint by the descriptor: its inputs are given, and the patch about them is accepted
-  pub described : (d : List Float) (w h planes layer octave : ℕ) (s : Settings) → faultOf d w h planes layer octave s ≡ 0
-      → (img : List Float) → Plane img w h → (past : RawKeypoint) (i : ℕ) → i < length (listOf d w h layer octave s)
-      → (j : ℕ) → j < length (orientedList img w h (getD (listOf d w h layer octave s) i past))
-      → Served img w h octave (getD (orientedList img w h (getD (listOf d w h layer octave s) i past)) j (orientedOf (getD (listOf d w h layer octave s) i past) nan))
+  -- a keypoint of an accepted search, on a picture of that size with whatever samples: orientation can refuse it by 6 alone, and does exactly where a cell that it reads is bad
+  pub oriented : (s : Settings) (q : Octave) (layer : ℕ) → searchFault s q layer ≡ 0 → (k : RawKeypoint) → Among k (foundIn s q layer)
+      → (img : List Float) → length img ≡ q .height * q .width
+      → turnFault img q k ≡ sixUnless (windowGood img (windowAt (q .width) (q .height) k))
+  -- so it is with the descriptor and each direction that orientation gave
+  pub described : (s : Settings) (q : Octave) (layer : ℕ) → searchFault s q layer ≡ 0 → (k : RawKeypoint) → Among k (foundIn s q layer)
+      → (img : List Float) → length img ≡ q .height * q .width
+      → turnFault img q k ≡ 0 → (o : OrientedKeypoint) → Among o (directionsOf img q k) → Served img q o
+  -- on a picture of good samples neither refuses anything
+  pub through : (s : Settings) (q : Octave) (layer : ℕ) → searchFault s q layer ≡ 0 → (k : RawKeypoint) → Among k (foundIn s q layer)
+      → (img : List Float) → length img ≡ q .height * q .width → allGood img ≡ true → Through img q k
+  -- what C passes on is what is spoken of here: ten words of what detection wrote, from the place 10 × i on, read back as the keypoint i
+  pub keypoint-words : (s : Settings) (q : Octave) (layer : ℕ) → searchFault s q layer ≡ 0 → (past : RawKeypoint) (i : ℕ) → i < length (foundIn s q layer)
+      → keypointIn (take keypointWords (drop (keypointWords * i) (Raw.words (foundIn s q layer)))) ≡ getD (foundIn s q layer) i past
+  -- and six words of what orientation wrote, from the place 6 × i on, as the direction i
+  pub direction-words : (s : Settings) (q : Octave) (layer : ℕ) → searchFault s q layer ≡ 0 → (k : RawKeypoint) → Among k (foundIn s q layer)
+      → (img : List Float) → turnFault img q k ≡ 0 → (past : OrientedKeypoint) (i : ℕ) → i < length (directionsOf img q k)
+      → orientedIn (take orientedWords (drop (orientedWords * i) (Oriented.words (directionsOf img q k)))) ≡ getD (directionsOf img q k) i past
   -- the record of a sound keypoint keeps the sheet's rules on every frame that is no smaller than its octave's picture
   pub recorded : (w h octave : ℕ) (s : Settings) (k : RawKeypoint) (angle : Float) (values : List Float) → octave ≤ maxOctave → Sound w h s octave k → Turn angle → Filled values
       → (wide high : ℕ) → w ≤ wide → h ≤ high → wordsRight edition1 (frameOf wide high (s .layers)) (recordOf k angle values) ≡ true
-  -- so the writer accepts the records of all layers that are searched, if they are no more than a sheet holds
-  pub written : (wide high : ℕ) (s : Settings) (qs : List Search) → AllAccepted wide high s qs → (1 ≤ wide) × (wide ≤ maxSide) → (1 ≤ high) × (high ≤ maxSide) → (1 ≤ s .layers) × (s .layers ≤ maxLayers)
-      → length (allRecords s qs) ≤ maxCount → writeFault edition1 (frameOf wide high (s .layers)) (handedOver (allRecords s qs)) ≡ 0
+  -- so any list of records of the frame, in any order and any selection, goes on a sheet and reads back, if it is no longer than a sheet holds
+  pub back : (wide high : ℕ) (s : Settings) (rs : List (List ℕ)) → Framed wide high (s .layers) → ((r : List ℕ) → Among r rs → OfFrame wide high s r)
+      → length rs ≤ maxCount → ReadsBack wide high (s .layers) rs
+  -- and the list in the order of a sheet is one of these
+  pub ordered : (wide high : ℕ) (s : Settings) (qs : List Octave) → ((q : Octave) → Among q qs → Smooth wide high s q)
+      → (r : List ℕ) → Among r (sheetRecords s qs) → OfFrame wide high s r
+  -- so a frame whose planes and pictures are accepted goes the whole way: its records, in the order of a sheet, are written and read back
+  pub whole : (wide high : ℕ) (s : Settings) (qs : List Octave) → Framed wide high (s .layers) → ((q : Octave) → Among q qs → Smooth wide high s q)
+      → length (sheetRecords s qs) ≤ maxCount → ReadsBack wide high (s .layers) (sheetRecords s qs)

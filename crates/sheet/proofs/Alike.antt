@@ -9,7 +9,8 @@ use Rattle.sheet.specs.Layout.{Layout, Frame, headerSize, headerSlots, h
 use Rattle.sheet.specs.Sheet.{sheetBytes}
 use Rattle.sheet.specs.Words.{takenWords, filled}
 use Rattle.sheet.specs.Writes.{countIn, recordsOf, sheetOf, written}
-use Rattle.sheet.proofs.Lawful.{Lawful, header-bits}
+use Rattle.sheet.specs.Trip.{Lawful}
+use Rattle.sheet.proofs.Lawful.{header-bits}
 use Rattle.sheet.proofs.Parts.{length-parts, flat-map}
 
 data Alike : List Slot → List Slot → Type 0 where

@@ -13,7 +13,8 @@ use Rattle.sheet.specs.Layout.{Layout, headerSize, headerSlots, headerVa
 use Rattle.sheet.specs.Sheet.{parts, allPass, recordRight, sheetRight, sheetBytes, headerIn, readFrame, readCount, recordsIn, readSheet, bytesRight}
 use Rattle.sheet.proofs.Packed.{pack-unpack, ranged, ranged-head, ranged-tail}
 use Rattle.sheet.proofs.Cut.{bytes-take, bytes-drop}
-use Rattle.sheet.proofs.Lawful.{Lawful, record-bits, header-bits}
+use Rattle.sheet.specs.Trip.{Lawful}
+use Rattle.sheet.proofs.Lawful.{record-bits, header-bits}
 use Rattle.sheet.proofs.Parts.{length-parts}
 
 -- parts of whole records are joined again

@@ -1,4 +1,4 @@
--- What the laws ask of a layout, and that its slots fill whole bytes and hold their largest values. Assumes nothing.
+-- Of a lawful layout: its slots fill whole bytes and hold their largest values; and edition 1 is one. Assumes nothing.
 use mathlib.Core.Path.{_≡_, refl}
 use mathlib.Core.Bool.{Bool, true, false, cond}
 use mathlib.Core.List.{List, _∷_}
@@ -11,12 +11,8 @@ use Rattle.params.specs.Limits.{maxLayers}
 use Rattle.sheet.specs.Pack.{Slot, slot, bits, sound, Held}
 use Rattle.sheet.specs.Layout.{Layout, Frame, edition1, headerSize, markBits, headerSlots, recordSize, largestAngle, valueCount, valueSlots, recordSlots}
 use Rattle.sheet.specs.Sheet.{recordRight}
+use Rattle.sheet.specs.Trip.{Lawful}
 use Rattle.sheet.proofs.Packed.{Roomy, held}
-
--- the sides leave room for the other fields, and the edition's number fits
-pub record Lawful (l : Layout) : Type 0 where
-  pub edition : l .edition ≤ 15
-  pub side : 2 * l .side + markBits l ≤ 32
 
 pub lawful1 : Lawful edition1
 lawful1 = record { edition = omega arith; side = omega arith }

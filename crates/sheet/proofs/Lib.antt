@@ -9,6 +9,7 @@ pub mod Faults
 pub mod Return
 pub mod Answered
 pub mod Public
+pub mod Rules
 pub mod Steps
 pub mod Runs
 pub mod Alike

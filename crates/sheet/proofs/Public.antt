@@ -14,10 +14,10 @@ use Rattle.sheet.specs.Sheet.{recordRight, headerIn, readFrame, readCoun
 use Rattle.sheet.specs.Words.{readWords, takenWords, filled, worded, withBlank}
 use Rattle.sheet.specs.Writes.{frameOf, countIn, recordsOf, sheetOf, writeFault, written, writeSize, writeAnswer, writeOut}
 use Rattle.sheet.specs.Reads.{readFault, wordsIn, readNumber, withFrame, readAnswer, readOut}
-use Rattle.sheet.specs.Trip.{handedBack, WrittenIsRead, ReadIsWritten, ReadOnce}
+use Rattle.sheet.specs.Trip.{Lawful, handedBack, WrittenIsRead, ReadIsWritten, ReadOnce}
 use Rattle.sheet.specs.declared.Read.{Read}
 use Rattle.sheet.proofs.Packed.{sound-at}
-use Rattle.sheet.proofs.Lawful.{Lawful, lawful1}
+use Rattle.sheet.proofs.Lawful.{lawful1}
 use Rattle.sheet.proofs.Parts.{length-parts, length-flat}
 use Rattle.sheet.proofs.Trip.{right, read-count, sheet-length}
 use Rattle.sheet.proofs.Back.{Kept, kept, count-read}

@@ -18,9 +18,9 @@ use Rattle.sheet.specs.Sheet.{parts, allPass, recordRight, sheetRight, s
 use Rattle.sheet.specs.Words.{plainWords, readWords, headWords, takenWords, layerPlace, filled, worded, withBlank}
 use Rattle.sheet.specs.Writes.{countIn, recordsOf, sheetOf, layerRight, wordsRight, writeFault, written}
 use Rattle.sheet.specs.Reads.{readFault, wordsIn}
-use Rattle.sheet.specs.Trip.{handedBack, ReadsBack, WritesBack, ReadsOnce}
+use Rattle.sheet.specs.Trip.{Lawful, handedBack, ReadsBack, WritesBack, ReadsOnce}
 use Rattle.sheet.proofs.Packed.{sound-at, sound-length}
-use Rattle.sheet.proofs.Lawful.{Lawful, right-sound}
+use Rattle.sheet.proofs.Lawful.{right-sound}
 use Rattle.sheet.proofs.Parts.{length-parts, pass-map, pass-both, flat-map, map-back, length-flat, parts-flat, parts-same}
 use Rattle.sheet.proofs.Trip.{accepted, right, read-frame, read-records}
 use Rattle.sheet.proofs.Back.{four, Kept, kept, count-read, back}

@@ -20,7 +20,7 @@ use Rattle.sheet.specs.declared.Head.{Head}
 use Rattle.sheet.specs.Words.{plainWords, headWords, floatWords, frontWords, headFields, frontFields, filled, blankOf, worded}
 use Rattle.sheet.proofs.Packed.{held-head, held-tail, bits-append, Each, each-bits, pack-append, pack-each, pack-bytes}
 use Rattle.sheet.proofs.Cut.{bytes-take, bytes-drop, both-bytes, one-value, unpack-append, unpack-step}
-use Rattle.sheet.proofs.Lawful.{Lawful}
+use Rattle.sheet.specs.Trip.{Lawful}
 use Rattle.sheet.proofs.Words.{drop-take, past}
 
 held-left : (ss ts : List Slot) (vs us : List ℕ) → length ss ≡ length vs → Held (ss ++ ts) (vs ++ us) → Held ss vs

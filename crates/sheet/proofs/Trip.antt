@@ -11,7 +11,8 @@ use Rattle.sheet.specs.Pack.{pack, unpack, sound}
 use Rattle.sheet.specs.Layout.{Layout, Frame, headerSize, headerSlots, headerValues, recordSlots, recordSize}
 use Rattle.sheet.specs.Sheet.{Sheet, allPass, recordRight, sheetRight, sheetBytes, headerIn, readFrame, readCount, recordsIn, readSheet, bytesRight}
 use Rattle.sheet.proofs.Packed.{held, length-pack, unpack-pack, held-head, held-tail}
-use Rattle.sheet.proofs.Lawful.{Lawful, Framed, header-bits, record-bits, header-roomy, right-held}
+use Rattle.sheet.specs.Trip.{Lawful}
+use Rattle.sheet.proofs.Lawful.{Framed, header-bits, record-bits, header-roomy, right-held}
 use Rattle.sheet.proofs.Parts.{map-back, length-flat, parts-flat}
 
 eight : (k : ℕ) → 8 * k / 8 ≡ k

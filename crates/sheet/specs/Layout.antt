@@ -1,4 +1,4 @@
--- The sheet's header and records, field by field as document 01 lists them. Definitions only.
+-- The sheet's header and records, field by field: rules S2, S3 and S5. Definitions only.
 use mathlib.Core.Bool.{Bool, true, false, cond}
 use mathlib.Core.List.{List, [], _∷_, _++_}
 use Prim.Native.Nat.{ℕ, _+_, _-_, _*_, _^_}
@@ -33,8 +33,8 @@ maxCount = 1_048_575
 abbrev pub markBits : Layout → ℕ
 markBits l = cond (l .marked) 1 0
 
--- "Header, 8 bytes: edition 4 bits (1), width − 1 in 13, height − 1 in 13 (of octave 0), layers 4 (1 to 15), count 20, then 10 zero bits."
--- The first of the zero bits is the rule bit of a layout that is marked.
+-- Rule S2: edition, width less 1, height less 1, layers, count, and spare bits that are 0 and fill the 64.
+-- The first of the spare bits is the rule bit of a layout that is marked.
 abbrev pub headerSlots : Layout → List Slot
 headerSlots l =
     slot 4 (l .edition) (l .edition) ∷
@@ -48,7 +48,7 @@ headerSlots l =
 abbrev pub headerValues : Layout → Frame → ℕ → List ℕ
 headerValues l f count = l .edition ∷ (f .width - 1) ∷ (f .height - 1) ∷ f .layers ∷ count ∷ f .rule ∷ 0 ∷ []
 
--- "Each record, 154 bytes"
+-- the bytes of a record, 4 fewer where it has no angle (rule S1)
 abbrev pub recordSize : Layout → ℕ
 recordSize l = cond (l .angled) 154 150
 
@@ -59,8 +59,8 @@ headSize = 6
 abbrev pub frontSize : ℕ
 frontSize = 26
 
--- "row 13, column 13, octave 4, layer 4, code 8 (third byte of the octave word), 6 zero bits"; "Row and column lie in the picture, layer is 1 to layers."
--- The first of the zero bits is the blank bit of a layout that is marked.
+-- Rule S3, the whole numbers: row and column inside the frame, octave, layer up to the header's, code, and spare bits that are 0 and fill the 48.
+-- The first of the spare bits is the blank bit of a layout that is marked.
 abbrev pub headSlots : Layout → Frame → List Slot
 headSlots l f =
     slot (l .side) 0 (f .height - 1) ∷
@@ -81,7 +81,7 @@ leastPositive = 1
 abbrev pub largestAngle : ℕ
 largestAngle = 0x43b3_ffff
 
--- "then x, y, size, response, angle as f32 bits"; "The five floats are finite with sign bit clear, size above 0, angle below 360."
+-- rules S3 and S5, the floats by their bits: x, y, size, response and angle
 abbrev pub floatSlots : Layout → List Slot
 floatSlots l =
     slot 32 0 largestFinite ∷
@@ -90,7 +90,7 @@ floatSlots l =
     slot 32 0 largestFinite ∷
     slot (cond (l .angled) 32 0) 0 (cond (l .angled) largestAngle 0) ∷ []
 
--- "then 128 bytes"
+-- rule S3, the values: a byte each
 abbrev pub valueCount : ℕ
 valueCount = 128
 

@@ -12,7 +12,7 @@ use Rattle.sheet.specs.Sheet.{readFrame, readCount, readSheet, bytesRigh
 use Rattle.sheet.specs.Words.{readWords, worded}
 use Rattle.sheet.specs.declared.Read.{Read}
 
--- 8: a rule of the sheet is broken
+-- 8, rule S10: a rule of the sheet is broken
 unfoldable pub readFault : Layout → List ℕ → ℕ
 readFault l bs = firstFault (line 8 (not (bytesRight l bs)) ∷ [])
 
@@ -20,7 +20,7 @@ readFault l bs = firstFault (line 8 (not (bytesRight l bs)) ∷ [])
 unfoldable pub wordsIn : Layout → List ℕ → List ℕ
 wordsIn l bs = flatMap (worded l) (readSheet l bs .records)
 
--- the answer's number and count, at `room` words lent: 8 before 7, and both 0 and 7 count records
+-- the answer's number and count, at `room` words lent: 8 before 7 (rule S10), and both 0 and 7 count records
 unfoldable pub readNumber : Layout → List ℕ → ℕ → Answer
 readNumber l bs room = answerOf (readFault l bs) (readCount l bs) (readWords * readCount l bs) room
 

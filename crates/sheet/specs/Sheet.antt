@@ -58,7 +58,7 @@ recordsIn l bs = parts (recordSize l) (readCount l bs) (drop headerSize bs)
 unfoldable pub readSheet : Layout → List ℕ → Sheet
 readSheet l bs = record { frame = readFrame l bs; records = map (unpack (recordSlots l (readFrame l bs))) (recordsIn l bs) }
 
--- bytes keep the rules: a whole header that does, "Length is exactly 8 + 154 × count", and records that do
+-- bytes keep the rules: a whole header that does, the length that it states (rule S6), and records that do
 unfoldable pub bytesRight : Layout → List ℕ → Bool
 bytesRight l bs =
     leb headerSize (length bs)

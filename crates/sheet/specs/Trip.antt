@@ -1,8 +1,8 @@
--- The return trip, as statements: first of any layout, then of what the public entries answer and leave. `proofs/Return` proves the first for every
--- lawful layout, and `proofs/Public` the rest. Definitions only.
+-- The return trip, rule S11, as statements: first of any lawful layout, then of what the public entries answer and leave. `TripRule`, at the end, has them all;
+-- `proofs/Rules` proves it. Definitions only.
 use mathlib.Core.Path.{_≡_}
 use mathlib.Core.List.{List, _++_, flatMap}
-use Prim.Native.Nat.{ℕ, _*_, _/_, _^_, _≤_}
+use Prim.Native.Nat.{ℕ, _+_, _*_, _/_, _^_, _≤_}
 use lib.ListN.{length, take, drop}
 use Rattle.params.specs.Limits.{maxSide}
 use Rattle.params.specs.declared.Answer.the-variants.{Done}
@@ -12,6 +12,11 @@ use Rattle.sheet.specs.Sheet.{parts, readFrame}
 use Rattle.sheet.specs.Words.{readWords, takenWords, withBlank}
 use Rattle.sheet.specs.Writes.{frameOf, countIn, recordsOf, writeFault, written, writeAnswer, writeOut}
 use Rattle.sheet.specs.Reads.{readFault, wordsIn, readAnswer, readOut}
+
+-- What the trip asks of a layout: the edition's number fits its four bits, and the sides leave room for the other fields of header and record.
+pub record Lawful (l : Layout) : Type 0 where
+  pub edition : l .edition ≤ 15
+  pub side : 2 * l .side + markBits l ≤ 32
 
 -- the words of records that the reader gave, as the writer takes them: without the added word, where the layout has no bit for it
 unfoldable pub handedBack : Layout → List ℕ → List ℕ
@@ -64,3 +69,13 @@ ReadOnce =
     readAnswer edition1 one (length room) ≡ record { answer = Done n; width = width; height = height; layers = layers } →
     readAnswer edition1 other (length room) ≡ record { answer = Done n; width = width; height = height; layers = layers } →
     readOut edition1 one room ≡ readOut edition1 other room → one ≡ other
+
+-- All of it: every lawful layout makes the trip, edition 1 is lawful, and so the public entries make it.
+pub record TripRule : Type 0 where
+  pub reads-back : (l : Layout) → Lawful l → ReadsBack l
+  pub writes-back : (l : Layout) → Lawful l → WritesBack l
+  pub reads-once : (l : Layout) → Lawful l → ReadsOnce l
+  pub edition1-lawful : Lawful edition1
+  pub written-is-read : WrittenIsRead
+  pub read-is-written : ReadIsWritten
+  pub read-once : ReadOnce

@@ -6,7 +6,7 @@ use lib.Dec.{eqb}
 use lib.ListN.{getD, take, drop}
 use Rattle.sheet.specs.Layout.{Layout, valueCount}
 
--- "each record as 138 words: the five whole numbers, the five floats' bits, the 128 values as whole numbers. The reader adds a word"
+-- rule S7: the words of a record as the writer takes them, five whole numbers, five floats and 128 values; and as the reader gives them, one more
 abbrev pub plainWords : ℕ
 plainWords = 138
 
@@ -45,7 +45,7 @@ unfoldable pub allZero : List ℕ → Bool
 allZero [] = true
 allZero (v ∷ vs) = eqb v 0 && allZero vs
 
--- "1 if blank and 0 if not. It calls a record blank when its 128 bytes are all zero."
+-- rule S8: a record all of whose values are 0 is blank
 abbrev pub blankOf : List ℕ → ℕ
 blankOf values = cond (allZero values) 1 0
 

@@ -30,7 +30,7 @@ sheetOf l f ws = record { frame = f; records = map filled (recordsOf l ws) }
 unfoldable pub sidesWrong : Layout → Frame → Bool
 sidesWrong l f = shapeWrong (f .width) (f .height) || (ltb (2 ^ l .side) (f .width) || ltb (2 ^ l .side) (f .height))
 
--- 2: "layers 0 or above 15, or a whole record's layer outside 1 to layers"
+-- 2, rule S9: the frame's layers are out of range, or those of a whole record
 abbrev pub layerRight : ℕ → List ℕ → Bool
 layerRight layers w = leb 1 (getD w layerPlace 0) && leb (getD w layerPlace 0) layers
 
@@ -41,7 +41,7 @@ layerWrong l f ws = (eqb (f .layers) 0 || ltb maxLayers (f .layers)) || not (all
 abbrev pub wordsRight : Layout → Frame → List ℕ → Bool
 wordsRight l f w = recordRight l f (filled w)
 
--- 5: "any other bad record word, octave included, a part of a record, or a count above 1,048,575"
+-- 5, rule S9: words that are no whole number of records, too many records, or one that breaks another rule
 unfoldable pub wordsWrong : Layout → Frame → List ℕ → Bool
 wordsWrong l f ws =
     not (eqb (length ws % takenWords l) 0)

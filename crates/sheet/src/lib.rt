@@ -72,7 +72,8 @@ pub fn head_right(width: u64, height: u64, layers: u64, h: Head) -> bool
                     & (between(0, 255, h.code) & between(0, 0, h.zero)))))
 }
 
-// Whether a record's floats do: finite with sign bit clear, size above 0, angle below 360.
+// Whether a record's floats do: finite with sign bit clear, size above 0, angle below 360. With the sign bit clear the order of bits is that of values: 0x7f7f_ffff is
+// the largest finite f32, 1 the least above 0, and 0x43b3_ffff the last below 360.
 pub fn floats_right(f: Floats) -> bool
     ensures { λ r. ⌜ r ≡ sound (floatSlots edition1) (floatValues f) ⌝ }
 {

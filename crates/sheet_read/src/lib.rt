@@ -44,7 +44,7 @@ fn get(bytes: &[u8], at: usize, k: usize) -> u64
     acc
 }
 
-// The header's fields. Below the edition stand 60 bits, below the width 47, the height 34, the layers 30, the count 10.
+// The header's fields. Below the edition stand 60 bits, below the width 47, the height 34, the layers 30, the count 10: the divisors are these powers of two.
 fn cut_header(n: u64) -> Header
     ensures { λ r. ⌜ fields (headerSlots edition1) n ≡ headerList r ⌝ }
     ensures { λ r. ⌜ HeaderFits r ⌝ }
@@ -63,7 +63,7 @@ fn cut_header(n: u64) -> Header
     }
 }
 
-// A record's whole numbers. Below the row stand 35 bits, below the column 22, the octave 18, the layer 14, the code 6.
+// A record's whole numbers. Below the row stand 35 bits, below the column 22, the octave 18, the layer 14, the code 6: the divisors are these powers of two.
 fn cut_head(n: u64) -> Head
     requires { ⌜ n < 2 ^ (8 * headSize) ⌝ }
     ensures { λ r. ⌜ fields (headSlots edition1 anyFrame) n ≡ headValues r ⌝ }
@@ -145,7 +145,7 @@ fn header_in(sheet: &[u8]) -> Header
     cut_header(get(sheet, 0, HEADER_BYTES))
 }
 
-// Whether a header's fields keep the rules; width, height and count have no value that breaks one.
+// Whether a header's fields keep the rules; width, height and count have no value that breaks one (8191 is all of 13 bits, 1048575 all of 20).
 fn header_right(h: Header) -> bool
     ensures { λ r. ⌜ r ≡ sound (headerSlots edition1) (headerList h) ⌝ }
 {
@@ -174,7 +174,7 @@ fn sheet_right(sheet: &[u8]) -> bool
     records_right(h.width + 1, h.height + 1, h.layers, sheet, n)
 }
 
-// The blank word: whether a record's 128 bytes are all zero.
+// The blank word: whether a record's 128 bytes are all zero. They start behind the 6 bytes of its whole numbers and the 20 of its floats.
 fn blank_in(bytes: &[u8]) -> u32
     requires { ⌜ length (now bytes) ≡ recordSize edition1 ⌝ }
     ensures { λ r. ⌜ r ≡ blankOf (drop frontSize (now (bytes .entry))) ⌝ }
@@ -309,10 +309,12 @@ pub fn read_sheet(sheet: &[u8], out: &mut [u32]) -> Read
         return refusal(Answer::Short(n));
     }
     take_records(sheet, n, out);
+    let wide = h.width + 1;
+    let high = h.height + 1;
     Read {
         answer: Answer::Done(n),
-        width: (h.width + 1) as usize,
-        height: (h.height + 1) as usize,
+        width: wide as usize,
+        height: high as usize,
         layers: h.layers as usize,
     }
 }

@@ -4,6 +4,7 @@ ghost use Prim.Native.Nat.{_<_, _≤_};
 use libc::STDOUT_FILENO;
 use params::Answer;
 
+// What is lent, in bytes or words: more than the three records of the largest case take, 8 + 3 × 154 bytes or 3 × 139 words.
 const ROOM: usize = 512;
 
 const PATTERN_BYTE: u8 = 165;
@@ -36,7 +37,7 @@ fn byte_at(s: &[u8], at: usize) -> u64
     if at < s.len() { wide(s[at]) } else { 0 }
 }
 
-// The 16, 32 or 64 bits from a place on, most significant byte first.
+// The 16, 32 or 64 bits from a place on, most significant byte first. The bounds on places are only there so that no sum wraps; a case ends before 4,096.
 fn half_at(s: &[u8], at: usize) -> u64
     requires { ⌜ at ≤ 100000 ⌝ }
     ensures { λ r. ⌜ r ≤ 65535 ⌝ }

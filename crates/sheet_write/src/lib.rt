@@ -98,7 +98,7 @@ fn floats_of(words: &[u32]) -> Floats
     }
 }
 
-// The 48 bits of a record's whole numbers as one number: 13, 13, 4, 4 and 8 bits, and 6 zero bits.
+// The 48 bits of a record's whole numbers as one number: 13, 13, 4, 4 and 8 bits, and 6 zero bits; each factor is the power of two that makes room for the next field.
 fn head_number(h: Head) -> u64
     requires { ⌜ HeadFits h ⌝ }
     ensures { λ r. ⌜ r ≡ number (headSlots edition1 anyFrame) (headValues h) ⌝ }
@@ -106,7 +106,7 @@ fn head_number(h: Head) -> u64
     ((((h.row * 8192 + h.column) * 16 + h.octave) * 16 + h.layer) * 256 + h.code) * 64 + h.zero
 }
 
-// Writes a record's 154 bytes at the place `at`.
+// Writes a record's 154 bytes at the place `at`: 6 of whole numbers, 20 of floats, 128 values.
 fn put_record(words: &[u32], out: &mut [u8], at: usize)
     requires { ⌜ length (now words) ≡ plainWords ⌝ }
     requires { ⌜ at + recordSize edition1 ≤ length (now out) ⌝ }
@@ -198,7 +198,8 @@ fn write_fault(width: usize, height: usize, layers: usize, words: &[u32]) -> u32
     0
 }
 
-// The header's 64 bits as one number: edition 4 bits, width − 1 and height − 1 13 each, layers 4, count 20, and 10 zero bits.
+// The header's 64 bits as one number: edition 4 bits, width − 1 and height − 1 13 each, layers 4, count 20, and 10 zero bits; each factor is the power of two that
+// makes room for the next field, and the first 8192 is edition 1.
 fn header_number(width: u64, height: u64, layers: u64, count: u64) -> u64
     requires { ⌜ (1 ≤ width) × (width ≤ maxSide) × (1 ≤ height) × (height ≤ maxSide) × (layers ≤ maxLayers) × (count ≤ maxCount) ⌝ }
     ensures { λ r. ⌜ r ≡ number (headerSlots edition1) (headerValues edition1 (frameOf width height layers) count) ⌝ }

@@ -1,4 +1,4 @@
-//! From a frame to a sheet: every oriented keypoint with its descriptor, in the order in which they are found.
+//! From a frame to a sheet: every oriented keypoint with its descriptor, in the order in which they are found: see `find`.
 
 use crate::Trouble;
 use crate::describe::describe;

@@ -1,5 +1,6 @@
-//! From a frame to its oriented keypoints, in the order of a sheet: octave by octave, layer by layer, as detection lists them, and
-//! the peaks of each.
+//! From a frame to its oriented keypoints, in the order of a sheet: octave by octave, in each by the layer searched, in each as
+//! detection lists them, and the peaks of each. A keypoint may settle in another layer than the one searched; that layer's plane is
+//! its picture.
 
 use crate::Trouble;
 use crate::pgm::Frame;
@@ -87,7 +88,7 @@ pub fn size(frame: &Frame, double: bool) -> (usize, usize) {
     }
 }
 
-/// The keypoints of an octave, layer by layer of where they settled, and in each layer as detection lists them.
+/// The keypoints of an octave, by the layer searched, and in each layer as detection lists them.
 fn keypoints(octave: &Octave, settings: &Settings) -> Result<Vec<Keypoint>, Refusal> {
     let mut all = Vec::new();
     for layer in 1..=settings.layers {
@@ -98,7 +99,6 @@ fn keypoints(octave: &Octave, settings: &Settings) -> Result<Vec<Keypoint>, Refu
             settings,
         )?);
     }
-    all.sort_by_key(|k| k.layer);
     Ok(all)
 }
 

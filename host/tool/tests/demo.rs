@@ -30,17 +30,15 @@ fn planes(o: &Octave) -> Vec<u8> {
         .collect()
 }
 
-/// The records by the published Rust, 138 words each.
+/// The records by the published Rust, 138 words each, by the layer searched; a keypoint's picture is that of the layer where it
+/// settled.
 fn records(o: &Octave) -> Vec<[u32; 138]> {
     let s = Settings::default();
-    let found: Vec<[u32; 10]> = (1..=3)
-        .flat_map(|layer| oracle::find_extrema(&o.stack(), layer, 0, &s))
-        .collect();
     let mut all = Vec::new();
     for layer in 1..=3 {
-        let plane = &o.gaussian[layer];
-        for k in found.iter().filter(|k| k[5] as usize == layer) {
-            for d in oracle::assign_orientations(plane, WIDTH, HEIGHT, k).0 {
+        for k in oracle::find_extrema(&o.stack(), layer, 0, &s) {
+            let plane = &o.gaussian[k[5] as usize];
+            for d in oracle::assign_orientations(plane, WIDTH, HEIGHT, &k).0 {
                 let at = oracle::descriptor_inputs(&d, 0).map(f32::from_bits);
                 let (values, _) = oracle::compute_descriptor(plane, WIDTH, HEIGHT, at);
                 let mut w = [0; 138];

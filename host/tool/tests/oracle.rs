@@ -24,8 +24,7 @@ fn noise(width: usize, height: usize, seed: u64) -> Frame {
     }
 }
 
-/// "Row and column are rr and cc; octave, layer and code the octave word's bytes; the floats an oriented keypoint's"; the 128 values
-/// as whole numbers.
+/// The record of rule S4, as the words of rule S7.
 fn record(k: &[u32; 10], o: &[u32; 6], values: &[u32; 128]) -> [u32; 138] {
     let [octave, layer, code, _] = o[4].to_le_bytes().map(u32::from);
     let mut w = [0; 138];
@@ -40,24 +39,21 @@ fn record(k: &[u32; 10], o: &[u32; 6], values: &[u32; 128]) -> [u32; 138] {
     w
 }
 
-/// What the published Rust finds, layer by layer of where a keypoint settled.
+/// What the published Rust finds, by the layer searched; a keypoint's picture is that of the layer where it settled.
 fn theirs(f: &Frame, w: &Wanted) -> Vec<Words> {
     let s = &w.settings;
     let mut all = Vec::new();
     for octave in Pyramid::new(&f.samples, f.width, f.height, s, w.double) {
-        let found: Vec<[u32; 10]> = (1..=s.layers)
-            .flat_map(|layer| oracle::find_extrema(&octave.stack(), layer, octave.number, s))
-            .collect();
         for layer in 1..=s.layers {
-            for k in found.iter().filter(|k| k[5] as usize == layer) {
-                let plane = &octave.gaussian[layer];
-                let (list, _) = oracle::assign_orientations(plane, octave.width, octave.height, k);
+            for k in oracle::find_extrema(&octave.stack(), layer, octave.number, s) {
+                let plane = &octave.gaussian[k[5] as usize];
+                let (list, _) = oracle::assign_orientations(plane, octave.width, octave.height, &k);
                 for o in list {
                     let at = oracle::descriptor_inputs(&o, octave.number as i32);
                     let at = at.map(f32::from_bits);
                     let (values, _) =
                         oracle::compute_descriptor(plane, octave.width, octave.height, at);
-                    all.push((*k, o, record(k, &o, &values)));
+                    all.push((k, o, record(&k, &o, &values)));
                 }
             }
         }

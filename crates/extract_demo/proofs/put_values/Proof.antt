@@ -12,11 +12,14 @@ abbrev μ-loop : tie.MeasureT-loop
 loop-holds : tie.Need-loop-holds Inv-loop μ-loop
 loop-holds c = search needs
 
-mul-whole : tie.Need-mul-whole Inv-loop μ-loop
-mul-whole c = search needs
+mul-of-bits : tie.Need-mul-of-bits Inv-loop μ-loop
+mul-of-bits c = search needs
 
-element-copy-out-whole : tie.Need-element-copy-out-whole Inv-loop μ-loop
-element-copy-out-whole c = search needs
+element-copy-out-of-bits : tie.Need-element-copy-out-of-bits Inv-loop μ-loop
+element-copy-out-of-bits c = search needs
+
+of-bits-requires : tie.Need-of-bits-requires Inv-loop μ-loop
+of-bits-requires c κs = search needs
 
 whole-requires : tie.Need-whole-requires Inv-loop μ-loop
 whole-requires c κs = search needs
@@ -49,8 +52,9 @@ put-values-spec =
     Inv-loop
     μ-loop
     loop-holds
-    mul-whole
-    element-copy-out-whole
+    mul-of-bits
+    element-copy-out-of-bits
+    of-bits-requires
     whole-requires
     add-records
     mul-records

@@ -45,11 +45,11 @@ take-records-requires c κs =
     let k = kept edition1 (s .args .sheet .now) (sym (c .before .before .before .before .sheet-right .ensures) ∙ not-false _ (c .before .before .before .if1 .left)) in
     omega (arith, k .exact, count-is (s .args .sheet .now) (h .result) (h .ensures .0))
 
-add-t15 : tie.Need-add-t15
-add-t15 c = search needs
+add-wide : tie.Need-add-wide
+add-wide c = search needs
 
-add-t16 : tie.Need-add-t16
-add-t16 c = search needs
+add-high : tie.Need-add-high
+add-high c = search needs
 
 same-length : tie.Need-same-length
 same-length c = search needs
@@ -73,7 +73,7 @@ read-sheet-spec =
     refusal-requires-2
     returns-2
     take-records-requires
-    add-t15
-    add-t16
+    add-wide
+    add-high
     same-length
     returns-3)

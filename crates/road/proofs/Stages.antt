@@ -1,0 +1,73 @@
+-- A keypoint that was found, on a picture of its octave's size: what orientation answers, and the descriptor to each direction. Assumes nothing.
+use Prim.Native.Nat.{ℕ, _*_, _≤_}
+use mathlib.Core.Path.{_≡_, ap, _∙_, subst}
+use mathlib.Core.Bool.{true, false}
+use mathlib.Core.List.{List}
+use lib.ListN.{length}
+use lib.Ieee.{Float, nan}
+use Rattle.params.specs.Table.{shapeWrong, allGood}
+use Rattle.params.specs.declared.Settings.{Settings}
+use Rattle.refine.specs.Sound.{Sound}
+use Rattle.refine.specs.declared.RawKeypoint.{RawKeypoint}
+use Rattle.extrema.specs.Places.{Stack}
+use Rattle.detect.proofs.Faults as DetectFaults
+use Rattle.detect.proofs.Rules.{detect-rule}
+use Rattle.tally.specs.Sample.{windowGood}
+use Rattle.orient.specs.Keypoint.{keypointWrong}
+use Rattle.orient.specs.Entry.{windowAt, orientedOf}
+use Rattle.orient.specs.declared.OrientedKeypoint.{OrientedKeypoint}
+use Rattle.orient.proofs.Rules.{orient-rule}
+use Rattle.orient_laws.specs.Rules.{Turn}
+use Rattle.orient_laws.proofs.Rules.{angles-rule}
+use Rattle.descriptor.specs.Place.{turnAt}
+use Rattle.road.specs.Road.{Among, Octave, searchFault, foundIn, turnFault, directionsOf, inputsFor, patchFault, patchReads}
+use Rattle.road.specs.Rules.{sixUnless, Served, Through}
+use Rattle.road.proofs.Members.{place}
+use Rattle.road.proofs.Oriented.{sides-right, orient-answers, window-good}
+use Rattle.road.proofs.Described.{number-given, describe-answers, reads-good}
+
+-- what stands past a list's end is never read
+past : RawKeypoint
+past = record { x = nan; y = nan; size = nan; response = nan; octave = 0; layer = 0; xi = nan; cc = 0; rr = 0; moves = 0 }
+
+module _ (s : Settings) (q : Octave) (layer : ℕ) (z : searchFault s q layer ≡ 0) (k : RawKeypoint) (m : Among k (foundIn s q layer)) where
+  pub stack : Stack (length (q .stack)) (q .width) (q .height) (q .planes) (s .layers) (q .number) layer
+  stack = DetectFaults.right (q .stack) (q .width) (q .height) (q .planes) layer (q .number) s z .stack
+
+  pub sound : Sound (q .width) (q .height) s (q .number) k
+  sound =
+      let p = place m in
+      subst (λ (x : RawKeypoint). Sound (q .width) (q .height) s (q .number) x) (p .is past)
+      (detect-rule .sound (q .stack) (q .width) (q .height) (q .planes) layer (q .number) s z past (p .at) (p .below))
+
+  shape : shapeWrong (q .width) (q .height) ≡ false
+  shape = sides-right (q .width) (q .height) (q .number) s k (stack .wide) (stack .high) sound
+
+  right : keypointWrong (q .width) (q .height) k ≡ false
+  right = orient-rule .accepted (q .width) (q .height) (q .number) s k (stack .many) (stack .low) sound
+
+  module _ (img : List Float) (whole : length img ≡ q .height * q .width) where
+    pub oriented : turnFault img q k ≡ sixUnless (windowGood img (windowAt (q .width) (q .height) k))
+    oriented = orient-answers img (q .width) (q .height) whole k shape right
+
+    module _ (t : turnFault img q k ≡ 0) (o : OrientedKeypoint) (n : Among o (directionsOf img q k)) where
+      pub turn : Turn (o .angle)
+      turn = let p = place n in subst (λ (x : OrientedKeypoint). Turn (x .angle)) (p .is (orientedOf k nan)) (angles-rule .angle img (q .width) (q .height) k (p .at) t (p .below))
+
+      pub described : Served img q o
+      described =
+          let p = place n in
+          let a = angles-rule .angle img (q .width) (q .height) k (p .at) t (p .below) in
+          subst (λ (x : OrientedKeypoint). Served img q x) (p .is (orientedOf k nan))
+          (record {
+            taken = describe-answers img (q .width) (q .height) (q .number) s k (stack .wide) (stack .high) (stack .low) sound (p .at) (p .below) a whole;
+            given = number-given img (q .width) (q .height) (q .number) s k (stack .wide) (stack .high) (stack .low) sound (p .at) (p .below) a;
+          })
+
+    pub through : allGood img ≡ true → Through img q k
+    through g =
+        let t = oriented ∙ ap sixUnless (window-good img (q .width) (q .height) whole g k shape right) in
+        record {
+          turned = t;
+          described = λ o n. described t o n .taken ∙ ap sixUnless (reads-good img (q .width) (q .height) whole g _);
+        }

@@ -2,24 +2,42 @@
  * Bargeclover: keypoints for tying frames of aerial film together. One archive, libbargeclover.a; every function in it is proved
  * to answer as said here, to do nothing undefined and to return.
  *
- * Numbers given back, checked in this order, first fault wins; each entry makes the checks that apply to its arguments:
+ * A call that can be refused gives back a number; docs/RULES.md has the rules behind it (rules A2 to A17). A check is made where its
+ * argument is there, in the order of the numbers (but read_sheet makes 8 before 7), and the first that fails is the answer:
  *
- *   0  done
- *   1  width or height is 0 or above 8192
- *   2  not 1 <= layer <= layers <= planes - 2, or layers above 15, or planes above 17
- *   3  a plane slice hasn't exactly the length that the shape gives
- *   4  contrast not in 0 to 1, edge not in 1 to 1000, sigma not in 0.5 to 16, octave not in 0 to 15, or one is not-a-number
- *   5  a keypoint or record field is outside its range
- *   6  a sample is not-a-number, infinite or above 2^20 in magnitude
- *   7  the lent output is too small
- *   8  a sheet breaks a rule of the sheet
+ *   0  the call did what it is for
+ *   1  a side of the picture or frame is not 1 to 8192
+ *   2  layers are not 1 to 15, a layer is not one of them, or planes are not layers + 2 to 17
+ *   3  the samples are not as many as the shape says
+ *   4  contrast is not 0 to 1, edge not 1 to 1000, sigma not 0.5 to 16, or octave not 0 to 15; so is a not-a-number
+ *   5  a field of a keypoint, a place or a record is out of its range
+ *   6  a sample is no number of at most 2^20 in magnitude
+ *   7  there is not the room that the answer needs
+ *   8  the bytes are no sheet that keeps its rules
  *
- * 0 comes with the count written, 7 with the count needed. Any other number comes with 0 in every out-parameter. Where the number
- * is not 0 nothing is written to the lent output; where it is 0, what lies after the last word or byte written stays as it was.
+ * Where there is a count, it says beside 0 how much was written and beside 7 how much there is to write. Beside every other number
+ * each out-parameter is 0. Nothing is written to what is lent unless the number is 0; then what lies behind the last word or byte
+ * written keeps what stood there.
  *
- * What a caller owes, since C can't say it: a pointer is not null, is aligned, and is good for the length that follows it (an
- * out-parameter for one value), also where that length is 0; and what a call writes overlaps nothing else that it is handed. No
- * function keeps a pointer, allocates, or has state: all may be called from any thread.
+ * What a caller owes, since C can't say it:
+ *
+ * - A pointer is not null, is aligned, and is good for the length that follows it (an out-parameter for one value), also where that
+ *   length is 0; and what a call writes overlaps nothing else that it is handed.
+ * - The processor rounds to nearest and keeps subnormal numbers, as every C program does when it starts: no other rounding direction,
+ *   no flush-to-zero and no denormals-are-zero in the calling thread. (fesetround, _MM_SET_FLUSH_ZERO_MODE and a main program that is
+ *   linked with -ffast-math change them.)
+ * - There is stack enough, as said below.
+ *
+ * No function keeps a pointer, allocates, or has state: all may be called from any thread. The archive calls memcpy and memset of
+ * the C library, and nothing else.
+ *
+ * Stack, in bytes, that a call takes at most on x86-64, what memcpy and memset take not counted. A test measures it:
+ *
+ *   find_extrema: 86016
+ *   compute_descriptor: 5120
+ *   assign_orientations: 3072
+ *   exp2, exp: 1536
+ *   all others: 512
  */
 #ifndef BARGECLOVER_H
 #define BARGECLOVER_H
@@ -60,7 +78,7 @@ int32_t bargeclover_to_i32(uint32_t x);
 
 /*
  * The threshold of detection, 0.5 * contrast / layers * 255, floored, by its float bits.
- * Refused with 2 (layers is 0 or above 15) or 4 (contrast not in 0 to 1).
+ * Refused with 2 (layers are not 1 to 15) or 4 (contrast is not 0 to 1).
  */
 uint32_t bargeclover_threshold(double contrast, size_t layers, uint32_t *threshold_bits);
 
@@ -78,11 +96,11 @@ uint32_t bargeclover_find_extrema(const float *dog, size_t dog_len, size_t width
 /*
  * The directions of a keypoint in the Gaussian plane of its layer, one oriented keypoint for each peak, at most 18.
  * img has height * width samples. The keypoint is ten words, as find_extrema gives them: its cell must lie in the picture, its scale
- * (size * 0.5 / 2^octave) in 0.125 to 64, its floats must be finite, and its octave word has 0 to 15 in the low byte, 1 to 15 in the
- * next, 0 to 255 in the third, nothing above; layer and moves are free. An oriented keypoint goes out as six words: x, y, size and
+ * (size * 0.5 / 2^octave) in 0.125 to 64, and its floats must be finite; the bytes of its octave word are, from the lowest, 0 to 15,
+ * 1 to 15, 0 to 255 and 0; what stands in layer and moves does not matter. An oriented keypoint goes out as six words: x, y, size and
  * response by their float bits, the octave word, the angle in degrees by its float bits. count is in oriented keypoints, out_len in
  * words; samples is the number of cells read, 0 beside every other number than 0.
- * Refused with 1, 3, 5 (also where keypoint_len is not 10), 6 (only the four neighbours of each cell read) or 7.
+ * Refused with 1, 3, 5 (also where keypoint_len is not 10), 6 (of the four neighbours of a cell that is read) or 7.
  */
 uint32_t bargeclover_assign_orientations(const float *img, size_t img_len, size_t width, size_t height, const uint32_t *keypoint,
     size_t keypoint_len, uint32_t *out, size_t out_len, size_t *count, size_t *samples);
@@ -90,18 +108,19 @@ uint32_t bargeclover_assign_orientations(const float *img, size_t img_len, size_
 /*
  * What the descriptor is asked with for an oriented keypoint, six words as assign_orientations gives them, in its octave: x, y and
  * scale in the octave's cells, and the angle turned round, 360 - angle. They go out as four words, by their float bits.
- * Refused with 4 (octave not in 0 to 15), 5 (oriented_len is not 6, a word is the pattern of a not-a-number, the position or the size
- * is not finite, the size is below 0, or the angle is not in 0 to 360) or 7 (out_len is not 4).
+ * Refused with 4 (octave is not 0 to 15), 5 (oriented_len is not 6, the position or the size is not finite, the size is below 0, the
+ * angle is not in 0 to 360, or the response is the pattern of a not-a-number) or 7 (out_len is not 4). It has no count: the words are
+ * four.
  */
 uint32_t bargeclover_descriptor_inputs(const uint32_t *oriented, size_t oriented_len, int32_t octave, uint32_t *out, size_t out_len);
 
 /*
  * The descriptor of the patch about a position of a picture: 128 values, each a whole number from 0 to 255.
- * img has height * width samples. x, y, scale and angle are as descriptor_inputs gives them: the position, rounded, must lie in the
- * picture, the scale in 0.125 to 64, the angle in 0 to 360 degrees, and all must be finite. count is 128 beside 0 and 7, and else 0.
- * samples is the number of cells used, 0 beside every other number than 0: values that are all zero are those of a flat patch where it
- * is above 0, and of a patch of which nothing was read where it is 0.
- * Refused with 1, 3, 5, 6 (only the four neighbours of each cell used) or 7 (out_len is not 128).
+ * img has height * width samples. x, y, scale and angle are as descriptor_inputs gives them: the position must round to a cell of
+ * the picture, the scale must be 0.125 to 64 and the angle 0 to 360 degrees, and all must be finite. count is 128 beside 0 and 7,
+ * and else 0. samples is the number of cells used, 0 beside every other number than 0. Beside 0 it tells nothing from zero: values
+ * that are all zero are those of a level patch where it is above 0, and of a patch of which nothing was read where it is 0.
+ * Refused with 1, 3, 5, 6 (of the four neighbours of a cell that is used) or 7 (out_len is not 128).
  */
 uint32_t bargeclover_compute_descriptor(const float *img, size_t img_len, size_t width, size_t height, float x, float y, float scale,
     float angle, float *out, size_t out_len, size_t *count, size_t *samples);
@@ -109,10 +128,10 @@ uint32_t bargeclover_compute_descriptor(const float *img, size_t img_len, size_t
 /*
  * The sheet of keypoints, edition 1: bits packed most significant first, a header of 8 bytes, then 154 bytes a record.
  * A record is handed over as 138 words: row, column, octave, layer, code; x, y, size, response and angle by their float bits; the 128
- * values. Row and column lie in the picture, octave is 0 to 15, layer 1 to layers, code 0 to 255; the five floats are finite with sign
- * bit clear, size above 0, angle below 360; the values are 0 to 255.
- * write_sheet: count and out_len are in bytes. Refused with 1; 2 (layers is 0 or above 15, or a whole record's layer is not 1 to
- * layers); 5 (any other bad word, a part of a record, or more than 1048575 records); 7.
+ * values. Row and column name a cell of the frame, octave is 0 to 15, layer 1 to layers, code 0 to 255; no float is negative, -0,
+ * infinite or a not-a-number, the size is not 0 and the angle is less than 360; the values are 0 to 255.
+ * write_sheet: count and out_len are in bytes. Refused with 1; 2 (layers are not 1 to 15, or the layer of a whole record is not
+ * one of them); 5 (any other word out of its range, words that make no whole number of records, or more than 1048575 records); 7.
  */
 uint32_t bargeclover_write_sheet(size_t width, size_t height, size_t layers, const uint32_t *words, size_t words_len, uint8_t *out,
     size_t out_len, size_t *count);

@@ -1,5 +1,5 @@
 //! Reads the published `sift` module (kornia-rs at 285a3cc7f0) from the folder that KORNIA_SRC names, or from
-//! `../shared/docs/src` beside the repository, patches it where document 01 says, and writes one module into OUT_DIR.
+//! `../shared/docs/src` beside the repository, patches it where rules A20 and A23 say, and writes one module into OUT_DIR.
 //! Nothing of it is kept in the repository. Each patch must match exactly once, or the build stops.
 
 use std::path::{Path, PathBuf};
@@ -21,7 +21,7 @@ const fn patch(file: &'static str, old: &'static str, new: &'static str) -> Patc
     Patch { file, old, new }
 }
 
-/// The condition of the blocks that document 01 leaves behind, and one that never holds.
+/// The condition of the blocks that rule A23 leaves behind, and one that never holds.
 const ARM: &str = "target_arch = \"aarch64\"";
 const NEVER: &str = "any()";
 

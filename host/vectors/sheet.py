@@ -1,5 +1,5 @@
 #!/usr/bin/env python3
-"""Makes the cases that crates/sheet_vectors replays, from document 01's section "The sheet" alone: nothing of the proved code is read or run.
+"""Makes the cases that crates/sheet_vectors replays, from rules S1 to S10 alone: nothing of the proved code is read or run.
 
     python3 host/vectors/sheet.py crates/sheet_vectors/data/cases.bin
 

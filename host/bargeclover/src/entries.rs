@@ -1,5 +1,5 @@
-//! The entries as they are in C, made safe by slices: numbers, counts and words, and nothing allocated. Each answers document
-//! 01's number and what it carries. On a refusal nothing is written and all else is 0, but for the count needed beside a 7.
+//! The entries as they are in C, made safe by slices: numbers, counts and words, and nothing allocated. Each answers the
+//! number of rule A2 and what it carries. On a refusal nothing is written and all else is 0, but for the count needed beside a 7.
 
 use crate::{Aim, Picture, Settings, Stack, ffi};
 

@@ -1,4 +1,4 @@
-//! Document 01's numbers in words.
+//! The numbers of refusals (rule A2) in words.
 
 use std::error::Error;
 use std::fmt;
@@ -6,7 +6,7 @@ use std::fmt;
 /// Why an entry refused. Its checks go down the table in this order, and the first fault wins.
 #[derive(Clone, Copy, Debug, PartialEq, Eq)]
 pub enum Refusal {
-    /// 1: width or height is 0 or above 8,192.
+    /// 1: a side is not 1 to 8,192.
     Shape,
     /// 2: layer, layers and planes do not fit together, or are too many.
     Layers,
@@ -16,11 +16,11 @@ pub enum Refusal {
     Settings,
     /// 5: a field of a keypoint or of a record is out of its range.
     Field,
-    /// 6: a sample is not-a-number, infinite or above 2^20 in magnitude.
+    /// 6: a sample is no number of at most 2^20 in magnitude.
     Sample,
     /// 7: there is too little room; this is the count that is needed.
     Room { needed: usize },
-    /// 8: the sheet breaks a rule of the sheet.
+    /// 8: the bytes are no sheet that keeps its rules.
     Sheet,
 }
 
@@ -41,7 +41,7 @@ impl Refusal {
         })
     }
 
-    /// The number in document 01's table.
+    /// Its number in the table of refusals.
     pub fn number(self) -> u32 {
         match self {
             Refusal::Shape => 1,
@@ -60,26 +60,23 @@ impl fmt::Display for Refusal {
     fn fmt(&self, f: &mut fmt::Formatter<'_>) -> fmt::Result {
         write!(f, "refused with number {}: ", self.number())?;
         match self {
-            Refusal::Shape => write!(f, "width or height is 0 or above 8192"),
+            Refusal::Shape => write!(f, "a side of the picture is not 1 to 8192"),
             Refusal::Layers => write!(
                 f,
-                "not 1 <= layer <= layers <= planes - 2, or layers is 0 or above 15, or planes above 17"
+                "layers must be 1 to 15, the layer one of them, and planes layers + 2 to 17"
             ),
             Refusal::Length => write!(f, "the samples are not as many as the shape says"),
             Refusal::Settings => write!(
                 f,
-                "contrast is not in 0 to 1, edge not in 1 to 1000, sigma not in 0.5 to 16 or octave not in 0 to 15"
+                "contrast must be 0 to 1, edge 1 to 1000, sigma 0.5 to 16 and octave 0 to 15"
             ),
             Refusal::Field => write!(
                 f,
                 "a field of a keypoint or of a record is out of its range"
             ),
-            Refusal::Sample => write!(
-                f,
-                "a sample is not-a-number, infinite or above 2^20 in magnitude"
-            ),
+            Refusal::Sample => write!(f, "a sample is no number of at most 2^20 in magnitude"),
             Refusal::Room { needed } => write!(f, "too little room: {needed} needed"),
-            Refusal::Sheet => write!(f, "the sheet breaks a rule of the sheet"),
+            Refusal::Sheet => write!(f, "the bytes are no sheet that keeps its rules"),
         }
     }
 }

@@ -1,4 +1,4 @@
-//! Document 01's marked examples of detection, refusals in words, and room.
+//! The marked examples of detection (rules E5 to E9), refusals in words, and room.
 
 use bargeclover::{Refusal, Settings, Stack, bits, entries, find_extrema, threshold};
 
@@ -140,7 +140,7 @@ fn refusals_in_the_table_s_order() {
     let words = told(&bad, 1, 0, &one_layer()).to_string();
     assert_eq!(
         words,
-        "refused with number 6: a sample is not-a-number, infinite or above 2^20 in magnitude"
+        "refused with number 6: a sample is no number of at most 2^20 in magnitude"
     );
 }
 

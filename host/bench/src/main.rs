@@ -1,12 +1,14 @@
 //! The library and the published Rust's scalar path in one process, on the same buffers, in turns; medians, and their ratio.
 //!
-//! Build it with --release. `bench`, or `bench` with some of the words calls, detection, orientation, descriptor. Figures are
-//! kept in docs/SPEED.md.
+//! Build it with --release. `bench`, or `bench` with some of the words calls, detection, orientation, descriptor, stack. Figures
+//! are kept in docs/SPEED.md, and those of the stack in include/bargeclover.h.
 
 mod descriptor;
 mod detection;
 mod operations;
 mod orientation;
+#[cfg(target_os = "linux")]
+mod stack;
 mod timing;
 
 use std::{env, fs};
@@ -27,6 +29,10 @@ fn main() {
     println!("Processor: {}.\n", processor());
     if asked("calls") {
         operations::print();
+    }
+    #[cfg(target_os = "linux")]
+    if asked("stack") {
+        stack::print();
     }
     if oracle::FOUND {
         if asked("detection") {

@@ -1,4 +1,4 @@
-//! What `compute_descriptor` and `descriptor_inputs` are handed, and document 01's table for them.
+//! What `compute_descriptor` and `descriptor_inputs` are handed, and the table of refusals for them (rules A3, A10 and A11).
 
 use crate::Rng;
 use crate::detection::BEFORE;

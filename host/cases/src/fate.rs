@@ -1,5 +1,5 @@
-//! What becomes of a candidate, told in steps: which test drops it, or how many moves it makes. Written from document 01 for
-//! counting alone, so that a run can say that its stacks met every case; the judge of answers is the published Rust.
+//! What becomes of a candidate, told in steps: which test drops it, or how many moves it makes. Written from rules D3 to D14
+//! for counting alone, so that a run can say that its stacks met every case; the judge of answers is the published Rust.
 
 use bargeclover::{Settings, Stack};
 

@@ -1,5 +1,5 @@
 //! Inputs for the comparison with the published Rust, and for the lists that the Rattle programs replay: stacks of every kind,
-//! damaged ones, and beside them the refusal table of document 01 in other words than the library's.
+//! damaged ones, and beside them the refusal table (rule A2) in other words than the library's.
 
 pub mod descriptor;
 pub mod detection;

@@ -1,4 +1,4 @@
-//! What `assign_orientations` is handed, and document 01's table for it.
+//! What `assign_orientations` is handed, and the table of refusals for it (rules A3 and A9).
 
 use crate::Rng;
 use crate::detection::BEFORE;

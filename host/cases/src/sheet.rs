@@ -1,4 +1,4 @@
-//! The sheet of document 01 a second time, bit by bit, and sheets and records, whole and damaged. The published Rust has no
+//! The sheet (rules S1 to S10) a second time, bit by bit, and sheets and records, whole and damaged. The published Rust has no
 //! sheet, so this is what the library's reader and writer are held to.
 
 use crate::Rng;
@@ -62,8 +62,7 @@ impl Taken<'_> {
     }
 }
 
-/// "Row and column lie in the picture", octave and code have room, "the five floats are finite with sign bit clear, size above 0,
-/// angle below 360", and the values are bytes. The layer is not looked at.
+/// Rules S3 and S5, but for the layer, which is not looked at.
 fn fields_right(width: usize, height: usize, r: &Record) -> bool {
     let float = |b: u32| f32::from_bits(b);
     let positive = |b: u32| b >> 31 == 0 && float(b).is_finite();

@@ -1,5 +1,5 @@
-//! Document 01's table of refusals, rendered a second time: from the document's sentences, in wide integers and open intervals,
-//! and not from the library's definitions. Each line is a sentence, and the first that is true gives its number.
+//! The table of refusals (rule A2), rendered a second time: from the page of rules, in wide integers and open intervals, and not
+//! from the library's definitions. Each line is a rule, and the first that is true gives its number.
 
 use crate::detection::Case;
 
@@ -7,12 +7,12 @@ pub(crate) fn first(lines: &[(u32, bool)]) -> u32 {
     lines.iter().find(|l| l.1).map_or(0, |l| l.0)
 }
 
-/// "width or height is 0 or above 8,192"
+/// Rule A4.
 fn shape(width: usize, height: usize) -> bool {
     [width, height].iter().any(|s| !(1..=8192).contains(s))
 }
 
-/// "not 1 ≤ layer ≤ layers ≤ planes − 2, or layers above 15, or planes above 17"
+/// Rule A5, of detection.
 fn layers(layer: usize, layers: usize, planes: usize) -> bool {
     let [layer, layers, planes] = [layer, layers, planes].map(|n| n as i128);
     let ordered = 1 <= layer && layer <= layers && layers <= planes - 2;
@@ -24,7 +24,7 @@ fn outside(x: f64, lo: f64, hi: f64) -> bool {
     x.is_nan() || x < lo || x > hi
 }
 
-/// "a sample is not-a-number, infinite or above 2^20 in magnitude"
+/// Rule A13, of one sample.
 pub fn sample(x: f32) -> bool {
     x.is_nan() || x.is_infinite() || f64::from(x).abs() > 1048576.0
 }

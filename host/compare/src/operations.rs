@@ -1,5 +1,5 @@
 //! The single operations, on millions of patterns, against the processor's own; the routines against their ranges, the values
-//! that document 01 fixes, and double precision.
+//! that rules F4 to F7 fix, and double precision.
 
 use crate::report::Report;
 use bargeclover::bits;

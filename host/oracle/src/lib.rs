@@ -1,6 +1,6 @@
 //! The published Rust as the judge of "bit for bit": its scalar path alone, with our routines called through the C entries on
-//! float bits (document 01, "Routines we add"). `build.rs` reads, patches and checks its text; see there for each patch.
-//! These functions take and give the words of document 01 and trust their caller: what an entry refuses is not to be passed.
+//! float bits (rule F2). `build.rs` reads, patches and checks its text; see there for each patch.
+//! These functions take and give the words of rule A18 and trust their caller: what an entry refuses is not to be passed.
 
 /// Whether the published Rust was found when this was built. Without it the functions below panic.
 pub const FOUND: bool = cfg!(source_found);

@@ -1,4 +1,4 @@
-//! The published Rust as patched: document 01's marked examples, and the cells that orientation and descriptor read, counted by
+//! The published Rust as patched: the marked examples (rules E5 to E10), and the cells that orientation and descriptor read, counted by
 //! the Rust and by the rendering that the refusal table uses.
 
 use bargeclover::{Settings, Stack};

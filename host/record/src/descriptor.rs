@@ -92,7 +92,7 @@ fn middle(picture: Picture, scale: f32) -> Case {
     }
 }
 
-/// Document 01's picture of 2 × 2, pictures of a few cells, slopes along the axes and between them, and shapes that are refused.
+/// The picture of 2 × 2 of rule E10, pictures of a few cells, slopes along the axes and between them, and shapes that are refused.
 fn drawn() -> Vec<Case> {
     let few = [2, 1, 3, 4].map(|n| pictures::made(n, n, |y, x| (y * 7 + x * 3) as f32));
     let slope = |(dx, dy)| pictures::made(25, 25, move |y, x| dx * x as f32 - dy * y as f32);
@@ -135,8 +135,8 @@ pub fn write(folder: &Path, seed: u64) {
     let cases = list.cases;
     let note = format!(
         "`cases.bin`: {cases} places of pictures with the answers of the published Rust (kornia-rs at 285a3cc7f0; our routines in place\n\
-         of its own), and of document 01's table for refusals; `host/record/src/descriptor.rs` has its form. First document 01's picture\n\
-         of 2 × 2, pictures of a few cells, slopes along the axes and between them, and shapes that are refused; then what is drawn at\n\
+         of its own), and of the table of refusals (rule A2); `host/record/src/descriptor.rs` has its form. First the picture of\n\
+         2 × 2 of rule E10, pictures of a few cells, slopes along the axes and between them, and shapes that are refused; then what is drawn at\n\
          random. Made in `host/` by\n\n    \
          cargo run --release -p record -- descriptor {seed}\n\n\
          Those drawn at random, by what they are in the list for:\n\n"

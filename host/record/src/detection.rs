@@ -86,7 +86,7 @@ fn next(r: &mut Rng) -> (Case, Kind, usize) {
     (c, kind, room)
 }
 
-/// Document 01's marked examples of detection: three planes of 10, 11 wide and 10 wide; and of zeros with one cell set.
+/// The marked examples of detection (rules E6 to E9): three planes of 10, 11 wide and 10 wide; and of zeros with one cell set.
 fn marked() -> Vec<Case> {
     let planes = |width: usize, every: f32, middle: f32| {
         let mut samples = vec![every; 3 * width * 11];
@@ -134,8 +134,8 @@ pub fn write(folder: &Path, seed: u64) {
     }
     let cases = list.cases;
     let note = format!(
-        "`cases.bin`: {cases} stacks, document 01's marked examples first, with the answers of the published Rust (kornia-rs at\n\
-         285a3cc7f0), and of document 01's table for refusals; `host/record/src/detection.rs` has its form. Made in `host/` by\n\n    \
+        "`cases.bin`: {cases} stacks, the marked examples (rules E6 to E9) first, with the answers of the published Rust (kornia-rs at\n\
+         285a3cc7f0), and of the table of refusals (rule A2); `host/record/src/detection.rs` has its form. Made in `host/` by\n\n    \
          cargo run --release -p record -- detection {seed}\n\n\
          The cases drawn at random, by number, by kind of stack, and their candidates by what becomes of them:\n\n"
     );

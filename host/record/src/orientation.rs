@@ -172,7 +172,7 @@ pub fn write(folder: &Path, seed: u64) {
     let cases = list.cases;
     let note = format!(
         "`cases.bin`: {cases} keypoints, each in a picture, with the answers of the published Rust (kornia-rs at 285a3cc7f0; our\n\
-         routines in place of its own), and of document 01's table for refusals; `host/record/src/orientation.rs` has its form. First\n\
+         routines in place of its own), and of the table of refusals (rule A2); `host/record/src/orientation.rs` has its form. First\n\
          slopes along the axes and between them, pictures of a few cells, and shapes that are refused; then what is drawn at random.\n\
          Made in `host/` by\n\n    \
          cargo run --release -p record -- orientation {seed}\n\n\

@@ -7,7 +7,7 @@ use std::path::{Path, PathBuf};
 
 #[derive(Debug)]
 pub enum Trouble {
-    /// What is given is read and refused: a picture or a sheet that is not one, or a number of document 01's table. Status 1.
+    /// What is given is read and refused: a picture or a sheet that is not one, or a number of the table of refusals (rule A2). Status 1.
     Refused(String),
     /// The words of the command are wrong. Status 2.
     Usage(String),

@@ -1,7 +1,16 @@
-//! docs/PROMISES.md leads from each sentence to its proof: every link there has its file, and the file has the name.
+//! docs/PROMISES.md leads from each rule to its proof: every link there has its file, and the file has the name. At its end it says
+//! of every page of definitions whether the public contracts speak of it. The links of the other pages are followed too.
 
 use std::fs;
 use std::path::Path;
+
+fn docs() -> std::path::PathBuf {
+    Path::new(env!("CARGO_MANIFEST_DIR")).join("../../docs")
+}
+
+fn page() -> String {
+    fs::read_to_string(docs().join("PROMISES.md")).unwrap()
+}
 
 /// The text and the target of each link.
 fn links(page: &str) -> Vec<(&str, &str)> {
@@ -25,18 +34,89 @@ fn names(text: &str, name: &str) -> bool {
     })
 }
 
+/// The anchors of a page's headings: small letters, a hyphen for each space, and nothing else but digits.
+fn anchors(page: &str) -> Vec<String> {
+    let of = |heading: &str| {
+        let kept = heading.trim_start_matches('#').trim().to_lowercase();
+        let kept = kept.replace(' ', "-");
+        kept.chars()
+            .filter(|c| c.is_alphanumeric() || *c == '-' || *c == '_')
+            .collect()
+    };
+    page.lines()
+        .filter(|l| l.starts_with('#'))
+        .map(of)
+        .collect()
+}
+
 #[test]
 fn every_link_leads_somewhere() {
-    let docs = Path::new(env!("CARGO_MANIFEST_DIR")).join("../../docs");
-    let page = fs::read_to_string(docs.join("PROMISES.md")).unwrap();
+    let page = page();
     let all = links(&page);
-    assert!(all.len() > 150, "{}", all.len());
+    assert!(all.len() > 300, "{}", all.len());
     for (text, target) in all {
-        let file = docs.join(target);
-        let there = fs::read_to_string(&file);
+        if let Some(anchor) = target.strip_prefix('#') {
+            assert!(anchors(&page).iter().any(|a| a == anchor), "{target}");
+            continue;
+        }
+        let there = fs::read_to_string(docs().join(target));
         let there = there.unwrap_or_else(|e| panic!("{text}: {target}: {e}"));
         if let Some(name) = text.strip_prefix('`').and_then(|t| t.strip_suffix('`')) {
             assert!(names(&there, name), "{target} has no {name}");
         }
     }
+}
+
+/// The other pages' links: each has its file.
+#[test]
+fn the_other_pages_lead_somewhere() {
+    let all = fs::read_dir(docs()).unwrap().map(|f| f.unwrap().path());
+    let pages = all.filter(|p| p.extension().is_some_and(|e| e == "md"));
+    for path in pages.chain([docs().join("../README.md")]) {
+        let page = fs::read_to_string(&path).unwrap();
+        for (text, target) in links(&page) {
+            if let Some(anchor) = target.strip_prefix('#') {
+                assert!(anchors(&page).iter().any(|a| a == anchor), "{target}");
+            } else if !target.starts_with("https://") {
+                let there = path.parent().unwrap().join(target);
+                assert!(there.exists(), "{}: {text}: {target}", path.display());
+            }
+        }
+    }
+}
+
+/// The pages of definitions, as PROMISES.md links them; `Lib` only names the others.
+fn specs() -> Vec<String> {
+    let mut all = Vec::new();
+    let crates = docs().join("../crates");
+    for folder in fs::read_dir(&crates).unwrap() {
+        let folder = folder.unwrap();
+        let name = folder.file_name().into_string().unwrap();
+        let Ok(pages) = fs::read_dir(folder.path().join("specs")) else {
+            continue;
+        };
+        for page in pages {
+            let page = page.unwrap().file_name().into_string().unwrap();
+            if page.ends_with(".antt") && page != "Lib.antt" {
+                all.push(format!("../crates/{name}/specs/{page}"));
+            }
+        }
+    }
+    all
+}
+
+#[test]
+fn every_page_of_definitions_is_placed_once() {
+    let page = page();
+    let (_, last) = page
+        .split_once("\n## What a reader has to believe\n")
+        .unwrap();
+    let placed: Vec<&str> = links(last).into_iter().map(|(_, target)| target).collect();
+    let specs = specs();
+    assert!(specs.len() > 80, "{}", specs.len());
+    for page in &specs {
+        let times = placed.iter().filter(|p| *p == page).count();
+        assert_eq!(times, 1, "{page}");
+    }
+    assert_eq!(placed.len(), specs.len());
 }

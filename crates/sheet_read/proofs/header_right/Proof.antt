@@ -1,7 +1,5 @@
-use mathlib.Core.Bool.{_&&_}
 use Prim.Native.Nat.{zero}
 use borrow.Author.Needs.{needs}
-use lib.Dec.{leb}
 use Rattle.sheet.specs.Pack.{sound}
 use mathlib.Core.Bool.{and-true}
 use Rattle.sheet_read.proofs.header_right.Statement.{statement}
@@ -28,8 +26,7 @@ between-requires-6 c κs = search needs
 returns : tie.Need-returns
 unfolding sound
 returns c =
-    let v = c .before .before .before .before .before .before .args .h .zero in
-    cc (and-true (leb 0 v && leb v 0))
+    rw (c .between6 .ensures, c .before .between5 .ensures, c .before .before .between4 .ensures, c .before .before .before .between3 .ensures, c .before .before .before .before .between2 .ensures, c .before .before .before .before .before .between .ensures, and-true)
 
 pub header-right-spec : {M : Type 1} → statement M
 header-right-spec =

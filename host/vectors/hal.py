@@ -1,7 +1,7 @@
 #!/usr/bin/env python3
-"""Points for the added routines, with their true values from mpmath: crates/hal_vectors/data/points.bin.
+"""Points for the added routines, with their true values from mpmath: crates/run_hal/data/points.bin.
 
-    python3 host/vectors/hal.py crates/hal_vectors/data/points.bin      (Python 3.9 or later, mpmath 1.3; under a minute)
+    python3 host/vectors/hal.py crates/run_hal/data/points.bin      (Python 3.9 or later, mpmath 1.3; under a minute)
 
 A record is five words of 32 bits, most significant byte first: what is asked, x, y, and the value as the two halves of an f64's bits.
 What is asked: 1 exp2, 2 exp, 3 sine and 4 cosine of degrees, 5 angle in degrees, 6 magnitude, each of x or (x, y) given by their f32 bits;

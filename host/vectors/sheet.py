@@ -1,7 +1,7 @@
 #!/usr/bin/env python3
-"""Makes the cases that crates/sheet_vectors replays, from rules S1 to S10 alone: nothing of the proved code is read or run.
+"""Makes the cases that crates/run_sheet replays, from rules S1 to S10 alone: nothing of the proved code is read or run.
 
-    python3 host/vectors/sheet.py crates/sheet_vectors/data/cases.bin
+    python3 host/vectors/sheet.py crates/run_sheet/data/cases.bin
 
 A case is a head of 36 bytes, most significant byte first: kind (1 writer, 2 reader), number, room, elements in, elements out (16 bits each), count (32 bits),
 width, height, layers (64 bits each); then the input and the expected output, as many elements as the head says. The writer's input and the reader's output are

@@ -11,8 +11,8 @@ use mir.Val.{SFits, toZ, ofZ}
 use mir.ValLaws.{toZ-ofZ}
 use Rattle.ieee.specs.F32.{bitsOf}
 use Rattle.orient.specs.declared.OrientedKeypoint.{OrientedKeypoint}
-use Rattle.inputs.specs.Inputs.{inputsOf}
-use Rattle.inputs.specs.declared.Inputs.{Inputs}
+use Rattle.descriptor_inputs.specs.Inputs.{inputsOf}
+use Rattle.descriptor_inputs.specs.declared.Inputs.{Inputs}
 use Rattle.bargeclover.specs.Inputs.{inputWords, wordsOut, inputsNumber, inputsLeft}
 
 -- four stores fill a list of four

@@ -6,7 +6,7 @@ use lib.Dec.{eqb}
 use lib.ListN.{length}
 use Rattle.ieee.specs.F32.{bitsOf}
 use Rattle.params.specs.Answers.{onFault}
-use Rattle.inputs.specs.declared.Inputs.{Inputs}
+use Rattle.descriptor_inputs.specs.declared.Inputs.{Inputs}
 
 -- the inputs go out as so many words: x, y, scale and angle by their bits
 abbrev pub inputWords : ℕ

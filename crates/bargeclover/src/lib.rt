@@ -9,7 +9,7 @@ ghost use Rattle.params.specs.Answers.{numberOf, countOf};
 ghost use Rattle.params.specs.Threshold.{thresholdAnswer, thresholdNumber, thresholdValue};
 ghost use Rattle.detect.specs.Entry.{extremaAnswer, extremaOut};
 ghost use Rattle.orient.specs.Entry.{orientAnswer, orientOut};
-ghost use Rattle.inputs.specs.Inputs.{inputsOf};
+ghost use Rattle.descriptor_inputs.specs.Inputs.{inputsOf};
 ghost use Rattle.descriptor.specs.Entry.{numberOf as describedNumber, countOf as describedCount, usedOf, describedOf, describedOut};
 ghost use Rattle.sheet.specs.Layout.{edition1};
 ghost use Rattle.sheet.specs.Writes.{frameOf, writeAnswer, writeOut};
@@ -23,7 +23,7 @@ ghost use Rattle.hal.specs.Turn.{sinOf, cosOf};
 ghost use Rattle.hal.specs.Angle.{angleOf};
 ghost use Rattle.hal.specs.Magnitude.{magnitudeOf};
 use descriptor::Described;
-use inputs::Inputs;
+use descriptor_inputs::Inputs;
 use params::Answer;
 use params::Settings;
 use params::Threshold;
@@ -252,7 +252,7 @@ pub extern "C" fn bargeclover_descriptor_inputs(
     ensures { λ r. ⌜ r ≡ inputsNumber (inputsOf (orientedIn (now (oriented .entry))) octave) (length (now (out .entry))) ⌝ }
     ensures { λ _. ⌜ now (out .exit) ≡ inputsLeft (inputsOf (orientedIn (now (oriented .entry))) octave) (now (out .entry)) ⌝ }
 {
-    let i = inputs::descriptor_inputs(words::oriented_in(oriented), octave);
+    let i = descriptor_inputs::descriptor_inputs(words::oriented_in(oriented), octave);
     if i.number != 0 {
         return i.number;
     }

@@ -8,11 +8,12 @@ use lib.ListN.{length, getD, take, set, replicate, length-map, List·getD-map}
 use lib.Seq.{take-suc, take-suc-set, take-all}
 use lib.Ieee.{Float, nan}
 use Rattle.ieee.specs.F32.{bitsOf}
-use Rattle.patch.specs.Patch.{nought, samplesOf}
-use Rattle.patch.specs.declared.Turn.{Turn}
-use Rattle.grid.specs.Grid.{gatheredIn, gathered}
-use Rattle.values.specs.Places.{places}
-use Rattle.values.specs.Values.{values, valuesOf}
+use Rattle.ieee.specs.Numbers.{nought}
+use Rattle.descriptor_patch.specs.Patch.{samplesOf}
+use Rattle.descriptor_patch.specs.declared.Turn.{Turn}
+use Rattle.descriptor_grid.specs.Grid.{gatheredIn, gathered}
+use Rattle.descriptor_values.specs.Places.{places}
+use Rattle.descriptor_values.specs.Values.{values, valuesOf}
 use Rattle.descriptor.specs.Place.{turnAt}
 use Rattle.descriptor.specs.Entry.{faultOf, valuesAt, wordsAt, describedOf, describedOut}
 use Rattle.descriptor.specs.declared.Described.the-variants.{Done, Short, Refused}

@@ -10,14 +10,15 @@ use lib.Dec.{eqb}
 use lib.ListN.{length}
 use lib.Ieee.{Float, ofBits}
 use lib.Ieee.Scale.{finite}
+use Rattle.ieee.specs.Numbers.{nought, wholeTurn}
 use Rattle.hal.specs.Turn.{inTurn}
 use Rattle.params.specs.Limits.{maxSide, scaleLow, scaleHigh}
 use Rattle.params.specs.Table.{within, line, firstFault, sideWrong, shapeWrong, lengthWrong, allGood}
 use Rattle.params.proofs.Bools.{or-true, or-neither, in-range}
-use Rattle.patch.specs.Patch.{nought, cellOf, turnOf, readsOf}
-use Rattle.patch.specs.Place.{Sides, Lies}
-use Rattle.patch.specs.declared.Turn.{Turn}
-use Rattle.descriptor.specs.Place.{wholeTurn, onSide, cellAt, spotWrong, turnWrong, turnAt}
+use Rattle.descriptor_patch.specs.Patch.{cellOf, turnOf, readsOf}
+use Rattle.descriptor_patch.specs.Place.{Sides, Lies}
+use Rattle.descriptor_patch.specs.declared.Turn.{Turn}
+use Rattle.descriptor.specs.Place.{onSide, cellAt, spotWrong, turnWrong, turnAt}
 use Rattle.descriptor.specs.Entry.{faultOf}
 use Rattle.descriptor.specs.Accepted.{Aimed, Ready}
 use Rattle.descriptor.proofs.Cells.{side-cell}

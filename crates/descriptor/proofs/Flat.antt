@@ -14,16 +14,17 @@ use lib.IntN.{pos, _-ℤ_}
 use lib.Ieee.{Float, nan, ofBits, neg, le}
 use lib.Ieee.Scale.{finite}
 use Rattle.ieee.specs.F32.{_=ᶠ_}
-use Rattle.ieee.proofs.Monotone.{nil}
-use Rattle.ieee.proofs.Bounds.{bounds-finite}
+use Rattle.ieee.specs.Numbers.{nought}
+use Rattle.ieee_laws.proofs.Monotone.{nil}
+use Rattle.ieee_laws.proofs.Bounds.{bounds-finite}
 use Rattle.lists.specs.Ranges.{joined}
 use Rattle.lists.proofs.Ranges.{joined-more}
 use Rattle.params.specs.Limits.{sampleLimit}
 use Rattle.params.specs.Table.{goodSample, allGood}
-use Rattle.patch.specs.Patch.{nought, pixel, endsOf, inRun, gridAt, first, past, usedAt, sampleAt, fourAt, overCells, samplesOf, readsOf}
-use Rattle.patch.specs.Rules.{Used}
-use Rattle.patch.specs.declared.Turn.{Turn}
-use Rattle.grid_laws.proofs.Parts.{sub-level}
+use Rattle.descriptor_patch.specs.Patch.{pixel, endsOf, inRun, gridAt, first, past, usedAt, sampleAt, fourAt, overCells, samplesOf, readsOf}
+use Rattle.descriptor_patch.specs.Rules.{Used}
+use Rattle.descriptor_patch.specs.declared.Turn.{Turn}
+use Rattle.descriptor_grid_laws.proofs.Parts.{sub-level}
 use Rattle.descriptor.specs.Nothing.{Level}
 use Rattle.descriptor.proofs.Checks.{and-both}
 

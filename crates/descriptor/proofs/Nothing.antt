@@ -7,17 +7,18 @@ use native.Mathlib.Omega.{arith}
 use lib.ListN.{length, replicate}
 use lib.Ieee.{Float, ofBits, toBits}
 use Rattle.ieee.specs.F32.{bitsOf}
+use Rattle.ieee.specs.Numbers.{nought}
 use Rattle.hal.specs.Turn.{inTurn}
-use Rattle.patch.specs.Patch.{nought, first, past, usedAt, sampleAt, overCells, samplesOf, readsOf}
-use Rattle.patch.specs.Rules.{Used}
-use Rattle.patch.proofs.Rules.{fair, patch-rule}
-use Rattle.patch.specs.declared.Turn.{Turn}
-use Rattle.grid.specs.Grid.{gatheredIn, gathered}
-use Rattle.grid_laws.specs.Rules.{Flat, Each, none, more}
-use Rattle.grid_laws.proofs.Eaches.{each-when, each-joined}
-use Rattle.grid_laws.proofs.Rules.{grid-rule}
-use Rattle.values.specs.Values.{values}
-use Rattle.values_laws.proofs.Rules.{value-rule}
+use Rattle.descriptor_patch.specs.Patch.{first, past, usedAt, sampleAt, overCells, samplesOf, readsOf}
+use Rattle.descriptor_patch.specs.Rules.{Used}
+use Rattle.descriptor_patch.proofs.Rules.{fair, patch-rule}
+use Rattle.descriptor_patch.specs.declared.Turn.{Turn}
+use Rattle.descriptor_grid.specs.Grid.{gatheredIn, gathered}
+use Rattle.descriptor_grid_laws.specs.Rules.{Flat, Each, none, more}
+use Rattle.descriptor_grid_laws.proofs.Eaches.{each-when, each-joined}
+use Rattle.descriptor_grid_laws.proofs.Rules.{grid-rule}
+use Rattle.descriptor_values.specs.Values.{values}
+use Rattle.descriptor_values_laws.proofs.Rules.{value-rule}
 use Rattle.descriptor.specs.Place.{turnAt}
 use Rattle.descriptor.specs.Entry.{faultOf, valuesAt, wordsAt, usedOf, describedOf, describedOut}
 use Rattle.descriptor.specs.Accepted.{Ready}

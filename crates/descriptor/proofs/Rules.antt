@@ -8,20 +8,20 @@ use lib.ListN.{getD}
 use lib.Ieee.{Float, nan}
 use Rattle.hal.specs.Turn.{inTurn}
 use Rattle.orient.specs.declared.OrientedKeypoint.{OrientedKeypoint}
-use Rattle.inputs.specs.Inputs.{inputsOf}
-use Rattle.inputs.specs.Rules.{Taken}
-use Rattle.patch.specs.Patch.{samplesOf}
-use Rattle.patch.specs.Rules.{Fair}
-use Rattle.patch.specs.Rules as patch
-use Rattle.patch.proofs.Rules.{patch-rule}
-use Rattle.patch.specs.declared.Sample.{Sample}
-use Rattle.patch.specs.declared.Turn.{Turn}
-use Rattle.grid.specs.Grid.{gathered}
-use Rattle.grid_laws.specs.Rules.{Counts, Each, none, more}
-use Rattle.grid_laws.proofs.Rules.{grid-rule}
-use Rattle.values.specs.Values.{values}
-use Rattle.values_laws.specs.Rules.{Byte}
-use Rattle.values_laws.proofs.Rules.{value-rule}
+use Rattle.descriptor_inputs.specs.Inputs.{inputsOf}
+use Rattle.descriptor_inputs.specs.Rules.{Taken}
+use Rattle.descriptor_patch.specs.Patch.{samplesOf}
+use Rattle.descriptor_patch.specs.Rules.{Fair}
+use Rattle.descriptor_patch.specs.Rules as patch
+use Rattle.descriptor_patch.proofs.Rules.{patch-rule}
+use Rattle.descriptor_patch.specs.declared.Sample.{Sample}
+use Rattle.descriptor_patch.specs.declared.Turn.{Turn}
+use Rattle.descriptor_grid.specs.Grid.{gathered}
+use Rattle.descriptor_grid_laws.specs.Rules.{Counts, Each, none, more}
+use Rattle.descriptor_grid_laws.proofs.Rules.{grid-rule}
+use Rattle.descriptor_values.specs.Values.{values}
+use Rattle.descriptor_values_laws.specs.Rules.{Byte}
+use Rattle.descriptor_values_laws.proofs.Rules.{value-rule}
 use Rattle.descriptor.specs.Place.{spotWrong, turnWrong, turnAt}
 use Rattle.descriptor.specs.Entry.{faultOf, valuesAt}
 use Rattle.descriptor.specs.Accepted.{Ready}

@@ -5,11 +5,12 @@ use mathlib.Core.Bool.{true}
 use mathlib.Core.List.{List}
 use lib.ListN.{length}
 use lib.Ieee.{Float}
+use Rattle.ieee.specs.Numbers.{nought, wholeTurn}
 use Rattle.params.specs.Limits.{scaleLow, scaleHigh}
 use Rattle.params.specs.Table.{within, allGood}
-use Rattle.patch.specs.Patch.{nought, cellOf, readsOf}
-use Rattle.patch.specs.Place.{Sides, Lies}
-use Rattle.descriptor.specs.Place.{wholeTurn, cellAt, turnAt}
+use Rattle.descriptor_patch.specs.Patch.{cellOf, readsOf}
+use Rattle.descriptor_patch.specs.Place.{Sides, Lies}
+use Rattle.descriptor.specs.Place.{cellAt, turnAt}
 
 -- the position, the scale and the angle, up to number 5
 pub record Aimed (w h : ℕ) (x y scale angle : Float) : Type 0 where

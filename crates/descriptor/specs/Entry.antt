@@ -8,9 +8,9 @@ use lib.Ieee.{Float}
 use Rattle.ieee.specs.F32.{bitsOf}
 use Rattle.params.specs.Table.{line, firstFault, shapeWrong, lengthWrong, allGood}
 use Rattle.params.specs.Answers.{onFault}
-use Rattle.patch.specs.Patch.{samplesOf, readsOf}
-use Rattle.grid.specs.Grid.{gathered}
-use Rattle.values.specs.Values.{values, valuesOf}
+use Rattle.descriptor_patch.specs.Patch.{samplesOf, readsOf}
+use Rattle.descriptor_grid.specs.Grid.{gathered}
+use Rattle.descriptor_values.specs.Values.{values, valuesOf}
 use Rattle.descriptor.specs.Place.{spotWrong, turnWrong, turnAt}
 use Rattle.descriptor.specs.declared.Described.{Described}
 use Rattle.descriptor.specs.declared.Described.the-variants.{Done, Short, Refused}

@@ -8,8 +8,8 @@ use mathlib.Core.List.{List, []}
 use lib.ListN.{length, getD, replicate}
 use lib.Ieee.{Float, nan}
 use Rattle.ieee.specs.F32.{_=ᶠ_}
-use Rattle.patch.specs.Patch.{readsOf}
-use Rattle.values.specs.Values.{values}
+use Rattle.descriptor_patch.specs.Patch.{readsOf}
+use Rattle.descriptor_values.specs.Values.{values}
 use Rattle.descriptor.specs.Place.{turnAt}
 use Rattle.descriptor.specs.Entry.{faultOf, usedOf, describedOf, describedOut}
 

@@ -6,14 +6,11 @@ use lib.IntN.{ℤ, pos, negsuc}
 use lib.Ieee.{Float}
 use lib.Ieee.Scale.{finite}
 use Rattle.ieee.specs.F32.{f32}
+use Rattle.ieee.specs.Numbers.{wholeTurn, nought}
 use Rattle.params.specs.Limits.{scaleLow, scaleHigh}
 use Rattle.params.specs.Table.{within}
-use Rattle.patch.specs.Patch.{nought, cellOf, turnOf}
-use Rattle.patch.specs.declared.Turn.{Turn}
-
--- 360
-abbrev pub wholeTurn : Float
-wholeTurn = f32 0x43b4_0000
+use Rattle.descriptor_patch.specs.Patch.{cellOf, turnOf}
+use Rattle.descriptor_patch.specs.declared.Turn.{Turn}
 
 -- a cell of a side of n
 abbrev pub onSide : ℕ → ℤ → Bool

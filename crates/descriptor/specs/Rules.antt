@@ -8,12 +8,12 @@ use lib.ListN.{getD}
 use lib.Ieee.{Float, nan}
 use lib.Ieee.Scale.{finite}
 use Rattle.orient.specs.declared.OrientedKeypoint.{OrientedKeypoint}
-use Rattle.inputs.specs.Inputs.{inputsOf}
-use Rattle.inputs.specs.Rules.{Taken}
-use Rattle.inputs.specs.declared.Inputs.{Inputs}
-use Rattle.patch.specs.Patch.{cellOf}
-use Rattle.values.specs.Values.{values}
-use Rattle.values_laws.specs.Rules.{Byte}
+use Rattle.descriptor_inputs.specs.Inputs.{inputsOf}
+use Rattle.descriptor_inputs.specs.Rules.{Taken}
+use Rattle.descriptor_inputs.specs.declared.Inputs.{Inputs}
+use Rattle.descriptor_patch.specs.Patch.{cellOf}
+use Rattle.descriptor_values.specs.Values.{values}
+use Rattle.descriptor_values_laws.specs.Rules.{Byte}
 use Rattle.descriptor.specs.Place.{onSide, spotWrong, turnWrong}
 use Rattle.descriptor.specs.Entry.{faultOf, valuesAt}
 

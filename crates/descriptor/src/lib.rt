@@ -1,14 +1,14 @@
 // The descriptor: 128 values from the gradients of a turned patch, and how many samples they were made of.
 
-use patch::Turn;
+use descriptor_patch::Turn;
 ghost use mathlib.Core.Path.{_≡_};
 ghost use mathlib.Core.List.{map};
 ghost use Prim.Native.Nat.{_+_, _*_, _<_, _≤_};
 ghost use lib.ListN.{length};
 ghost use Rattle.ieee.specs.F32.{bitsOf};
-ghost use Rattle.patch.specs.Patch.{samplesOf};
-ghost use Rattle.patch.specs.Place.{Lies};
-ghost use Rattle.values.specs.Values.{values as wanted};
+ghost use Rattle.descriptor_patch.specs.Patch.{samplesOf};
+ghost use Rattle.descriptor_patch.specs.Place.{Lies};
+ghost use Rattle.descriptor_values.specs.Values.{values as wanted};
 ghost use Rattle.descriptor.specs.Place.{onSide, cellAt, spotWrong, turnWrong, turnAt};
 ghost use Rattle.descriptor.specs.Entry.{faultOf, wordsAt, describedOf, describedOut};
 ghost use Rattle.descriptor.specs.Accepted.{Aimed, Ready};
@@ -61,7 +61,7 @@ fn turn_at(w: usize, h: usize, x: f32, y: f32, scale: f32, angle: f32) -> Turn
 {
     let px = cell_at(ieee::round_to_i32(x));
     let py = cell_at(ieee::round_to_i32(y));
-    patch::turn_of(w, h, px, py, scale, angle)
+    descriptor_patch::turn_of(w, h, px, py, scale, angle)
 }
 
 // The first fault in the order of the table, 0 for none; room is tested later.
@@ -81,7 +81,7 @@ fn fault_of(img: &[f32], w: usize, h: usize, x: f32, y: f32, scale: f32, angle: 
     if turn_wrong(scale, angle) {
         return 5;
     }
-    if patch::patch_good(img, w, h, turn_at(w, h, x, y, scale, angle)) {
+    if descriptor_patch::patch_good(img, w, h, turn_at(w, h, x, y, scale, angle)) {
         0
     } else {
         6
@@ -119,8 +119,8 @@ fn fill(
 {
     let mut hist = [0.0; 360];
     let t = turn_at(w, h, x, y, scale, angle);
-    let used = gather::gather(img, w, h, t, angle, &mut hist);
-    let v = values::values(&hist);
+    let used = descriptor_gather::gather(img, w, h, t, angle, &mut hist);
+    let v = descriptor_values::values(&hist);
     put(&v, out);
     used
 }

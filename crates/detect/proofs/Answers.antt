@@ -12,12 +12,12 @@ use Rattle.params.specs.Answers.{onFault, answerOf, landed}
 use Rattle.params.specs.declared.Settings.{Settings}
 use Rattle.params.specs.declared.Answer.{Answer}
 use Rattle.params.specs.declared.Answer.the-variants.{Done, Short, Refused}
-use Rattle.refine.specs.declared.RawKeypoint.{RawKeypoint}
-use Rattle.extrema.specs.Neighbours.{tied}
-use Rattle.extrema.specs.Scan.{keypoints, words}
+use Rattle.detect_refine.specs.declared.RawKeypoint.{RawKeypoint}
+use Rattle.detect_extrema.specs.Neighbours.{tied}
+use Rattle.detect_extrema.specs.Scan.{keypoints, words}
 use Rattle.detect.specs.Entry.{faultOf, extremaAnswer, extremaOut}
 use Rattle.detect.specs.Places.{roomAnswer}
-use Rattle.rows.proofs.Words.{length-words, words-none, sets-pasted}
+use Rattle.detect_rows.proofs.Words.{length-words, words-none, sets-pasted}
 
 module _ (ks : List RawKeypoint) (out : List ℕ) where
   -- the answer by the room, and the words left by it

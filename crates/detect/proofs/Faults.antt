@@ -15,7 +15,7 @@ use Rattle.params.specs.declared.Settings.{Settings}
 use Rattle.params.proofs.Bools.{or-neither, in-range}
 use Rattle.params.proofs.Accepted.{accepted}
 use Rattle.detect.specs.Entry.{faultOf}
-use Rattle.extrema.specs.Places.{Stack}
+use Rattle.detect_extrema.specs.Places.{Stack}
 
 and-both : (a b : Bool) → (a && b) ≡ true → (a ≡ true) × (b ≡ true)
 and-both true b e = (refl, e)

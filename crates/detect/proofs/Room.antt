@@ -12,12 +12,12 @@ use Rattle.lists.specs.Ranges.{joined}
 use Rattle.params.specs.Limits.{border, maxSide}
 use Rattle.params.specs.Threshold.{thresholdOf}
 use Rattle.params.specs.declared.Settings.{Settings}
-use Rattle.extrema.specs.Neighbours.{tied}
-use Rattle.extrema.specs.Scan.{rowOf, keypoints}
-use Rattle.extrema.specs.Hints.{leftOf}
+use Rattle.detect_extrema.specs.Neighbours.{tied}
+use Rattle.detect_extrema.specs.Scan.{rowOf, keypoints}
+use Rattle.detect_extrema.specs.Hints.{leftOf}
 use Rattle.detect.specs.Places.{lacking}
-use Rattle.rows.proofs.Words.{counted-on}
-use Rattle.extrema.proofs.Hints.{rows-left}
+use Rattle.detect_rows.proofs.Words.{counted-on}
+use Rattle.detect_extrema.proofs.Hints.{rows-left}
 
 module _ (d : List Float) (w h : ℕ) (s : Settings) (octave p row held : ℕ) (a : border ≤ row) (b : row ≤ h - border) (n : held ≡ length (joined border row (λ r. rowOf tied d w h s octave p r))) where
   pub total : (x : ℕ) → x ≡ length (joined row (h - border) (λ r. rowOf tied d w h s octave p r)) → held + x ≡ length (keypoints tied d w h s octave p)

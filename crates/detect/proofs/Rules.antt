@@ -15,19 +15,19 @@ use Rattle.lists.specs.Ranges.{joined}
 use Rattle.params.specs.Limits.{border, maxMoves}
 use Rattle.params.specs.Threshold.{thresholdOf}
 use Rattle.params.specs.declared.Settings.{Settings}
-use Rattle.refine.specs.Keypoint.{Place, refineOf}
-use Rattle.refine.specs.Sound.{Sound}
-use Rattle.refine.specs.declared.RawKeypoint.{RawKeypoint}
-use Rattle.refine.specs.declared.Refined.{Refined}
-use Rattle.refine.specs.declared.Refined.the-variants.{Dropped, At}
-use Rattle.refine.proofs.Settled.{few-moves}
-use Rattle.refine.proofs.Sounds.{refine-sound}
-use Rattle.extrema.specs.Neighbours.{tied, candidate}
-use Rattle.extrema.specs.Scan.{kept, found, rowOf, keypoints}
+use Rattle.detect_refine.specs.Keypoint.{Place, refineOf}
+use Rattle.detect_refine.specs.Sound.{Sound}
+use Rattle.detect_refine.specs.declared.RawKeypoint.{RawKeypoint}
+use Rattle.detect_refine.specs.declared.Refined.{Refined}
+use Rattle.detect_refine.specs.declared.Refined.the-variants.{Dropped, At}
+use Rattle.detect_refine.proofs.Settled.{few-moves}
+use Rattle.detect_refine.proofs.Sounds.{refine-sound}
+use Rattle.detect_extrema.specs.Neighbours.{tied, candidate}
+use Rattle.detect_extrema.specs.Scan.{kept, found, rowOf, keypoints}
 use Rattle.detect.specs.Entry.{faultOf, listOf}
 use Rattle.detect.specs.Rules.{DetectRule}
 use Rattle.detect.proofs.Faults.{Right, right}
-use Rattle.extrema.proofs.Rows.{rows-bound}
+use Rattle.detect_extrema.proofs.Rows.{rows-bound}
 
 -- ---- how many
 few : (d : List Float) (w h layer octave : ℕ) (s : Settings) → length (listOf d w h layer octave s) ≤ (w - 2 * border) * (h - 2 * border)

@@ -8,9 +8,10 @@ use native.Mathlib.Omega.{arith}
 use lib.Dec.{leb}
 use lib.ListN.{length, getD, drop, length-map, List·getD-map}
 use lib.Ieee.{Float, nan, inf, fin, binary32, neg, le}
-use Rattle.ieee.specs.Sign.{turned, of-nan, of-inf, of-fin, Opp}
-use Rattle.ieee.proofs.Turned.{neg-opp, le-turned}
-use Rattle.ieee.proofs.TurnedOps.{back-same}
+use Rattle.ieee.specs.Numbers.{nought}
+use Rattle.ieee_laws.specs.Sign.{turned, of-nan, of-inf, of-fin, Opp}
+use Rattle.ieee_laws.proofs.Turned.{neg-opp, le-turned}
+use Rattle.ieee_laws.proofs.TurnedOps.{back-same}
 use Rattle.lists.specs.Ranges.{every}
 use Rattle.lists.specs.Pasted.{pasted}
 use Rattle.params.specs.Limits.{sampleLimit}
@@ -21,13 +22,13 @@ use Rattle.params.specs.declared.Settings.{Settings}
 use Rattle.params.specs.declared.Answer.the-variants.{Done, Short}
 use Rattle.params.proofs.Accepted.{threshold-bounds}
 use Rattle.picture.specs.Stack.{sample}
-use Rattle.refine.specs.declared.RawKeypoint.{RawKeypoint}
-use Rattle.extrema.specs.Neighbours.{tied, nought}
-use Rattle.extrema.specs.Scan.{keypoints, keypointWords, words}
+use Rattle.detect_refine.specs.declared.RawKeypoint.{RawKeypoint}
+use Rattle.detect_extrema.specs.Neighbours.{tied}
+use Rattle.detect_extrema.specs.Scan.{keypoints, keypointWords, words}
 use Rattle.detect.specs.Entry.{faultOf, listOf, extremaAnswer, extremaOut}
 use Rattle.detect.proofs.Faults.{right}
-use Rattle.extrema.specs.SameList.{SameList, none, more}
-use Rattle.extrema.proofs.SignLaw.{keypoints-same, same-length}
+use Rattle.detect_extrema.specs.SameList.{SameList, none, more}
+use Rattle.detect_extrema.proofs.SignLaw.{keypoints-same, same-length}
 use Rattle.detect.specs.SignLaw.{negative, NegativesAgree, SameWords, rest, keypoint, RunsAgree}
 
 -- ---- the negative of a stack is accepted where the stack is

@@ -8,9 +8,9 @@ use Rattle.params.specs.Table.{line, firstFault, shapeWrong, layersWrong, lengt
 use Rattle.params.specs.Answers.{answerOf, landed}
 use Rattle.params.specs.declared.Settings.{Settings}
 use Rattle.params.specs.declared.Answer.{Answer}
-use Rattle.refine.specs.declared.RawKeypoint.{RawKeypoint}
-use Rattle.extrema.specs.Neighbours.{tied}
-use Rattle.extrema.specs.Scan.{keypoints, keypointWords, words}
+use Rattle.detect_refine.specs.declared.RawKeypoint.{RawKeypoint}
+use Rattle.detect_extrema.specs.Neighbours.{tied}
+use Rattle.detect_extrema.specs.Scan.{keypoints, keypointWords, words}
 
 -- the checks of rule A3, in their order; 5 has no argument here
 unfoldable pub faultOf : List Float → ℕ → ℕ → ℕ → ℕ → ℕ → Settings → ℕ

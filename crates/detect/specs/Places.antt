@@ -8,8 +8,8 @@ use lib.ListN.{length}
 use Rattle.lists.specs.Ranges.{joined}
 use Rattle.params.specs.Answers.{answerOf}
 use Rattle.params.specs.declared.Answer.{Answer}
-use Rattle.refine.specs.declared.RawKeypoint.{RawKeypoint}
-use Rattle.extrema.specs.Scan.{keypointWords}
+use Rattle.detect_refine.specs.declared.RawKeypoint.{RawKeypoint}
+use Rattle.detect_extrema.specs.Scan.{keypointWords}
 use Rattle.detect.specs.declared.Scanned.{Scanned}
 use Rattle.params.specs.Limits.{border, maxSide}
 

@@ -6,8 +6,8 @@ use lib.ListN.{length, getD}
 use lib.Ieee.{Float}
 use Rattle.params.specs.Limits.{border, maxMoves}
 use Rattle.params.specs.declared.Settings.{Settings}
-use Rattle.refine.specs.Sound.{Sound}
-use Rattle.refine.specs.declared.RawKeypoint.{RawKeypoint}
+use Rattle.detect_refine.specs.Sound.{Sound}
+use Rattle.detect_refine.specs.declared.RawKeypoint.{RawKeypoint}
 use Rattle.detect.specs.Entry.{faultOf, listOf}
 
 pub record DetectRule : Type 0 where

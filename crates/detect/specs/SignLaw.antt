@@ -6,9 +6,9 @@ use mathlib.Core.List.{List, _∷_, map}
 use lib.ListN.{length}
 use lib.Ieee.{Float, neg}
 use Rattle.ieee.specs.F32.{f32}
-use Rattle.ieee.specs.Sign.{Same}
+use Rattle.ieee_laws.specs.Sign.{Same}
 use Rattle.params.specs.declared.Settings.{Settings}
-use Rattle.extrema.specs.SameList.{SameList}
+use Rattle.detect_extrema.specs.SameList.{SameList}
 use Rattle.detect.specs.Entry.{faultOf, listOf, extremaAnswer, extremaOut}
 
 -- the stack with every sample negated

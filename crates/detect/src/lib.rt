@@ -10,10 +10,10 @@ ghost use Rattle.params.specs.Limits.{border};
 ghost use Rattle.params.specs.Table.{contrastWrong};
 ghost use Rattle.params.specs.Answers.{landed};
 ghost use Rattle.params.specs.Threshold.{thresholdOf};
-ghost use Rattle.extrema.specs.Neighbours.{tied};
-ghost use Rattle.extrema.specs.Scan.{rowOf, keypoints, words};
-ghost use Rattle.extrema.specs.Places.{Stack};
-ghost use Rattle.extrema.specs.Hints.{leftOf};
+ghost use Rattle.detect_extrema.specs.Neighbours.{tied};
+ghost use Rattle.detect_extrema.specs.Scan.{rowOf, keypoints, words};
+ghost use Rattle.detect_extrema.specs.Places.{Stack};
+ghost use Rattle.detect_extrema.specs.Hints.{leftOf};
 ghost use Rattle.detect.specs.Entry.{faultOf, extremaAnswer, extremaOut};
 ghost use Rattle.detect.specs.Places.{Wide, Rows, maxHeld, scanned, ScannedOf, lacking, roomAnswer};
 use params::Answer;
@@ -51,7 +51,7 @@ fn scan(
 {
     let mut held: usize = 0;
     for r in 5..h - 5 {
-        let k = rows::row_words(dog, w, h, n, s, octave, threshold, p, r, hold, 10 * held);
+        let k = detect_rows::row_words(dog, w, h, n, s, octave, threshold, p, r, hold, 10 * held);
         if held + k > HELD {
             return Scanned { held: held, row: r };
         }
@@ -87,7 +87,7 @@ fn fill(
 {
     let mut k: usize = 0;
     for r in row..h - 5 {
-        k += rows::row_words(dog, w, h, n, s, octave, threshold, p, r, out, from + 10 * k);
+        k += detect_rows::row_words(dog, w, h, n, s, octave, threshold, p, r, out, from + 10 * k);
     }
     k
 }
@@ -99,7 +99,7 @@ fn most(dog: &[f32], w: usize, h: usize, n: usize, threshold: f32, p: usize, row
 {
     let mut k: usize = 0;
     for r in row..h - 5 {
-        k += extrema::row_most(dog, w, h, n, threshold, p, r);
+        k += detect_extrema::row_most(dog, w, h, n, threshold, p, r);
     }
     k
 }
@@ -174,7 +174,7 @@ fn search(
     if lacking > 0 {
         return Answer::Short(lacking);
     }
-    rows::copy(&hold, 10 * t.held, out, 0);
+    detect_rows::copy(&hold, 10 * t.held, out, 0);
     let k = fill(
         dog,
         w,

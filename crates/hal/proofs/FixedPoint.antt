@@ -14,7 +14,7 @@ use lib.Ieee.Digits.{size-lt, size-reaches, size-le}
 use lib.Ieee.Nearest.{div-same}
 use lib.Ieee.Back.{round-whole}
 use lib.Ieee.Positive.{num, den}
-use Rattle.ieee.proofs.Turned.{round-zero}
+use Rattle.ieee.proofs.SignedParts.{round-zero}
 use Rattle.hal.specs.Numbers.{nought, two, minus32}
 use Rattle.hal.specs.Exp.{inFixed, fixedOf, inUp, upStart, upRate, inDown, downStart, downRate}
 use Rattle.hal.proofs.Range.{Within, Exact, round-within, mul-within, add-within, sub-within, or-split, above-of, below-of, ge-of, whole-le, whole-ge, lt-of, wider, cut-ge}

@@ -16,7 +16,7 @@ use lib.Ieee.Back.{round-whole}
 use Rattle.ieee.specs.Root.{rootIn, root, halves, sqrt}
 use Rattle.ieee.specs.Fused.{fma}
 use Rattle.ieee.specs.F32.{_⊗_, fused, rootOf, absOf}
-use Rattle.ieee.proofs.Turned.{round-zero}
+use Rattle.ieee.proofs.SignedParts.{round-zero}
 use Rattle.hal.specs.Numbers.{nought, furthest}
 use Rattle.hal.specs.Angle.{small, inAngle}
 use Rattle.hal.specs.Magnitude.{magnitudeOf}

@@ -13,10 +13,10 @@ use lib.Ieee.Exact.{HasValue}
 use lib.Ieee.Fits.{cond-fits, nan-fits, neg-fits, mul-fits, sub-fits, up-pos}
 use lib.Ieee.Positive.{positive, between}
 use Rattle.ieee.specs.F32.{f32, _⊗_, fused, absOf}
-use Rattle.ieee.specs.Sign.{Same}
+use Rattle.ieee_laws.specs.Sign.{Same}
 use Rattle.ieee.proofs.Held.{fma-fits, sqrt-fits}
-use Rattle.ieee.proofs.Turned.{le-turned, add-turned, mul-turned}
-use Rattle.ieee.proofs.TurnedOps.{same, toUnsigned-same}
+use Rattle.ieee_laws.proofs.Turned.{le-turned, add-turned, mul-turned}
+use Rattle.ieee_laws.proofs.TurnedOps.{same, toUnsigned-same}
 use Rattle.hal.specs.Numbers.{nought, one, minusOne, two, four, minus32, eighth, quarter, half, threeQuarters, full, last, furthest}
 use Rattle.hal.specs.Powers.{powers, entryOf}
 use Rattle.hal.specs.Exp.{scaledOf, powerOf, fixedOf, inUp, upStart, upRate, upField, exp2Of, inDown, downStart, downRate, downField, expOf}

@@ -12,9 +12,7 @@ use lib.Ieee.{Float, fin, Format, unlike, round, sum}
 use lib.Ieee.Scale.{round-same}
 use Rattle.ieee.specs.Rounding.{RoundTiesToEven}
 use Rattle.ieee.specs.Operations.{signedOf, RoundedSum}
-use Rattle.ieee.proofs.Turned.{round-zero}
-use Rattle.ieee.proofs.Order.{plus, minus}
-use Rattle.ieee.proofs.Monotone.{summed}
+use Rattle.ieee.proofs.SignedParts.{round-zero, plus, minus, summed}
 use Rattle.ieee.proofs.Rounded.{round-ties}
 
 -- ---- whole numbers with a sign, by their parts

@@ -2,8 +2,8 @@
 -- pages beside this one, at binary32. Definitions only.
 use Prim.Native.Nat.{ℕ}
 use mathlib.Core.Bool.{Bool, false}
-use lib.IntN.{ℤ}
-use lib.Ieee.{Float, nan, inf, fin, binary32, binary64, ofBits, toBits, toSigned, add, sub, mul, div, lt, le, eq}
+use lib.IntN.{ℤ, pos}
+use lib.Ieee.{Float, nan, inf, fin, binary32, binary64, ofBits, toBits, toSigned, ofInt, add, sub, mul, div, lt, le, eq}
 use Rattle.ieee.specs.Fused.{fma, convert}
 use Rattle.ieee.specs.Root.{sqrt}
 use Rattle.ieee.specs.Whole.{floor, roundEven}
@@ -37,6 +37,13 @@ x =ᶠ y = eq x y
 -- the float of a bit pattern: how constants are named
 abbrev pub f32 : ℕ → Float
 f32 b = ofBits binary32 b
+
+-- a whole number as an f32, rounded once
+abbrev pub float : ℕ → Float
+float n = ofInt binary32 (pos n)
+
+abbrev pub floatZ : ℤ → Float
+floatZ z = ofInt binary32 z
 
 -- x * y + z, rounded once
 abbrev pub fused : Float → Float → Float → Float

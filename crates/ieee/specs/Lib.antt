@@ -3,6 +3,6 @@ pub mod Parts
 pub mod Root
 pub mod Whole
 pub mod F32
-pub mod Sign
+pub mod Numbers
 pub mod Rounding
 pub mod Operations

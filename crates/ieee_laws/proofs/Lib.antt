@@ -1,4 +1,11 @@
--- The laws of rounding, each by itself.
+-- What holds of the operations, for every operand: sign, order, bounds; and that the pages of rounding leave no choice.
+pub mod Turned
+pub mod TurnedOps
+pub mod Order
+pub mod Monotone
+pub mod Bounds
+pub mod Floors
+pub mod Paths
 pub mod Unique
 pub mod Laws
 pub mod Kit

@@ -1,3 +1,4 @@
+pub mod Sign
 pub mod Laws
 pub mod Kit
 pub mod Examples

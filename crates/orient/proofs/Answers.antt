@@ -10,9 +10,9 @@ use Rattle.lists.specs.Pasted.{pasted}
 use Rattle.params.specs.Answers.{answerOf, landed, onFault}
 use Rattle.params.specs.declared.Answer.{Answer}
 use Rattle.params.specs.declared.Answer.the-variants.{Done, Short, Refused}
-use Rattle.refine.specs.declared.RawKeypoint.{RawKeypoint}
-use Rattle.tally.specs.Window.{cellsRead}
-use Rattle.peaks.specs.Found.{Holds}
+use Rattle.detect_refine.specs.declared.RawKeypoint.{RawKeypoint}
+use Rattle.orient_tally.specs.Window.{cellsRead}
+use Rattle.orient_peaks.specs.Found.{Holds}
 use Rattle.orient.specs.Entry.{windowAt, anglesAt, orientFault, orientedOf, orientedList, orientedWords, words, answeredWith, givenBack, orientAnswer, orientOut}
 use Rattle.orient.specs.Given.{directionsOf, roomFor, givenWith, leftWith}
 use Rattle.orient.specs.declared.Directions.{Directions}

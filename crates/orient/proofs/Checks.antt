@@ -12,19 +12,19 @@ use lib.Ieee.{Float}
 use Rattle.params.specs.Limits.{maxSide, maxOctave, scaleLow, scaleHigh}
 use Rattle.params.specs.Table.{within, firstFault, sideWrong, shapeWrong, lengthWrong}
 use Rattle.params.proofs.Bools.{or-true, or-neither, in-range}
-use Rattle.refine.specs.declared.RawKeypoint.{RawKeypoint}
-use Rattle.tally.specs.Window.{cellsRead}
-use Rattle.tally.specs.Sample.{windowGood}
-use Rattle.tally.specs.Tally.{gatheredOf}
-use Rattle.tally.specs.declared.Gathered.{Gathered}
-use Rattle.tally.specs.declared.Window.{Window}
-use Rattle.peaks.specs.Peaks.{anglesOf}
-use Rattle.peaks.specs.Found.{heldOf, Holds}
-use Rattle.peaks.proofs.Rules.{peak-rule}
-use Rattle.peaks.specs.declared.Angles.{Angles}
-use Rattle.tally.specs.Place.{Fits}
-use Rattle.tally.proofs.Values.{and-both}
-use Rattle.tally.proofs.Spans.{window-fits}
+use Rattle.detect_refine.specs.declared.RawKeypoint.{RawKeypoint}
+use Rattle.orient_tally.specs.Window.{cellsRead}
+use Rattle.orient_tally.specs.Sample.{windowGood}
+use Rattle.orient_tally.specs.Tally.{gatheredOf}
+use Rattle.orient_tally.specs.declared.Gathered.{Gathered}
+use Rattle.orient_tally.specs.declared.Window.{Window}
+use Rattle.orient_peaks.specs.Peaks.{anglesOf}
+use Rattle.orient_peaks.specs.Found.{heldOf, Holds}
+use Rattle.orient_peaks.proofs.Rules.{peak-rule}
+use Rattle.orient_peaks.specs.declared.Angles.{Angles}
+use Rattle.orient_tally.specs.Place.{Fits}
+use Rattle.orient_tally.proofs.Values.{and-both}
+use Rattle.orient_tally.proofs.Spans.{window-fits}
 use Rattle.orient.specs.Keypoint.{octaveIn, cellWrong, octaveWrong, floatsWrong, scaleOf, scaleWrong, keypointWrong}
 use Rattle.orient.specs.Entry.{windowAt, anglesAt, orientFault}
 use Rattle.orient.specs.Given.{directionsOf}

@@ -9,23 +9,22 @@ use lib.Dec.{leb, ltb}
 use lib.ListN.{length, getD, List·getD-map}
 use lib.Ieee.{Float, nan, binary32, ofBits, ofInt, mul, div, lt, le}
 use lib.Ieee.Scale.{finite}
-use Rattle.ieee.specs.F32.{_⊗_, _⊘_}
-use Rattle.ieee.proofs.Order.{le-trans-float}
-use Rattle.ieee.proofs.Monotone.{nil}
-use Rattle.ieee.proofs.Bounds.{Bounds, mul-bounds-by, div-bounds-by}
+use Rattle.ieee.specs.F32.{_⊗_, _⊘_, float}
+use Rattle.ieee.specs.Numbers.{half}
+use Rattle.ieee_laws.proofs.Order.{le-trans-float}
+use Rattle.ieee_laws.proofs.Monotone.{nil}
+use Rattle.ieee_laws.proofs.Bounds.{Bounds, mul-bounds-by, div-bounds-by}
 use Rattle.lists.specs.Ranges.{every}
 use Rattle.params.specs.Limits.{border, maxLayers, maxOctave, scaleLow, scaleHigh}
 use Rattle.params.specs.Table.{within}
 use Rattle.params.specs.declared.Settings.{Settings}
-use Rattle.refine.specs.Moves.{half}
-use Rattle.refine.specs.Keypoint.{float}
-use Rattle.refine.specs.Sound.{Sound}
-use Rattle.refine.specs.declared.RawKeypoint.{RawKeypoint}
-use Rattle.tally.proofs.Cells.{read-is}
-use Rattle.tally.proofs.Values.{and-both}
-use Rattle.tally.proofs.Every.{every-at}
-use Rattle.peaks.specs.Rules.{maxPeaks}
-use Rattle.peaks.proofs.Rules.{peak-rule}
+use Rattle.detect_refine.specs.Sound.{Sound}
+use Rattle.detect_refine.specs.declared.RawKeypoint.{RawKeypoint}
+use Rattle.orient_tally.proofs.Cells.{read-is}
+use Rattle.orient_tally.proofs.Values.{and-both}
+use Rattle.orient_tally.proofs.Every.{every-at}
+use Rattle.orient_peaks.specs.Rules.{maxPeaks}
+use Rattle.orient_peaks.proofs.Rules.{peak-rule}
 use Rattle.orient.specs.Keypoint.{octaveIn, layerIn, cellWrong, octaveWrong, floatsWrong, scaleOf, scaleWrong, keypointWrong}
 use Rattle.orient.specs.Entry.{windowAt, anglesAt, orientedOf, orientedList}
 use Rattle.orient.specs.Rules.{Passed, OrientRule}

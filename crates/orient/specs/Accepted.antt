@@ -4,7 +4,7 @@ use mathlib.Core.Path.{_≡_}
 use mathlib.Core.Bool.{true}
 use Rattle.params.specs.Limits.{maxSide, maxOctave, scaleLow, scaleHigh}
 use Rattle.params.specs.Table.{within}
-use Rattle.refine.specs.declared.RawKeypoint.{RawKeypoint}
+use Rattle.detect_refine.specs.declared.RawKeypoint.{RawKeypoint}
 use Rattle.orient.specs.Keypoint.{octaveIn, scaleOf}
 
 -- the keypoint lies in a picture of that size, and its scale in its range

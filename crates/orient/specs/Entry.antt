@@ -9,12 +9,12 @@ use Rattle.params.specs.Table.{line, firstFault, shapeWrong, lengthWrong}
 use Rattle.params.specs.Answers.{answerOf, landed}
 use Rattle.params.specs.declared.Answer.{Answer}
 use Rattle.params.specs.declared.Answer.the-variants.{Done, Short, Refused}
-use Rattle.refine.specs.declared.RawKeypoint.{RawKeypoint}
-use Rattle.tally.specs.Window.{windowOf, cellsRead}
-use Rattle.tally.specs.Sample.{windowGood}
-use Rattle.tally.specs.Tally.{tallyOf}
-use Rattle.tally.specs.declared.Window.{Window}
-use Rattle.peaks.specs.Peaks.{anglesOf}
+use Rattle.detect_refine.specs.declared.RawKeypoint.{RawKeypoint}
+use Rattle.orient_tally.specs.Window.{windowOf, cellsRead}
+use Rattle.orient_tally.specs.Sample.{windowGood}
+use Rattle.orient_tally.specs.Tally.{tallyOf}
+use Rattle.orient_tally.specs.declared.Window.{Window}
+use Rattle.orient_peaks.specs.Peaks.{anglesOf}
 use Rattle.orient.specs.Keypoint.{keypointWrong, scaleOf}
 use Rattle.orient.specs.declared.OrientedKeypoint.{OrientedKeypoint}
 use Rattle.orient.specs.declared.OrientAnswer.{OrientAnswer}

@@ -5,9 +5,9 @@ use lib.ListN.{length, take}
 use lib.Ieee.{Float}
 use Rattle.params.specs.Answers.{answerOf, landed}
 use Rattle.params.specs.declared.Answer.{Answer}
-use Rattle.refine.specs.declared.RawKeypoint.{RawKeypoint}
-use Rattle.tally.specs.Window.{cellsRead}
-use Rattle.peaks.specs.Found.{heldOf}
+use Rattle.detect_refine.specs.declared.RawKeypoint.{RawKeypoint}
+use Rattle.orient_tally.specs.Window.{cellsRead}
+use Rattle.orient_peaks.specs.Found.{heldOf}
 use Rattle.orient.specs.Entry.{windowAt, anglesAt, orientedOf, orientedWords, words, answeredWith}
 use Rattle.orient.specs.declared.Directions.{Directions}
 use Rattle.orient.specs.declared.OrientAnswer.{OrientAnswer}

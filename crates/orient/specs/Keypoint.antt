@@ -4,12 +4,11 @@ use mathlib.Core.Bool.{Bool, _&&_, _||_, not}
 use lib.Dec.{leb, ltb}
 use lib.Ieee.{Float}
 use lib.Ieee.Scale.{finite}
-use Rattle.ieee.specs.F32.{_⊗_, _⊘_}
+use Rattle.ieee.specs.F32.{_⊗_, _⊘_, float}
+use Rattle.ieee.specs.Numbers.{half}
 use Rattle.params.specs.Limits.{maxOctave, maxLayers, scaleLow, scaleHigh}
 use Rattle.params.specs.Table.{within}
-use Rattle.refine.specs.Moves.{half}
-use Rattle.refine.specs.Keypoint.{float}
-use Rattle.refine.specs.declared.RawKeypoint.{RawKeypoint}
+use Rattle.detect_refine.specs.declared.RawKeypoint.{RawKeypoint}
 
 -- its cell is none of the picture's
 unfoldable pub cellWrong : ℕ → ℕ → RawKeypoint → Bool

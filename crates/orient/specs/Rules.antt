@@ -7,10 +7,10 @@ use lib.ListN.{length, getD}
 use lib.Ieee.{Float, nan}
 use Rattle.params.specs.Limits.{maxLayers, maxOctave}
 use Rattle.params.specs.declared.Settings.{Settings}
-use Rattle.refine.specs.Sound.{Sound}
-use Rattle.refine.specs.declared.RawKeypoint.{RawKeypoint}
-use Rattle.tally.specs.Window.{cellsRead}
-use Rattle.peaks.specs.Rules.{maxPeaks}
+use Rattle.detect_refine.specs.Sound.{Sound}
+use Rattle.detect_refine.specs.declared.RawKeypoint.{RawKeypoint}
+use Rattle.orient_tally.specs.Window.{cellsRead}
+use Rattle.orient_peaks.specs.Rules.{maxPeaks}
 use Rattle.orient.specs.Keypoint.{keypointWrong}
 use Rattle.orient.specs.Entry.{windowAt, orientedOf, orientedList}
 use Rattle.orient.specs.declared.OrientedKeypoint.{OrientedKeypoint}

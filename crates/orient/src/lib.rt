@@ -1,9 +1,9 @@
 // The orientation of a keypoint: an oriented keypoint for each dominant direction of the gradients about its cell.
 
+use detect_refine::RawKeypoint;
+use orient_peaks::Angles;
+use orient_tally::Window;
 use params::Answer;
-use peaks::Angles;
-use refine::RawKeypoint;
-use tally::Window;
 ghost use mathlib.Core.Path.{_≡_};
 ghost use mathlib.Core.Bool.{false};
 ghost use mathlib.Core.List.{List, map};
@@ -91,7 +91,7 @@ fn window_at(w: usize, h: usize, k: RawKeypoint) -> Window
     requires { ⌜ Aimed w h k ⌝ }
     ensures { λ r. ⌜ r ≡ windowAt w h k ⌝ }
 {
-    tally::window_of(w, h, k.rr as usize, k.cc as usize, scale_of(k))
+    orient_tally::window_of(w, h, k.rr as usize, k.cc as usize, scale_of(k))
 }
 
 // The first fault in the order of the table, 0 for none; room is tested later.
@@ -108,7 +108,7 @@ fn fault_of(img: &[f32], w: usize, h: usize, k: RawKeypoint) -> u32
     if keypoint_wrong(w, h, k) {
         return 5;
     }
-    if tally::window_good(img, window_at(w, h, k)) {
+    if orient_tally::window_good(img, window_at(w, h, k)) {
         0
     } else {
         6
@@ -169,11 +169,11 @@ fn angles_about(img: &[f32], w: usize, h: usize, k: RawKeypoint) -> Directions
     requires { ⌜ Ready (length (now img)) w h k ⌝ }
     ensures { λ d. ⌜ d ≡ directionsOf (now (img .entry)) w h k ⌝ }
 {
-    let g = tally::tally_of(img, window_at(w, h, k));
+    let g = orient_tally::tally_of(img, window_at(w, h, k));
     let t = g.tally;
     let b = t.bins;
     Directions {
-        angles: peaks::angles_of(&b),
+        angles: orient_peaks::angles_of(&b),
         read: g.read,
     }
 }

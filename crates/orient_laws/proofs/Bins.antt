@@ -14,18 +14,18 @@ use lib.Ieee.{Float, nan, fin, binary32, add, mul, le, ofBits, fits}
 use lib.Ieee.Scale.{finite}
 use Rattle.ieee.specs.Fused.{fma}
 use Rattle.ieee.specs.F32.{_⊕_, _⊗_, f32, fused}
-use Rattle.ieee.proofs.Monotone.{nil}
-use Rattle.ieee.proofs.Bounds.{Bounds, bounds-wider, bounds-point, add-bounds, mul-bounds, fma-bounds}
+use Rattle.ieee_laws.proofs.Monotone.{nil}
+use Rattle.ieee_laws.proofs.Bounds.{Bounds, bounds-wider, bounds-point, add-bounds, mul-bounds, fma-bounds}
 use Rattle.ieee.proofs.Held.{fma-fits}
 use Rattle.lists.specs.Ranges.{joined}
 use Rattle.hal.specs.Numbers.{one}
-use Rattle.tally.specs.Tally.{sampleOf, shareOf, added, tallied, empty, tallyOf}
-use Rattle.tally.specs.Place.{cellAt}
-use Rattle.tally.specs.declared.Window.{Window}
-use Rattle.tally.specs.declared.Sample.{Sample}
-use Rattle.tally.specs.declared.Tally.{Tally}
-use Rattle.tally.proofs.Cells.{part-at, after, after-none, after-more, after-all}
-use Rattle.peaks.specs.Peaks.{bins, around, outer, inner, middle, smoothAt, smoothed}
+use Rattle.orient_tally.specs.Tally.{sampleOf, shareOf, added, tallied, empty, tallyOf}
+use Rattle.orient_tally.specs.Place.{cellAt}
+use Rattle.orient_tally.specs.declared.Window.{Window}
+use Rattle.orient_tally.specs.declared.Sample.{Sample}
+use Rattle.orient_tally.specs.declared.Tally.{Tally}
+use Rattle.orient_tally.proofs.Cells.{part-at, after, after-none, after-more, after-all}
+use Rattle.orient_peaks.specs.Peaks.{bins, around, outer, inner, middle, smoothAt, smoothed}
 
 -- A bin that holds at most `brim` still does after a sample of a magnitude up to `heap`, and after smoothing: what is worked out at the ends.
 pub record Ceiling (heap brim : Float) : Type 0 where

@@ -15,11 +15,11 @@ use lib.Ieee.Order.{round-mono}
 use lib.Ieee.Positive.{positive-of-value, mul-at, values-of-le}
 use lib.Ieee.Scale.{finite, grid, overflow, round-val, round-under}
 use Rattle.ieee.specs.F32.{_⊖_, _⊗_, _⊘_}
-use Rattle.ieee.proofs.Monotone.{nil}
-use Rattle.ieee.proofs.Order.{round-marked}
-use Rattle.ieee.proofs.Bounds.{Bounds, bounds-finite, marked-nonneg}
+use Rattle.ieee.specs.Numbers.{half, two}
+use Rattle.ieee_laws.proofs.Monotone.{nil}
+use Rattle.ieee_laws.proofs.Order.{round-marked}
+use Rattle.ieee_laws.proofs.Bounds.{Bounds, bounds-finite, marked-nonneg}
 use Rattle.hal.proofs.AngleValues.{div-value}
-use Rattle.peaks.specs.Peaks.{half, two}
 use Rattle.orient_laws.proofs.Near.{Near, near, near-value, divisor}
 use Rattle.orient_laws.proofs.Units.{At, Units, sub-units, at-value, value-at, at-less}
 

@@ -14,13 +14,14 @@ use lib.Ieee.Exact.{HasValue}
 use lib.Ieee.Scale.{finite, overflow}
 use Rattle.packing.proofs.Sums.{sum-comm, order}
 use Rattle.ieee.specs.F32.{_⊕_, _⊖_, _⊗_, _⊘_}
-use Rattle.ieee.specs.Sign.{Turned, of-nan, of-inf, of-fin, turned, nought as no-sign}
-use Rattle.ieee.proofs.Turned.{neg-opp, add-turned, mul-turned, div-turned, le-turned, nonzero, round-zero}
-use Rattle.ieee.proofs.TurnedOps.{same}
-use Rattle.ieee.proofs.Order.{le-trans-float}
-use Rattle.ieee.proofs.Monotone.{nil, neg-finite}
-use Rattle.ieee.proofs.Bounds.{Bounds}
-use Rattle.peaks.specs.Peaks.{half, two}
+use Rattle.ieee.specs.Numbers.{half, two}
+use Rattle.ieee_laws.specs.Sign.{Turned, of-nan, of-inf, of-fin, turned, nought as no-sign}
+use Rattle.ieee.proofs.SignedParts.{round-zero}
+use Rattle.ieee_laws.proofs.Turned.{neg-opp, add-turned, mul-turned, div-turned, le-turned, nonzero}
+use Rattle.ieee_laws.proofs.TurnedOps.{same}
+use Rattle.ieee_laws.proofs.Order.{le-trans-float}
+use Rattle.ieee_laws.proofs.Monotone.{nil, neg-finite}
+use Rattle.ieee_laws.proofs.Bounds.{Bounds}
 use Rattle.orient_laws.proofs.Near.{gap, divisor}
 use Rattle.orient_laws.proofs.Units.{At, Units, sub-units, sub-level}
 use Rattle.orient_laws.proofs.Crest as C

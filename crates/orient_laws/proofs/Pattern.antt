@@ -12,20 +12,20 @@ use lib.Pow.{pow-pos, pow-add, pow-mono}
 use lib.Ieee.{Float, inf, fin, binary32, hid, top, lt, ofBits, toBits}
 use lib.Ieee.Exact.{HasValue}
 use lib.Ieee.Scale.{finite}
+use Rattle.ieee.specs.Numbers.{wholeTurn}
 use Rattle.packing.proofs.Size.{le-or-lt}
 use Rattle.packing.proofs.Fields.{value-low, value-normal}
-use Rattle.ieee.proofs.Order.{Marked, endless, ended}
-use Rattle.peaks.specs.Peaks.{turn}
+use Rattle.ieee_laws.proofs.Order.{Marked, endless, ended}
 use Rattle.sheet.specs.Layout.{largestAngle}
 use Rattle.orient_laws.proofs.Units.{At, value-at, at-less}
 use Rattle.orient_laws.proofs.Wrap.{Angle}
 
 -- 360, in the smallest units
-turn-at : At turn (360 * 2 ^ 149)
+turn-at : At wholeTurn (360 * 2 ^ 149)
 unfolding ofBits
 turn-at = value-at (fin false 45 (pos 3)) (360 * 2 ^ 149) (refl, sym (mul-one (360 * 2 ^ 149)))
 
-pub angle-finite : (a : Float) → Marked false a → lt a turn ≡ true → finite a ≡ true
+pub angle-finite : (a : Float) → Marked false a → lt a wholeTurn ≡ true → finite a ≡ true
 unfolding lt ofBits
 angle-finite (inf false) endless h = absurd (false≢true h)
 angle-finite (fin false m e) ended h = refl
@@ -78,7 +78,7 @@ module _ (a : Float) (g : Angle a) where
       let z = sign-of a (leb (top binary32) b) _ _ (g .clear) v in
       let s = leb-false (top binary32) b z in
       let w : HasValue a false ((8388608 + b % 8388608) * 2 ^ x) (2 ^ 149) = subst (λ (t : Bool). HasValue a t ((8388608 + b % 8388608) * 2 ^ x) (2 ^ 149)) z v in
-      let l = at-less a turn _ _ (value-at a _ w) turn-at (g .below) in
+      let l = at-less a wholeTurn _ _ (value-at a _ w) turn-at (g .below) in
       let k = small x (b % 8388608) (mod-lt b (omega arith)) l in
       omega (arith, parts b s)
 

@@ -17,14 +17,15 @@ use lib.Ieee.Fits.{down-pos}
 use lib.Ieee.Scale.{finite}
 use Rattle.packing.proofs.Size.{le-or-lt}
 use Rattle.ieee.specs.F32.{_⊖_, _<ᶠ_, _≤ᶠ_, absOf}
-use Rattle.ieee.proofs.Turned.{round-zero}
-use Rattle.ieee.proofs.Monotone.{nil}
-use Rattle.ieee.proofs.Order.{le-lt-trans, le-trans-float, lt-not-le, Marked, endless, ended}
-use Rattle.ieee.proofs.Bounds.{Bounds, bounds-finite, bounds-point, marked-nonneg}
+use Rattle.ieee.specs.Numbers.{nought}
+use Rattle.ieee.proofs.SignedParts.{round-zero}
+use Rattle.ieee_laws.proofs.Monotone.{nil}
+use Rattle.ieee_laws.proofs.Order.{le-lt-trans, le-trans-float, lt-not-le, Marked, endless, ended}
+use Rattle.ieee_laws.proofs.Bounds.{Bounds, bounds-finite, bounds-point, marked-nonneg}
 use Rattle.lists.specs.Ranges.{joined}
 use Rattle.lists.proofs.Ranges.{joined-start, joined-more, joined-empty}
 use Rattle.params.specs.Table.{firstFault, line, shapeWrong, lengthWrong}
-use Rattle.refine.specs.declared.RawKeypoint.{RawKeypoint}
+use Rattle.detect_refine.specs.declared.RawKeypoint.{RawKeypoint}
 use Rattle.hal.specs.Numbers.{one}
 use Rattle.hal.specs.Angle.{small, inAngle}
 use Rattle.hal.specs.Rules.{In}
@@ -32,16 +33,16 @@ use Rattle.hal.proofs.AngleValues.{null}
 use Rattle.hal.proofs.Rules.{exp-rule, magnitude-rule}
 use Rattle.picture.specs.Stack.{sample}
 use Rattle.picture.proofs.Index.{index}
-use Rattle.tally.specs.Window.{windowOf, cell}
-use Rattle.tally.specs.Sample.{slopeAt, weightAt, windowGood}
-use Rattle.tally.specs.Tally.{sampleOf, tallyOf}
-use Rattle.tally.specs.Place.{Placed, cellAt}
-use Rattle.tally.specs.declared.Window.{Window}
-use Rattle.tally.proofs.Cells.{placed, placed-at}
-use Rattle.tally.proofs.Cells as cells
-use Rattle.tally.proofs.Rules.{tally-rule}
-use Rattle.tally.proofs.Values.{and-both}
-use Rattle.peaks.specs.Peaks.{bins, around, isPeak, leastOf, peakAngle, peakOf, anglesIn, anglesOf, smoothed, wrapped, crestOf, nought}
+use Rattle.orient_tally.specs.Window.{windowOf, cell}
+use Rattle.orient_tally.specs.Sample.{slopeAt, weightAt, windowGood}
+use Rattle.orient_tally.specs.Tally.{sampleOf, tallyOf}
+use Rattle.orient_tally.specs.Place.{Placed, cellAt}
+use Rattle.orient_tally.specs.declared.Window.{Window}
+use Rattle.orient_tally.proofs.Cells.{placed, placed-at}
+use Rattle.orient_tally.proofs.Cells as cells
+use Rattle.orient_tally.proofs.Rules.{tally-rule}
+use Rattle.orient_tally.proofs.Values.{and-both}
+use Rattle.orient_peaks.specs.Peaks.{bins, around, isPeak, leastOf, peakAngle, peakOf, anglesIn, anglesOf, smoothed, wrapped, crestOf}
 use Rattle.orient.specs.Keypoint.{keypointWrong, scaleOf}
 use Rattle.orient.specs.Accepted.{Aimed}
 use Rattle.orient.specs.Entry.{windowAt, orientFault, anglesAt, orientedOf, orientedList}

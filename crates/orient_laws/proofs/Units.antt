@@ -14,9 +14,11 @@ use lib.Ieee.Exact.{HasValue}
 use lib.Ieee.Scale.{finite, round-same}
 use Rattle.packing.proofs.Size.{le-or-lt}
 use Rattle.packing.proofs.Sums.{diff-mul}
-use Rattle.ieee.proofs.Turned.{round-zero}
-use Rattle.ieee.proofs.Order.{plus, minus, le-fin, lt-fin}
-use Rattle.ieee.proofs.Monotone.{nil, summed}
+use Rattle.ieee.proofs.SignedParts.{round-zero}
+use Rattle.ieee.proofs.SignedParts.{plus, minus}
+use Rattle.ieee_laws.proofs.Order.{le-fin, lt-fin}
+use Rattle.ieee.proofs.SignedParts.{summed}
+use Rattle.ieee_laws.proofs.Monotone.{nil}
 use Rattle.hal.proofs.AngleDoubled.{fits-parts}
 
 -- x is X / 2 ^ 149; a zero may have a sign

@@ -12,11 +12,12 @@ use lib.Ieee.{Float, nan, inf, fin, Format, binary32, up, down, unlike, round, s
 use lib.Ieee.Scale.{finite}
 use Rattle.ieee.specs.Fused.{fma}
 use Rattle.ieee.specs.F32.{_⊕_, _⊖_, fused, absOf}
-use Rattle.ieee.proofs.Order.{lt-le, le-number, le-or-lt-float, le-lt-trans, neg-le, Marked, ended, round-marked, le-fin}
-use Rattle.ieee.proofs.Monotone.{nil, neg-finite, fma-le-left}
-use Rattle.ieee.proofs.Bounds.{Bounds, bounds-finite, bounds-wider, bounds-point, add-bounds, sub-bounds, ofInt-bounds}
+use Rattle.ieee.specs.Numbers.{nought, ten, wholeTurn, epsilon}
+use Rattle.ieee_laws.proofs.Order.{lt-le, le-number, le-or-lt-float, le-lt-trans, neg-le, Marked, ended, round-marked, le-fin}
+use Rattle.ieee_laws.proofs.Monotone.{nil, neg-finite, fma-le-left}
+use Rattle.ieee_laws.proofs.Bounds.{Bounds, bounds-finite, bounds-wider, bounds-point, add-bounds, sub-bounds, ofInt-bounds}
 use Rattle.ieee.proofs.Held.{fma-fits}
-use Rattle.peaks.specs.Peaks.{bins, nought, ten, circle, turn, epsilon, crestOf, wrapped, closed, degreesOf}
+use Rattle.orient_peaks.specs.Peaks.{bins, circle, crestOf, wrapped, closed, degreesOf}
 use Rattle.orient_laws.proofs.Offset.{low, high, offsetOf}
 
 -- ---- the top, in bins
@@ -119,23 +120,23 @@ clear-of (inf false) a b = absurd (false≢true b)
 clear-of (fin t n d) a b = clear-at t n d (up-to t n d a b)
 
 abbrev rough : Float → Float
-rough b = fused (neg ten) b turn
+rough b = fused (neg ten) b wholeTurn
 
 -- 10 times at most 36 is at most 360
 module _ (b : Float) (u : Bounds nil circle b) where
-  rough-is : rough b ≡ fma binary32 (neg b) ten turn
+  rough-is : rough b ≡ fma binary32 (neg b) ten wholeTurn
   unfolding ofBits
-  rough-is = fma-opposite binary32 ten b turn refl (bounds-finite u) refl
+  rough-is = fma-opposite binary32 ten b wholeTurn refl (bounds-finite u) refl
 
-  rough-in : Bounds nil turn (rough b)
+  rough-in : Bounds nil wholeTurn (rough b)
   unfolding ofBits neg fma le
   rough-in =
       let n = neg-finite b (bounds-finite u) in
       record {
         from = refl;
         to = refl;
-        low = rw rough-is (fma-le-left binary32 (neg circle) (neg b) ten turn refl n refl refl (neg-le b circle (u .high)) refl);
-        high = rw rough-is (fma-le-left binary32 (neg b) (neg nil) ten turn n refl refl refl (neg-le nil b (u .low)) refl);
+        low = rw rough-is (fma-le-left binary32 (neg circle) (neg b) ten wholeTurn refl n refl refl (neg-le b circle (u .high)) refl);
+        high = rw rough-is (fma-le-left binary32 (neg b) (neg nil) ten wholeTurn n refl refl refl (neg-le nil b (u .low)) refl);
       }
 
   rough-clear : Marked false (rough b)
@@ -154,18 +155,18 @@ tiny (fin true m e) a b = le-lt-trans (fin false m e) (neg nil) epsilon (neg-le 
 -- an angle as the sheet wants it
 pub record Angle (a : Float) : Type 0 where
   pub clear : Marked false a
-  pub below : lt a turn ≡ true
+  pub below : lt a wholeTurn ≡ true
   pub held : T (fits binary32 a)
 
-module _ (a : Float) (clear : Marked false a) (u : Bounds nil turn a) (held : T (fits binary32 a)) where
-  full : le turn a ≡ true → lt (absOf (a ⊖ turn)) epsilon ≡ true
+module _ (a : Float) (clear : Marked false a) (u : Bounds nil wholeTurn a) (held : T (fits binary32 a)) where
+  full : le wholeTurn a ≡ true → lt (absOf (a ⊖ wholeTurn)) epsilon ≡ true
   unfolding ofBits sub le
   full h =
-      let v : Bounds turn turn a = record { from = refl; to = refl; low = h; high = u .high } in
-      let z = sub-bounds binary32 refl refl v (bounds-point turn refl) in
-      tiny (a ⊖ turn) (z .low) (z .high)
+      let v : Bounds wholeTurn wholeTurn a = record { from = refl; to = refl; low = h; high = u .high } in
+      let z = sub-bounds binary32 refl refl v (bounds-point wholeTurn refl) in
+      tiny (a ⊖ wholeTurn) (z .low) (z .high)
 
-  turn-number : T (not (isNan turn))
+  turn-number : T (not (isNan wholeTurn))
   unfolding ofBits isNan
   turn-number = tt
 
@@ -175,12 +176,12 @@ module _ (a : Float) (clear : Marked false a) (u : Bounds nil turn a) (held : T 
 
   closed-in : Angle (closed a)
   unfolding closed
-  closed-in = go (lt (absOf (a ⊖ turn)) epsilon) refl
+  closed-in = go (lt (absOf (a ⊖ wholeTurn)) epsilon) refl
     where
-      go : (p : Bool) → lt (absOf (a ⊖ turn)) epsilon ≡ p → Angle (cond p nought a)
+      go : (p : Bool) → lt (absOf (a ⊖ wholeTurn)) epsilon ≡ p → Angle (cond p nought a)
       go true e = zero-angle
-      go false e = record { clear = clear; below = ⊎-elim (λ l. absurd (true≢false (sym (full l) ∙ e))) (λ l. l) (le-or-lt-float turn a turn-number (finite-number a (bounds-finite u))); held = held }
+      go false e = record { clear = clear; below = ⊎-elim (λ l. absurd (true≢false (sym (full l) ∙ e))) (λ l. l) (le-or-lt-float wholeTurn a turn-number (finite-number a (bounds-finite u))); held = held }
 
 pub degrees-in : (b : Float) → Bounds nil circle b → Angle (degreesOf b)
 unfolding degreesOf
-degrees-in b u = closed-in (rough b) (rough-clear b u) (rough-in b u) (fma-fits binary32 (neg ten) b turn)
+degrees-in b u = closed-in (rough b) (rough-clear b u) (rough-in b u) (fma-fits binary32 (neg ten) b wholeTurn)

@@ -9,19 +9,20 @@ use lib.IntN.{pos}
 use lib.Ieee.{Float, nan, fin, binary32, fits}
 use lib.Ieee.Scale.{finite}
 use Rattle.ieee.specs.F32.{_<ᶠ_, _≤ᶠ_, _=ᶠ_, bitsOf, absOf}
+use Rattle.ieee.specs.Numbers.{nought, wholeTurn}
 use Rattle.sheet.specs.Layout.{largestAngle}
-use Rattle.refine.specs.declared.RawKeypoint.{RawKeypoint}
-use Rattle.tally.specs.Window.{cell}
-use Rattle.tally.specs.Sample.{slopeAt}
-use Rattle.tally.specs.Tally.{tallyOf}
-use Rattle.tally.specs.declared.Slope.{Slope}
-use Rattle.peaks.specs.Peaks.{bins, nought, turn}
+use Rattle.detect_refine.specs.declared.RawKeypoint.{RawKeypoint}
+use Rattle.orient_tally.specs.Window.{cell}
+use Rattle.orient_tally.specs.Sample.{slopeAt}
+use Rattle.orient_tally.specs.Tally.{tallyOf}
+use Rattle.orient_tally.specs.declared.Slope.{Slope}
+use Rattle.orient_peaks.specs.Peaks.{bins}
 use Rattle.orient.specs.Entry.{windowAt, orientFault, orientedOf, orientedList}
 
 -- in 0 to below 360, and written with bits that a sheet takes: finite, with the sign bit clear, so that no angle is −0
 pub record Turn (angle : Float) : Type 0 where
   pub least : (nought ≤ᶠ angle) ≡ true
-  pub below : (angle <ᶠ turn) ≡ true
+  pub below : (angle <ᶠ wholeTurn) ≡ true
   pub ends : finite angle ≡ true
   pub plain : absOf angle ≡ angle
   pub held : T (fits binary32 angle)

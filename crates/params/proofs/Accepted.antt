@@ -8,9 +8,9 @@ use lib.Ieee.{Float, fin, binary32, binary64, ofBits, ofInt, mul, div, lt, le}
 use Rattle.ieee.specs.Fused.{convert}
 use Rattle.ieee.specs.Whole.{floor}
 use Rattle.ieee.specs.F32.{f32, narrowed}
-use Rattle.ieee.proofs.Order.{le-lt-trans}
-use Rattle.ieee.proofs.Monotone.{nil}
-use Rattle.ieee.proofs.Bounds.{Bounds, bounds-point, mul-bounds, mul-bounds-by, div-bounds, floor-bounds, convert-bounds, ofInt-bounds}
+use Rattle.ieee_laws.proofs.Order.{le-lt-trans}
+use Rattle.ieee_laws.proofs.Monotone.{nil}
+use Rattle.ieee_laws.proofs.Bounds.{Bounds, bounds-point, mul-bounds, mul-bounds-by, div-bounds, floor-bounds, convert-bounds, ofInt-bounds}
 use Rattle.params.specs.Limits.{maxLayers, maxOctave, contrastLow, contrastHigh, edgeLow, edgeHigh, sigmaLow, sigmaHigh}
 use Rattle.params.specs.Table.{within, contrastWrong, settingsWrong}
 use Rattle.params.specs.Threshold.{half64, full64, levelOf, thresholdOf}

@@ -10,29 +10,30 @@ use lib.IntN.{pos}
 use lib.ListN.{length, getD}
 use lib.Ieee.{Float, nan, binary32, lt}
 use lib.Ieee.Scale.{finite}
-use Rattle.ieee.proofs.Monotone.{nil}
-use Rattle.ieee.proofs.Bounds.{zero-is}
-use Rattle.ieee.proofs.Order.{lt-le}
+use Rattle.ieee_laws.proofs.Monotone.{nil}
+use Rattle.ieee_laws.proofs.Bounds.{zero-is}
+use Rattle.ieee_laws.proofs.Order.{lt-le}
 use Rattle.ieee.specs.F32.{_⊗_}
+use Rattle.ieee.specs.Numbers.{nought, wholeTurn}
 use Rattle.lists.specs.Ranges.{joined}
 use Rattle.params.specs.Limits.{maxSide, maxOctave}
 use Rattle.params.specs.Table.{allGood, within}
 use Rattle.params.specs.declared.Settings.{Settings}
 use Rattle.params.proofs.Bools.{or-neither}
-use Rattle.refine.specs.Sound.{Sound}
-use Rattle.refine.specs.declared.RawKeypoint.{RawKeypoint}
+use Rattle.detect_refine.specs.Sound.{Sound}
+use Rattle.detect_refine.specs.declared.RawKeypoint.{RawKeypoint}
 use Rattle.orient.specs.Entry.{orientedOf, orientedList}
 use Rattle.orient.specs.Rules.{Passed}
 use Rattle.orient.specs.declared.OrientedKeypoint.{OrientedKeypoint}
 use Rattle.orient.proofs.Rules.{orient-rule}
 use Rattle.orient_laws.specs.Rules.{Turn}
-use Rattle.inputs.specs.Inputs.{nought, wholeTurn, shrinkOf, givenOf, inputsOf}
-use Rattle.inputs.specs.Rules.{Taken}
-use Rattle.inputs.specs.declared.Inputs.{Inputs}
-use Rattle.inputs.proofs.Rules.{input-rule}
-use Rattle.patch.specs.Patch.{cellOf, usedAt, fourAt, overCells, readsOf, first, past}
-use Rattle.patch.specs.declared.Turn as patchTurn
-use Rattle.patch.proofs.Good.{good-append}
+use Rattle.descriptor_inputs.specs.Inputs.{shrinkOf, givenOf, inputsOf}
+use Rattle.descriptor_inputs.specs.Rules.{Taken}
+use Rattle.descriptor_inputs.specs.declared.Inputs.{Inputs}
+use Rattle.descriptor_inputs.proofs.Rules.{input-rule}
+use Rattle.descriptor_patch.specs.Patch.{cellOf, usedAt, fourAt, overCells, readsOf, first, past}
+use Rattle.descriptor_patch.specs.declared.Turn as patchTurn
+use Rattle.descriptor_patch.proofs.Good.{good-append}
 use Rattle.descriptor.specs.Place.{onSide, spotWrong, turnWrong, turnAt}
 use Rattle.descriptor.specs.Entry.{faultOf}
 use Rattle.descriptor.specs.Rules.{Inside}

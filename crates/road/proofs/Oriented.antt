@@ -15,14 +15,14 @@ use Rattle.params.specs.Table.{shapeWrong, goodSample, allGood}
 use Rattle.picture.specs.Stack.{sample}
 use Rattle.picture.proofs.Index.{index}
 use Rattle.params.specs.declared.Settings.{Settings}
-use Rattle.refine.specs.Sound.{Sound}
-use Rattle.refine.specs.declared.RawKeypoint.{RawKeypoint}
-use Rattle.tally.specs.Window.{windowOf, cell}
-use Rattle.tally.specs.Sample.{fourGood, rowGood, windowGood}
-use Rattle.tally.specs.Place.{Fits, Placed}
-use Rattle.tally.specs.declared.Window.{Window}
-use Rattle.tally.proofs.Cells.{placed}
-use Rattle.tally.proofs.Values.{and-both}
+use Rattle.detect_refine.specs.Sound.{Sound}
+use Rattle.detect_refine.specs.declared.RawKeypoint.{RawKeypoint}
+use Rattle.orient_tally.specs.Window.{windowOf, cell}
+use Rattle.orient_tally.specs.Sample.{fourGood, rowGood, windowGood}
+use Rattle.orient_tally.specs.Place.{Fits, Placed}
+use Rattle.orient_tally.specs.declared.Window.{Window}
+use Rattle.orient_tally.proofs.Cells.{placed}
+use Rattle.orient_tally.proofs.Values.{and-both}
 use Rattle.orient.specs.Keypoint.{keypointWrong}
 use Rattle.orient.specs.Entry.{windowAt, orientFault}
 use Rattle.orient.proofs.Checks.{aimed, aimed-fits, fault-sample, fault-none}

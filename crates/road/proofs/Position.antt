@@ -14,18 +14,18 @@ use lib.Ieee.Exact.{HasValue, round-exact}
 use lib.Ieee.Positive.{positive, positive-of-value, mul-at}
 use lib.Ieee.Scale.{finite, round-same}
 use lib.Ieee.Fits.{up-pos, down-pos}
-use Rattle.ieee.specs.F32.{_⊕_, _⊗_, f32, rounded}
+use Rattle.ieee.specs.F32.{_⊕_, _⊗_, f32, rounded, float}
 use Rattle.ieee.specs.Whole.{roundEven}
-use Rattle.ieee.proofs.Monotone.{nil, add-le, mul-le-left, toUnsigned-le}
-use Rattle.ieee.proofs.Bounds.{Bounds, bounds-finite, bounds-point, add-bounds, mul-bounds, roundEven-bounds, ofInt-bounds, abs-bounds, marked-nonneg}
-use Rattle.ieee.proofs.Order.{le-fin, Marked, ended, le-trans-float, lt-le}
-use Rattle.refine.specs.Moves.{half}
-use Rattle.refine.specs.Sound.{Near}
-use Rattle.patch.specs.Patch.{cellOf}
+use Rattle.ieee.specs.Numbers.{half, one}
+use Rattle.ieee_laws.proofs.Monotone.{nil, add-le, mul-le-left, toUnsigned-le}
+use Rattle.ieee_laws.proofs.Bounds.{Bounds, bounds-finite, bounds-point, add-bounds, mul-bounds, roundEven-bounds, ofInt-bounds, abs-bounds, marked-nonneg}
+use Rattle.ieee_laws.proofs.Order.{le-fin, Marked, ended, le-trans-float, lt-le}
+use Rattle.detect_refine.specs.Sound.{Near}
+use Rattle.descriptor_patch.specs.Patch.{cellOf}
 use Rattle.descriptor.specs.Place.{onSide}
 use borrow.Author.Tests.{lt-ltb}
 use Rattle.hal.proofs.AngleValues.{div-value}
-use Rattle.inputs.specs.Inputs.{one, float, shrinkOf}
+use Rattle.descriptor_inputs.specs.Inputs.{shrinkOf}
 
 -- a whole number as an f32, and its value
 whole : (n : ℕ) → n ≤ 2 ^ 24 → HasValue (float n) false n 1

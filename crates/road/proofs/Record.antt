@@ -12,17 +12,17 @@ use lib.Ieee.{Float, nan, inf, fin, binary32, fits, toUnsigned, inFloat, lt}
 use lib.Ieee.Scale.{finite}
 use lib.Ieee.Bits.{is-true}
 use Rattle.ieee.specs.F32.{bitsOf, absOf}
-use Rattle.ieee.proofs.Monotone.{nil}
-use Rattle.ieee.proofs.Bounds.{zero-is}
+use Rattle.ieee.specs.Numbers.{nought}
+use Rattle.ieee_laws.proofs.Monotone.{nil}
+use Rattle.ieee_laws.proofs.Bounds.{zero-is}
 use Rattle.params.specs.Limits.{border, maxOctave}
 use Rattle.params.specs.declared.Settings.{Settings}
-use Rattle.refine.specs.Moves.{nought}
-use Rattle.refine.specs.Sound.{Sound, Number}
-use Rattle.refine.specs.declared.RawKeypoint.{RawKeypoint}
+use Rattle.detect_refine.specs.Sound.{Sound, Number}
+use Rattle.detect_refine.specs.declared.RawKeypoint.{RawKeypoint}
 use Rattle.orient.specs.Keypoint.{layerIn}
 use Rattle.orient.specs.Entry.{orientedOf}
 use Rattle.orient_laws.specs.Rules.{Turn}
-use Rattle.values_laws.specs.Rules.{Byte}
+use Rattle.descriptor_values_laws.specs.Rules.{Byte}
 use Rattle.sheet.specs.Pack.{Slot, slot, sound}
 use Rattle.sheet.specs.Layout.{Frame, edition1, valueCount, valueSlots, headSlots, floatSlots, largestFinite, leastPositive}
 use Rattle.sheet.specs.Sheet.{recordRight}

@@ -7,12 +7,12 @@ use lib.ListN.{length}
 use lib.Ieee.{Float, nan}
 use Rattle.params.specs.Table.{shapeWrong, allGood}
 use Rattle.params.specs.declared.Settings.{Settings}
-use Rattle.refine.specs.Sound.{Sound}
-use Rattle.refine.specs.declared.RawKeypoint.{RawKeypoint}
-use Rattle.extrema.specs.Places.{Stack}
+use Rattle.detect_refine.specs.Sound.{Sound}
+use Rattle.detect_refine.specs.declared.RawKeypoint.{RawKeypoint}
+use Rattle.detect_extrema.specs.Places.{Stack}
 use Rattle.detect.proofs.Faults as DetectFaults
 use Rattle.detect.proofs.Rules.{detect-rule}
-use Rattle.tally.specs.Sample.{windowGood}
+use Rattle.orient_tally.specs.Sample.{windowGood}
 use Rattle.orient.specs.Keypoint.{keypointWrong}
 use Rattle.orient.specs.Entry.{windowAt, orientedOf}
 use Rattle.orient.specs.declared.OrientedKeypoint.{OrientedKeypoint}

@@ -9,13 +9,13 @@ use lib.Ieee.{Float}
 use Rattle.lists.specs.Ranges.{joined}
 use Rattle.params.specs.Table.{allGood}
 use Rattle.params.specs.declared.Settings.{Settings}
-use Rattle.refine.specs.declared.RawKeypoint.{RawKeypoint}
+use Rattle.detect_refine.specs.declared.RawKeypoint.{RawKeypoint}
 use Rattle.detect.specs.Entry as Detection
 use Rattle.orient.specs.Entry.{orientFault, orientedList}
 use Rattle.orient.specs.declared.OrientedKeypoint.{OrientedKeypoint}
-use Rattle.inputs.specs.Inputs.{inputsOf}
-use Rattle.inputs.specs.declared.Inputs.{Inputs}
-use Rattle.patch.specs.Patch.{readsOf}
+use Rattle.descriptor_inputs.specs.Inputs.{inputsOf}
+use Rattle.descriptor_inputs.specs.declared.Inputs.{Inputs}
+use Rattle.descriptor_patch.specs.Patch.{readsOf}
 use Rattle.descriptor.specs.Place.{turnAt}
 use Rattle.descriptor.specs.Entry as Descriptor
 use Rattle.road.specs.Record.{recordOf}

@@ -8,11 +8,11 @@ use lib.Ieee.{Float}
 use Rattle.params.specs.Limits.{maxOctave}
 use Rattle.params.specs.Table.{allGood}
 use Rattle.params.specs.declared.Settings.{Settings}
-use Rattle.refine.specs.Sound.{Sound}
-use Rattle.refine.specs.declared.RawKeypoint.{RawKeypoint}
-use Rattle.extrema.specs.Scan as Raw
-use Rattle.extrema.specs.Scan.{keypointWords}
-use Rattle.tally.specs.Sample.{windowGood}
+use Rattle.detect_refine.specs.Sound.{Sound}
+use Rattle.detect_refine.specs.declared.RawKeypoint.{RawKeypoint}
+use Rattle.detect_extrema.specs.Scan as Raw
+use Rattle.detect_extrema.specs.Scan.{keypointWords}
+use Rattle.orient_tally.specs.Sample.{windowGood}
 use Rattle.orient.specs.Entry as Oriented
 use Rattle.orient.specs.Entry.{windowAt, orientedWords}
 use Rattle.orient.specs.declared.OrientedKeypoint.{OrientedKeypoint}

@@ -16,9 +16,9 @@ use lib.Ieee.Scale.{finite}
 use Rattle.packing.proofs.Fields.{ofBits-is, normal-is, value-low, value-normal, field-ne}
 use Rattle.packing.proofs.Size.{le-or-lt}
 use Rattle.ieee.specs.F32.{f32, bitsOf, absOf}
-use Rattle.ieee.proofs.Order.{lt-not-le}
-use Rattle.ieee.proofs.Monotone.{nil}
-use Rattle.ieee.proofs.Bounds.{zero-is}
+use Rattle.ieee_laws.proofs.Order.{lt-not-le}
+use Rattle.ieee_laws.proofs.Monotone.{nil}
+use Rattle.ieee_laws.proofs.Bounds.{zero-is}
 use Rattle.sheet.specs.Layout.{largestFinite, leastPositive}
 
 -- ---- the value of a normal pattern

@@ -18,11 +18,12 @@ use lib.Ieee.Fits.{down-pos}
 use Rattle.packing.proofs.Fields.{ofBits-is, finite-no-nan}
 use Rattle.packing.proofs.Size.{le-or-lt}
 use Rattle.ieee.specs.F32.{f32, bitsOf, absOf}
-use Rattle.ieee.proofs.Monotone.{nil}
-use Rattle.ieee.proofs.Order.{fin-lt, le-lt-trans}
-use Rattle.ieee.proofs.Bounds.{zero-is}
+use Rattle.ieee.specs.Numbers.{nought, wholeTurn}
+use Rattle.ieee_laws.proofs.Monotone.{nil}
+use Rattle.ieee_laws.proofs.Order.{fin-lt, le-lt-trans}
+use Rattle.ieee_laws.proofs.Bounds.{zero-is}
 use Rattle.sheet.specs.Layout.{largestFinite, leastPositive, largestAngle}
-use Rattle.sheet_floats.specs.Rules.{nought, wholeTurn, Plain, FloatRule}
+use Rattle.sheet_floats.specs.Rules.{Plain, FloatRule}
 use Rattle.sheet_floats.proofs.Patterns.{digits, power, value, rising, finite-bits, bits-below, bits-above}
 
 -- ---- from the bits to the float

@@ -5,14 +5,8 @@ use mathlib.Core.Bool.{true}
 use lib.Ieee.{Float}
 use lib.Ieee.Scale.{finite}
 use Rattle.ieee.specs.F32.{_<ᶠ_, f32, absOf}
+use Rattle.ieee.specs.Numbers.{nought, wholeTurn}
 use Rattle.sheet.specs.Layout.{largestFinite, leastPositive, largestAngle}
-
-abbrev pub nought : Float
-nought = f32 0
-
--- 360
-abbrev pub wholeTurn : Float
-wholeTurn = f32 0x43b4_0000
 
 -- finite with sign bit clear
 pub record Plain (x : Float) : Type 0 where

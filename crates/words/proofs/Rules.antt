@@ -10,9 +10,9 @@ use lib.Seq.{drop-append-add}
 use lib.Ieee.{Float, binary32, fits}
 use lib.Ieee.Bits.{ofBits-toBits}
 use Rattle.params.specs.declared.Settings.{Settings}
-use Rattle.refine.specs.Sound.{Sound}
-use Rattle.refine.specs.declared.RawKeypoint.{RawKeypoint}
-use Rattle.extrema.specs.Scan as raw
+use Rattle.detect_refine.specs.Sound.{Sound}
+use Rattle.detect_refine.specs.declared.RawKeypoint.{RawKeypoint}
+use Rattle.detect_extrema.specs.Scan as raw
 use Rattle.orient.specs.Entry as orient
 use Rattle.orient.specs.declared.OrientedKeypoint.{OrientedKeypoint}
 use Rattle.words.specs.Keypoint.{wordsIn, keypointIn}

@@ -6,8 +6,8 @@ use lib.Dec.{eqb}
 use lib.ListN.{length, getD}
 use lib.Ieee.{nan}
 use Rattle.ieee.specs.F32.{f32}
-use Rattle.extrema.specs.Scan.{keypointWords}
-use Rattle.refine.specs.declared.RawKeypoint.{RawKeypoint}
+use Rattle.detect_extrema.specs.Scan.{keypointWords}
+use Rattle.detect_refine.specs.declared.RawKeypoint.{RawKeypoint}
 
 -- the keypoint of ten words
 unfoldable pub wordsIn : List ℕ → RawKeypoint

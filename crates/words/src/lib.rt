@@ -4,8 +4,8 @@ ghost use lib.ListN.{length};
 ghost use lib.Ieee.{nan};
 ghost use Rattle.words.specs.Keypoint.{wordsIn, broken, keypointIn};
 ghost use Rattle.words.specs.Oriented.{sixIn, unoriented, orientedIn};
+use detect_refine::RawKeypoint;
 use orient::OrientedKeypoint;
-use refine::RawKeypoint;
 
 fn not_a_number() -> f32
     ensures { λ r. ⌜ r ≡ nan ⌝ }

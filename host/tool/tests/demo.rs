@@ -1,4 +1,4 @@
-//! The planes that `crates/extract_demo` reads, and what it is to print: both are made here, the planes by the tool from a small coast
+//! The planes that `crates/run_extract` reads, and what it is to print: both are made here, the planes by the tool from a small coast
 //! (land, shore, open sea and the mark in its corner), the text by the published Rust on these planes and by the sheet's second
 //! rendering. With DEMO_WRITE=1 the files are written, and else they are held to what is made.
 

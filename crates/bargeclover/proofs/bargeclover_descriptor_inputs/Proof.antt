@@ -6,7 +6,7 @@ use Rattle.bargeclover.proofs.bargeclover_descriptor_inputs.Reads as re
 use Rattle.bargeclover.proofs.bargeclover_descriptor_inputs.Lts as lts
 use Rattle.words.proofs.oriented_in.Reads as oriented-in-reads
 use Rattle.bargeclover.proofs.put_inputs.Reads as put-inputs-reads
-use Rattle.inputs.proofs.descriptor_inputs.Reads as descriptor-inputs-reads
+use Rattle.descriptor_inputs.proofs.descriptor_inputs.Reads as descriptor-inputs-reads
 
 oriented-in-requires : tie.Need-oriented-in-requires
 oriented-in-requires c κs = search needs

@@ -1,7 +1,7 @@
 use mathlib.Core.Path.{ap, _∙_}
 use lib.ListN.{length}
-use Rattle.patch.specs.Patch.{samplesOf}
-use Rattle.values_laws.proofs.Rules.{value-rule}
+use Rattle.descriptor_patch.specs.Patch.{samplesOf}
+use Rattle.descriptor_values_laws.proofs.Rules.{value-rule}
 use Rattle.descriptor.proofs.Checks.{one-plane, in-turn}
 use Rattle.descriptor.proofs.Answers.{filled}
 use borrow.Author.Needs.{needs}
@@ -11,8 +11,8 @@ use Rattle.descriptor.proofs.fill.Reads as reads
 use Rattle.descriptor.proofs.fill.Lts as lts
 use Rattle.descriptor.proofs.put.Reads as put-reads
 use Rattle.descriptor.proofs.turn_at.Reads as turn-at-reads
-use Rattle.gather.proofs.gather.Reads as gather-reads
-use Rattle.values.proofs.values.Reads as values-reads
+use Rattle.descriptor_gather.proofs.gather.Reads as gather-reads
+use Rattle.descriptor_values.proofs.values.Reads as values-reads
 
 turn-at-requires : tie.Need-turn-at-requires
 turn-at-requires c κs = search needs

@@ -1,5 +1,5 @@
 use mathlib.Core.Path.{_≡_}
-use Rattle.patch.specs.Patch.{cellOf}
+use Rattle.descriptor_patch.specs.Patch.{cellOf}
 use Rattle.descriptor.specs.Place.{cellAt}
 use Rattle.descriptor.proofs.Cells.{cell-told}
 use Rattle.descriptor.proofs.Checks.{asked, turn-is}
@@ -10,7 +10,7 @@ use Rattle.descriptor.proofs.turn_at.Reads as reads
 use Rattle.descriptor.proofs.turn_at.Lts as lts
 use Rattle.descriptor.proofs.cell_at.Reads as cell-at-reads
 use Rattle.ieee.proofs.round_to_i32.Reads as round-to-i32-reads
-use Rattle.patch.proofs.turn_of.Reads as turn-of-reads
+use Rattle.descriptor_patch.proofs.turn_of.Reads as turn-of-reads
 
 round-to-i32-requires : tie.Need-round-to-i32-requires
 round-to-i32-requires c κs = search needs

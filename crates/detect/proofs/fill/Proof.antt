@@ -8,10 +8,10 @@ use borrow.Author.Needs.{needs}
 use Rattle.lists.specs.Ranges.{joined}
 use Rattle.lists.proofs.Ranges.{joined-start, counted}
 use Rattle.params.specs.Limits.{maxSide}
-use Rattle.extrema.specs.Neighbours.{tied}
-use Rattle.extrema.specs.Scan.{rowOf, words}
-use Rattle.rows.proofs.Words.{filled, words-none}
-use Rattle.extrema.proofs.Rows.{row-bound, rows-few}
+use Rattle.detect_extrema.specs.Neighbours.{tied}
+use Rattle.detect_extrema.specs.Scan.{rowOf, words}
+use Rattle.detect_rows.proofs.Words.{filled, words-none}
+use Rattle.detect_extrema.proofs.Rows.{row-bound, rows-few}
 use Rattle.detect.proofs.fill.Statement.{statement}
 use Rattle.detect.proofs.fill.Tie as tie
 

@@ -1,4 +1,4 @@
-use Rattle.extrema.proofs.Rows.{few-rows, few-columns}
+use Rattle.detect_extrema.proofs.Rows.{few-rows, few-columns}
 use Rattle.detect.proofs.Answers.{none, refused, accepted}
 use borrow.Author.Needs.{needs}
 use Rattle.detect.proofs.find_extrema.Statement.{statement}

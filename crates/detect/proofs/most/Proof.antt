@@ -7,8 +7,8 @@ use lib.ListN.{length}
 use Rattle.lists.specs.Ranges.{joined}
 use Rattle.lists.proofs.Ranges.{joined-start, counted}
 use Rattle.params.specs.Limits.{maxSide}
-use Rattle.extrema.specs.Hints.{leftOf}
-use Rattle.extrema.proofs.Hints.{left-bound, left-few}
+use Rattle.detect_extrema.specs.Hints.{leftOf}
+use Rattle.detect_extrema.proofs.Hints.{left-bound, left-few}
 use Rattle.detect.proofs.most.Statement.{statement}
 use Rattle.detect.proofs.most.Tie as tie
 

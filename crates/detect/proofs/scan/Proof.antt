@@ -7,10 +7,10 @@ use lib.Seq.{sets, length-sets}
 use borrow.Author.Needs.{needs}
 use Rattle.lists.specs.Ranges.{joined}
 use Rattle.lists.proofs.Ranges.{joined-start, counted}
-use Rattle.extrema.specs.Neighbours.{tied}
-use Rattle.extrema.specs.Scan.{rowOf, words}
-use Rattle.rows.proofs.Words.{filled, words-none}
-use Rattle.extrema.proofs.Rows.{row-bound}
+use Rattle.detect_extrema.specs.Neighbours.{tied}
+use Rattle.detect_extrema.specs.Scan.{rowOf, words}
+use Rattle.detect_rows.proofs.Words.{filled, words-none}
+use Rattle.detect_extrema.proofs.Rows.{row-bound}
 use Rattle.detect.specs.Places.{maxHeld, scanFrom, scanned}
 use Rattle.detect.proofs.Scans.{scan-start, scan-stop, scan-on, scan-end}
 use Rattle.detect.proofs.scan.Statement.{statement}

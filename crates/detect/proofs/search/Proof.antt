@@ -4,10 +4,10 @@ use native.Mathlib.Omega.{arith}
 use denote.Ref.{now}
 use borrow.Author.Needs.{needs}
 use Rattle.params.specs.Limits.{maxSide}
-use Rattle.extrema.specs.Neighbours.{tied}
-use Rattle.extrema.specs.Scan.{keypoints}
-use Rattle.rows.proofs.Words.{taken, written}
-use Rattle.extrema.proofs.Rows.{rows-few}
+use Rattle.detect_extrema.specs.Neighbours.{tied}
+use Rattle.detect_extrema.specs.Scan.{keypoints}
+use Rattle.detect_rows.proofs.Words.{taken, written}
+use Rattle.detect_extrema.proofs.Rows.{rows-few}
 use Rattle.detect.proofs.Answers.{short, done}
 use Rattle.detect.proofs.Room.{total, lacking-none, lacking-some}
 use Rattle.detect.proofs.search.Statement.{statement}

@@ -3,9 +3,9 @@ use mathlib.Core.Path.{_∙_}
 use native.Mathlib.Omega.{arith}
 use borrow.Author.Needs.{needs}
 use denote.Ref.{now}
-use Rattle.extrema.specs.Neighbours.{tied}
-use Rattle.extrema.proofs.Rows.{rows-few}
-use Rattle.extrema.proofs.Hints.{left-few}
+use Rattle.detect_extrema.specs.Neighbours.{tied}
+use Rattle.detect_extrema.proofs.Rows.{rows-few}
+use Rattle.detect_extrema.proofs.Hints.{left-few}
 use Rattle.detect.proofs.Room.{total, at-most, lacking-fits, lacking-more}
 use Rattle.detect.proofs.too_many.Statement.{statement}
 use Rattle.detect.proofs.too_many.Tie as tie

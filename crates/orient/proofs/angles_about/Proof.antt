@@ -5,8 +5,8 @@ use Rattle.orient.proofs.angles_about.Tie as tie
 use Rattle.orient.proofs.angles_about.Reads as reads
 use Rattle.orient.proofs.angles_about.Lts as lts
 use Rattle.orient.proofs.window_at.Reads as window-at-reads
-use Rattle.peaks.proofs.angles_of.Reads as angles-of-reads
-use Rattle.tally.proofs.tally_of.Reads as tally-of-reads
+use Rattle.orient_peaks.proofs.angles_of.Reads as angles-of-reads
+use Rattle.orient_tally.proofs.tally_of.Reads as tally-of-reads
 
 window-at-requires : tie.Need-window-at-requires
 window-at-requires c κs = search needs

@@ -9,7 +9,7 @@ use Rattle.orient.proofs.fault_of.Lts as lts
 use Rattle.orient.proofs.keypoint_wrong.Reads as keypoint-wrong-reads
 use Rattle.orient.proofs.window_at.Reads as window-at-reads
 use Rattle.params.proofs.shape_wrong.Reads as shape-wrong-reads
-use Rattle.tally.proofs.window_good.Reads as window-good-reads
+use Rattle.orient_tally.proofs.window_good.Reads as window-good-reads
 
 shape-wrong-requires : tie.Need-shape-wrong-requires
 shape-wrong-requires c κs = search needs

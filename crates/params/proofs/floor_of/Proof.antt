@@ -7,9 +7,9 @@ use lib.Dec.{T, eqb}
 use lib.IntN.{pos}
 use lib.Ieee.{Float, nan, inf, fin, binary64, ofBits, up, down, level, lt, le, eq, fits}
 use Rattle.ieee.specs.Whole.{floor}
-use Rattle.ieee.proofs.Floors.{floor-unsigned, floor-zero}
-use Rattle.ieee.proofs.Order.{lt-le-trans}
-use Rattle.ieee.proofs.Monotone.{nil}
+use Rattle.ieee_laws.proofs.Floors.{floor-unsigned, floor-zero}
+use Rattle.ieee_laws.proofs.Order.{lt-le-trans}
+use Rattle.ieee_laws.proofs.Monotone.{nil}
 use borrow.Author.Needs.{needs}
 use Rattle.params.proofs.floor_of.Statement.{statement}
 use Rattle.params.proofs.floor_of.Tie as tie

@@ -1,0 +1,253 @@
+-- The whole number at or below a float in -8 to 8, and how rounding at 2 ^ 23 finds it. Assumes nothing.
+use Prim.Native.Nat.{ℕ, zero, suc, _+_, _-_, _*_, _/_, _%_, _^_, _≤_, _<_, min}
+use mathlib.Core.Path.{_≡_, refl, sym, ap, _∙_, subst}
+use mathlib.Core.Bool.{Bool, true, false, not, _&&_, cond, false≢true, true≢false}
+use mathlib.Core.Logic.{_⊎_, inl, inr, ⊎-elim}
+use native.Mathlib.Nat.{zero-mul, eq-zero-or-pos, eq-of-mul-eq-mul-right}
+use native.Mathlib.Omega.{arith}
+use borrow.Author.Tests.{le-leb, lt-ltb, eq-eqb, eqb-true, eqb-false}
+use lib.Dec.{T, ltb, leb, eqb, ltb→lt}
+use lib.IntN.{ℤ, pos, negsuc, negℤ, _-ℤ_}
+use lib.Pow.{pow-pos, pow-mono}
+use lib.Ieee.{Float, nan, inf, fin, binary32, up, down, ofBits, ofInt, add, lt, le, isNan, fits, whole, toSigned, toUnsigned, inUnsigned}
+use lib.Ieee.Fits.{down-pos, add-fits, and-l, and-r}
+use lib.Ieee.Back.{float-back-unsigned}
+use lib.Ieee.Nearest.{div-mono}
+use lib.Ieee.Scale.{finite}
+use Rattle.ieee.specs.F32.{_⊕_, _⊖_, f32, toI32, float, floatZ}
+use Rattle.ieee_laws.proofs.Order.{le-fin, lt-le, le-number, lt-not-le, le-or-lt-float}
+use Rattle.ieee_laws.proofs.Monotone.{add-le, toUnsigned-le}
+use Rattle.ieee_laws.proofs.Bounds.{Bounds, bounds-point, bounds-finite, add-bounds}
+use Rattle.descriptor_grid.specs.Grid.{floorI}
+use Rattle.descriptor_grid.specs.Reach.{lowered, Near, Floored}
+use Rattle.descriptor_grid.proofs.Steps.{start, base, lift, eight, raised, Step, step}
+
+-- ---- a cut to a whole number keeps the order
+
+raised-neg : (q : ℕ) → raised (negℤ (pos q)) ≡ 16 - q
+raised-neg zero = refl
+raised-neg (suc n) = omega arith
+
+pub signed-le : (x y : Float) → finite x ≡ true → finite y ≡ true → le x y ≡ true → raised (toI32 x) ≤ raised (toI32 y)
+unfolding toSigned
+signed-le nan y p q h = absurd (false≢true p)
+signed-le (inf s) y p q h = absurd (false≢true p)
+signed-le (fin s m e) nan p q h = absurd (false≢true q)
+signed-le (fin s m e) (inf t) p q h = absurd (false≢true q)
+signed-le (fin false m e) (fin false n d) p q h =
+    let g = le-fin false m e false n d h .cross in
+    let l = div-mono (m * up e) (down e) (n * up d) (down d) (down-pos e) (down-pos d) (omega (arith, zero-mul (down e), zero-mul (down d))) in
+    omega arith
+signed-le (fin true m e) (fin true n d) p q h =
+    let g = le-fin true m e true n d h .cross in
+    let l = div-mono (n * up d) (down d) (m * up e) (down e) (down-pos d) (down-pos e) (omega (arith, zero-mul (down e), zero-mul (down d))) in
+    rw (raised-neg (min (m * up e / down e) (2 ^ 31)), raised-neg (min (n * up d / down d) (2 ^ 31))) (omega arith)
+signed-le (fin true m e) (fin false n d) p q h = rw (raised-neg (min (m * up e / down e) (2 ^ 31))) (omega arith)
+signed-le (fin false m e) (fin true n d) p q h =
+    let g = le-fin false m e true n d h .cross in
+    let a : m * up e ≡ 0 = eq-of-mul-eq-mul-right (down d) (down-pos d) (m * up e) 0 (omega (arith, zero-mul (down e), zero-mul (down d))) in
+    let b : n * up d ≡ 0 = eq-of-mul-eq-mul-right (down e) (down-pos e) (n * up d) 0 (omega (arith, zero-mul (down e), zero-mul (down d))) in
+    let l = div-mono (m * up e) (down e) 0 1 (down-pos e) (omega arith) (omega arith) in
+    let k = div-mono (n * up d) (down d) 0 1 (down-pos d) (omega arith) (omega arith) in
+    rw (raised-neg (min (n * up d / down d) (2 ^ 31))) (omega arith)
+
+-- ---- the floor of what lies from k - 8 to below k - 7
+
+not-below : (x y : Float) → le y x ≡ true → lt x y ≡ false
+not-below x y h = go (lt x y) refl
+  where
+    go : (b : Bool) → lt x y ≡ b → b ≡ false
+    go true e = absurd (lt-not-le x y e h)
+    go false e = refl
+
+-- by the whole number that v is cut to
+floor-by : (v : Float) (z : ℤ) (b : Bool) → toI32 v ≡ z → lt v (floatZ z) ≡ b → floorI v ≡ cond b (z -ℤ pos 1) z
+unfolding floorI
+floor-by v z b e h = rw (e, h)
+
+pub floor-at : (k : ℕ) (v : Float) → k ≤ 16 → finite v ≡ true → le (floatZ (lowered k)) v ≡ true → lt v (floatZ (lowered (k + 1))) ≡ true → floorI v ≡ lowered k
+floor-at k v h f l u =
+    let a = step k (omega arith) in
+    let b = step (k + 1) (omega arith) in
+    let x : k + 8 ≤ raised (toI32 v) = rw (← a .height, ← a .cut) (signed-le (floatZ (lowered k)) v (a .ended) f l) in
+    let y : raised (toI32 v) ≤ (k + 1) + 8 =
+    rw (← b .height, ← b .cut) (signed-le v (floatZ (lowered (k + 1))) f (b .ended) (lt-le v (floatZ (lowered (k + 1))) u)) in
+    ⊎-elim
+    (λ e. floor-by v (lowered k) false (a .only (toI32 v) e) (not-below v (floatZ (lowered k)) l))
+    (λ e. floor-by v (lowered (k + 1)) true (b .only (toI32 v) e) u ∙ a .less)
+    (either (raised (toI32 v)) k x y)
+  where
+    either : (n k : ℕ) → k + 8 ≤ n → n ≤ (k + 1) + 8 → (n ≡ k + 8) ⊎ (n ≡ (k + 1) + 8)
+    either n k p q = go (eqb n (k + 8)) refl
+      where
+        go : (b : Bool) → eqb n (k + 8) ≡ b → (n ≡ k + 8) ⊎ (n ≡ (k + 1) + 8)
+        go true e = inl (eqb-true n (k + 8) e)
+        go false e = let z = eqb-false n (k + 8) e in inr (omega arith)
+
+-- ---- a float from 12582912 to 12582928 is whole
+
+abbrev bottom : Float
+bottom = fin false 3 (pos 22)
+
+abbrev ceiling : Float
+ceiling = fin false 786433 (pos 4)
+
+-- of what `fits` says
+digits : (m d n : ℕ) → T (eqb (suc m % 2) 1 && ltb (suc m) (2 ^ 24) && leb d (2 ^ 149) && ltb n (2 ^ 128 * d)) → suc m < 2 ^ 24
+digits m d n t =
+    let A = eqb (suc m % 2) 1 in
+    let B = ltb (suc m) (2 ^ 24) in
+    let C = leb d (2 ^ 149) in
+    ltb→lt (suc m) (2 ^ 24) (and-r A B (and-l (A && B) C (and-l (A && B && C) (ltb n (2 ^ 128 * d)) t)))
+
+whole-number : (x : Float) → T (fits binary32 x) → le bottom x ≡ true → le x ceiling ≡ true → T (inUnsigned binary32 64 x)
+unfolding fits inUnsigned whole isNan le
+whole-number nan f h k = absurd (le-number bottom nan h .1)
+whole-number (inf true) f h k = absurd (false≢true h)
+whole-number (inf false) f h k = absurd (false≢true k)
+whole-number (fin true m e) f h k = let g = le-fin false 3 (pos 22) true m e h .cross in absurd (omega (arith, zero-mul (down e), down-pos e))
+whole-number (fin false m (pos j)) f h k =
+    let g = le-fin false m (pos j) false 786433 (pos 4) k .cross in
+    let a : eqb (m * 2 ^ j % 1) 0 ≡ true = eq-eqb (m * 2 ^ j % 1) 0 (omega arith) in
+    let b : leb (m * 2 ^ j / 1) (2 ^ 24) ≡ true = le-leb (m * 2 ^ j / 1) (2 ^ 24) (omega arith) in
+    let c : ltb (m * 2 ^ j / 1) (2 ^ 64) ≡ true = lt-ltb (m * 2 ^ j / 1) (2 ^ 64) (omega arith) in
+    rw (a, b, c) tt
+whole-number (fin false zero (negsuc j)) f h k =
+    let g = le-fin false 3 (pos 22) false zero (negsuc j) h .cross in absurd (omega (arith, pow-pos (suc j)))
+whole-number (fin false (suc m) (negsuc j)) f h k =
+    let g = le-fin false 3 (pos 22) false (suc m) (negsuc j) h .cross in
+    let l : suc m < 2 ^ 24 = digits m (2 ^ suc j) (suc m * 1) f in
+    let w : 2 ^ 1 ≤ 2 ^ suc j = pow-mono {i = 1} {j = suc j} (omega arith) in
+    absurd (omega arith)
+
+-- ---- v + 12582920 is a whole number, which tells the floor but for one
+
+pub record Rounded (v : Float) : Type 0 where
+  pub at : ℕ
+  pub top : at ≤ 16
+  pub is : v ⊕ lift ≡ float (start + at)
+
+ends : (f32 0xc100_0000 ⊕ lift ≡ bottom) × (eight ⊕ lift ≡ ceiling) × (toUnsigned 64 bottom ≡ start) × (toUnsigned 64 ceiling ≡ start + 16)
+unfolding ofBits add toUnsigned
+ends = (refl, refl, refl, refl)
+
+near-bounds : (v : Float) → Near v → Bounds (f32 0xc100_0000) eight v
+unfolding ofBits
+near-bounds v n = record { from = refl; to = refl; low = n .low; high = n .high }
+
+lift-bounds : (v : Float) → Near v → Bounds bottom ceiling (v ⊕ lift)
+unfolding ofBits add
+lift-bounds v n = add-bounds binary32 refl refl (near-bounds v n) (bounds-point lift refl)
+
+pub rounded-at : (v : Float) → Near v → Rounded v
+rounded-at v n =
+    let b = lift-bounds v n in
+    let c = toUnsigned 64 (v ⊕ lift) in
+    let l : start ≤ c = rw (← ends .2) (toUnsigned-le 64 bottom (v ⊕ lift) (b .low)) in
+    let u : c ≤ start + 16 = rw (← ends .3) (toUnsigned-le 64 (v ⊕ lift) ceiling (b .high)) in
+    let e : start + (c - start) ≡ c = omega arith in
+    let f = float-back-unsigned binary32 64 (v ⊕ lift) (add-fits binary32 v lift) (whole-number (v ⊕ lift) (add-fits binary32 v lift) (b .low) (b .high)) in
+    record { at = c - start; top = omega arith; is = sym (f .1) ∙ ap float (sym e) }
+
+-- ---- the two ways of the code
+
+pub finite-number : (x : Float) → finite x ≡ true → T (not (isNan x))
+unfolding isNan
+finite-number nan h = absurd (false≢true h)
+finite-number (inf s) h = absurd (false≢true h)
+finite-number (fin s m e) h = tt
+
+lift-le : (x y : Float) → finite x ≡ true → finite y ≡ true → le x y ≡ true → toUnsigned 64 (x ⊕ lift) ≤ toUnsigned 64 (y ⊕ lift)
+unfolding ofBits le
+lift-le x y p q h = toUnsigned-le 64 (x ⊕ lift) (y ⊕ lift) (add-le binary32 x y lift lift p q refl refl h refl)
+
+least : floatZ (lowered 0) ≡ f32 0xc100_0000
+unfolding ofBits ofInt
+least = refl
+
+module _ (v : Float) (n : Near v) (r : Rounded v) where
+  fine : finite v ≡ true
+  fine = bounds-finite (near-bounds v n)
+
+  here : Step (r .at)
+  here = step (r .at) (let u = r .top in omega arith)
+
+  -- the sum keeps the order
+  below-at : (k : ℕ) → k ≤ 17 → le v (floatZ (lowered k)) ≡ true → r .at ≤ k
+  below-at k h l =
+      let s = step k h in
+      let x = rw (r .is, here .size, s .sum, s .size) at (lift-le v (floatZ (lowered k)) fine (s .ended) l) in
+      omega arith
+
+  above-at : (k : ℕ) → k ≤ 17 → le (floatZ (lowered k)) v ≡ true → k ≤ r .at
+  above-at k h l =
+      let s = step k h in
+      let x = rw (r .is, here .size, s .sum, s .size) at (lift-le (floatZ (lowered k)) v (s .ended) fine l) in
+      omega arith
+
+  -- k - 8 is at most v, or above it
+  split : (k : ℕ) → k ≤ 17 → (le (floatZ (lowered k)) v ≡ true) ⊎ (lt v (floatZ (lowered k)) ≡ true)
+  split k h = le-or-lt-float (floatZ (lowered k)) v (finite-number (floatZ (lowered k)) (step k h .ended)) (finite-number v fine)
+
+  floored : (k : ℕ) → k ≤ 16 → le (floatZ (lowered k)) v ≡ true → lt v (floatZ (lowered (k + 1))) ≡ true → Floored v k
+  floored k h l u = record { is = floor-at k v h fine l u; low = l; high = u; top = h }
+
+  some : lt v (floatZ (lowered (r .at))) ≡ true → 1 ≤ r .at
+  some l =
+      ⊎-elim (λ z. absurd (lt-not-le v (floatZ (lowered 0)) (subst (λ (k : ℕ). lt v (floatZ (lowered k)) ≡ true) z l) (rw least (n .low)))) (λ p. p) (eq-zero-or-pos (r .at))
+
+  pub low-way : lt v (floatZ (lowered (r .at))) ≡ true → (1 ≤ r .at) × Floored v (r .at - 1)
+  low-way l =
+      let p = some l in
+      let t = r .top in
+      let b : (r .at - 1) + 1 ≡ r .at = omega arith in
+      let q : le (floatZ (lowered (r .at - 1))) v ≡ true =
+      ⊎-elim (λ x. x) (λ x. let y = below-at (r .at - 1) (omega arith) (lt-le v (floatZ (lowered (r .at - 1))) x) in absurd (omega arith)) (split (r .at - 1) (omega arith)) in
+      (p, floored (r .at - 1) (omega arith) q (rw b l))
+
+  pub high-way : lt v (floatZ (lowered (r .at))) ≡ false → Floored v (r .at)
+  high-way l =
+      let t = r .top in
+      let q : le (floatZ (lowered (r .at))) v ≡ true = ⊎-elim (λ x. x) (λ x. absurd (true≢false (sym x ∙ l))) (split (r .at) (omega arith)) in
+      let u : lt v (floatZ (lowered (r .at + 1))) ≡ true =
+      ⊎-elim (λ x. let y = above-at (r .at + 1) (omega arith) x in absurd (omega arith)) (λ x. x) (split (r .at + 1) (omega arith)) in
+      floored (r .at) t q u
+
+-- ---- what the code works out
+
+pub near-is : (v : Float) (r : Rounded v) → (v ⊕ lift) ⊖ base ≡ float (r .at)
+near-is v r = let t = r .top in rw (r .is) (step (r .at) (omega arith) .rest)
+
+pub near-fine : (v : Float) → Near v → T (inUnsigned binary32 32 ((v ⊕ lift) ⊖ base))
+near-fine v n =
+    let r = rounded-at v n in
+    let t = r .top in
+    rw (near-is v r, step (r .at) (omega arith) .fine) tt
+
+abbrev found : Float → ℕ
+found v = toUnsigned 32 ((v ⊕ lift) ⊖ base)
+
+near-count : (v : Float) (r : Rounded v) → found v ≡ r .at
+near-count v r = let t = r .top in rw (near-is v r) (step (r .at) (omega arith) .count)
+
+near-back : (v : Float) (r : Rounded v) → ((v ⊕ lift) ⊖ base) ⊖ eight ≡ floatZ (lowered (r .at))
+near-back v r = let t = r .top in rw (near-is v r) (step (r .at) (omega arith) .back)
+
+pub near-low : (v : Float) → Near v → lt v (((v ⊕ lift) ⊖ base) ⊖ eight) ≡ true → (1 ≤ found v) × Floored v (found v - 1)
+near-low v n h = let r = rounded-at v n in rw (near-count v r) (low-way v n r (rw (near-back v r) at h))
+
+pub near-high : (v : Float) → Near v → lt v (((v ⊕ lift) ⊖ base) ⊖ eight) ≡ false → Floored v (found v)
+near-high v n h = let r = rounded-at v n in rw (near-count v r) (high-way v n r (rw (near-back v r) at h))
+
+-- ---- every number in -8 to 8 has its floor
+
+pub record Found (v : Float) : Type 0 where
+  pub at : ℕ
+  pub is : Floored v at
+
+pub floored-of : (v : Float) → Near v → Found v
+floored-of v n = let r = rounded-at v n in go r (lt v (floatZ (lowered (r .at)))) refl
+  where
+    go : (r : Rounded v) (b : Bool) → lt v (floatZ (lowered (r .at))) ≡ b → Found v
+    go r true e = record { at = r .at - 1; is = low-way v n r e .1 }
+    go r false e = record { at = r .at; is = high-way v n r e }

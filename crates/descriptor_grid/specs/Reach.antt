@@ -1,0 +1,42 @@
+-- What the code asks of a sample and of a number, and what it says of a floor and of a spot. Definitions only.
+use Prim.Native.Nat.{ℕ, _+_, _≤_}
+use mathlib.Core.Path.{_≡_}
+use mathlib.Core.Bool.{true}
+use lib.IntN.{ℤ, pos, _-ℤ_}
+use lib.Ieee.{Float}
+use Rattle.ieee.specs.F32.{_<ᶠ_, _≤ᶠ_, f32, floatZ}
+use Rattle.hal.specs.Turn.{inTurn}
+use Rattle.hal.specs.Angle.{inAngle}
+use Rattle.descriptor_patch.specs.Patch.{inGrid}
+use Rattle.descriptor_patch.specs.declared.Sample.{Sample}
+use Rattle.descriptor_grid.specs.Grid.{floorI}
+use Rattle.descriptor_grid.specs.declared.Spot.{Spot}
+
+-- the code counts whole numbers from -8
+abbrev pub lowered : ℕ → ℤ
+lowered k = pos k -ℤ pos 8
+
+-- v lies in -8 to 8
+pub record Near (v : Float) : Type 0 where
+  pub low : (f32 0xc100_0000 ≤ᶠ v) ≡ true
+  pub high : (v ≤ᶠ f32 0x4100_0000) ≡ true
+
+-- the whole number at or below v is k - 8
+pub record Floored (v : Float) (k : ℕ) : Type 0 where
+  pub is : floorI v ≡ lowered k
+  pub low : (floatZ (lowered k) ≤ᶠ v) ≡ true
+  pub high : (v <ᶠ floatZ (lowered (k + 1))) ≡ true
+  pub top : k ≤ 16
+
+-- a sample that can be added in a patch that is turned by `angle`: it lies in the grid, and the angle and the magnitude are asked inside their ranges
+pub record Lands (angle : Float) (s : Sample) : Type 0 where
+  pub row : inGrid (s .rbin) ≡ true
+  pub col : inGrid (s .cbin) ≡ true
+  pub turn : inTurn angle ≡ true
+  pub slopes : inAngle (s .dx) (s .dy) ≡ true
+
+-- none of a spot's eight places leaves the histogram
+pub record Inside (p : Spot) : Type 0 where
+  pub row : p .row ≤ 4
+  pub col : p .col ≤ 4
+  pub slot : p .slot ≤ 7

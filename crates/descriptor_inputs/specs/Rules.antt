@@ -1,0 +1,31 @@
+-- What is proved of the descriptor's inputs beyond the entry's contract: proofs/Rules.antt proves each. Definitions only.
+use Prim.Native.Nat.{ℕ, _<_, _≤_}
+use mathlib.Core.Path.{_≡_}
+use mathlib.Core.Bool.{true}
+use mathlib.Core.List.{List}
+use lib.ListN.{length, getD}
+use lib.IntN.{pos}
+use lib.Ieee.{Float, nan}
+use Rattle.ieee.specs.Numbers.{nought, wholeTurn}
+use Rattle.params.specs.Limits.{maxOctave, scaleLow, scaleHigh}
+use Rattle.params.specs.Table.{within}
+use Rattle.params.specs.declared.Settings.{Settings}
+use Rattle.detect_refine.specs.Sound.{Sound}
+use Rattle.detect_refine.specs.declared.RawKeypoint.{RawKeypoint}
+use Rattle.orient.specs.Entry.{orientedOf, orientedList}
+use Rattle.orient.specs.declared.OrientedKeypoint.{OrientedKeypoint}
+use Rattle.descriptor_inputs.specs.Inputs.{turnedOf, givenOf, inputsOf}
+
+-- the oriented keypoint of that octave is accepted, and its scale and angle lie where the descriptor takes them
+pub record Taken (o : OrientedKeypoint) (octave : ℕ) : Type 0 where
+  pub given : inputsOf o (pos octave) ≡ givenOf o octave
+  pub scale : within scaleLow scaleHigh (inputsOf o (pos octave) .scale) ≡ true
+  pub angle : within nought wholeTurn (inputsOf o (pos octave) .angle) ≡ true
+
+pub record InputRule : Type 0 where
+  -- an angle in 0 to 360 is turned to one in 0 to 360
+  pub turned : (angle : Float) → within nought wholeTurn angle ≡ true → within nought wholeTurn (turnedOf angle) ≡ true
+  -- every oriented keypoint that orientation gives for a keypoint of detection, its angle in 0 to 360
+  pub taken : (img : List Float) (width height octave : ℕ) (s : Settings) (k : RawKeypoint) (i : ℕ) → octave ≤ maxOctave → Sound width height s octave k
+      → i < length (orientedList img width height k) → within nought wholeTurn (getD (orientedList img width height k) i (orientedOf k nan) .angle) ≡ true
+      → Taken (getD (orientedList img width height k) i (orientedOf k nan)) octave

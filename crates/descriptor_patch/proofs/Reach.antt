@@ -1,0 +1,123 @@
+-- The reach of a patch, and the picture's diagonal. Assumes nothing.
+use Prim.Native.Nat.{ℕ, zero, suc, _*_, _/_, _^_, _≤_, _<_, min}
+use mathlib.Core.Path.{_≡_, refl, sym, _∙_}
+use mathlib.Core.Bool.{Bool, true, false, not, _&&_, false≢true}
+use mathlib.Core.Logic.{_⊎_, ⊎-elim}
+use native.Mathlib.Omega.{arith}
+use lib.Dec.{T}
+use lib.IntN.{pos}
+use lib.Ieee.{Float, nan, inf, fin, binary32, up, down, ofBits, ofInt, add, mul, lt, le, toUnsigned, isNan}
+use Rattle.ieee.specs.F32.{_⊕_, _⊗_, f32, rounded, rootOf, float}
+use Rattle.ieee.specs.Root.{sqrt, halves}
+use Rattle.ieee.specs.Whole.{roundEven}
+use Rattle.ieee.specs.Numbers.{half, three, five, root2}
+use Rattle.ieee_laws.proofs.Order.{le-or-lt-float, le-number, lt-le, lt-le-trans, le-lt-trans, round-marked}
+use Rattle.ieee_laws.proofs.Monotone.{nil, above-zero, toUnsigned-le}
+use Rattle.ieee_laws.proofs.Bounds.{Bounds, bounds-point, bounds-above, add-bounds, mul-bounds, roundEven-bounds, ofInt-bounds, marked-nonneg}
+use Rattle.params.specs.Limits.{maxSide, scaleLow, scaleHigh}
+use Rattle.params.specs.Table.{within}
+use Rattle.descriptor_patch.specs.Patch.{histWidth, reachOf}
+use Rattle.descriptor_patch.specs.Place.{maxRadius, Sides}
+
+pub and-both : (a b : Bool) → (a && b) ≡ true → (a ≡ true) × (b ≡ true)
+and-both true true h = (refl, refl)
+and-both true false h = absurd (false≢true h)
+and-both false b h = absurd (false≢true h)
+
+pub is-T : (b : Bool) → b ≡ true → T b
+is-T true h = tt
+is-T false h = absurd (false≢true h)
+
+-- a float that can be cut to a u64
+pub record Cuts (x : Float) : Type 0 where
+  pub above : T (lt (fin true 1 (pos 0)) x)
+  pub below : T (lt x (fin false 1 (pos 64)))
+
+-- ---- the reach
+
+scale-bounds : (s : Float) → within scaleLow scaleHigh s ≡ true → Bounds scaleLow scaleHigh s
+unfolding ofBits
+scale-bounds s h = let p = and-both (le scaleLow s) (le s scaleHigh) h in record { from = refl; to = refl; low = p .0; high = p .1 }
+
+abbrev reach : Float → Float
+reach s = rounded (three ⊗ s ⊗ root2 ⊗ five ⊗ half)
+
+reach-bounds : (s : Float) → within scaleLow scaleHigh s ≡ true → Bounds (reach scaleLow) (reach scaleHigh) (reach s)
+unfolding ofBits mul le roundEven
+reach-bounds s h =
+    let a = mul-bounds binary32 refl refl refl refl (bounds-point three refl) (scale-bounds s h) in
+    let b = mul-bounds binary32 refl refl refl refl a (bounds-point root2 refl) in
+    let c = mul-bounds binary32 refl refl refl refl b (bounds-point five refl) in
+    let d = mul-bounds binary32 refl refl refl refl c (bounds-point half refl) in
+    roundEven-bounds binary32 refl refl d
+
+pub reach-cuts : (s : Float) → within scaleLow scaleHigh s ≡ true → Cuts (reach s)
+unfolding ofBits mul lt roundEven
+reach-cuts s h =
+    let u = reach-bounds s h in
+    record {
+      above = is-T _ (lt-le-trans (fin true 1 (pos 0)) (reach scaleLow) (reach s) refl (u .low));
+      below = is-T _ (le-lt-trans (reach s) (reach scaleHigh) (fin false 1 (pos 64)) (u .high) refl);
+    }
+
+farthest : toUnsigned 64 (reach scaleHigh) ≡ maxRadius
+unfolding ofBits mul roundEven toUnsigned
+farthest = refl
+
+pub reach-small : (s : Float) → within scaleLow scaleHigh s ≡ true → reachOf s ≤ maxRadius
+unfolding reachOf histWidth
+reach-small s h = omega (arith, toUnsigned-le 64 (reach s) (reach scaleHigh) (reach-bounds s h .high), farthest)
+
+-- ---- the diagonal
+
+root-nonneg : (x : Float) → lt nil x ≡ true → le nil (rootOf x) ≡ true
+unfolding sqrt lt le
+root-nonneg nan h = absurd (false≢true h)
+root-nonneg (inf true) h = absurd (false≢true h)
+root-nonneg (inf false) h = refl
+root-nonneg (fin s zero e) h = absurd (omega (arith, above-zero s zero e h .size))
+root-nonneg (fin true (suc m) e) h = absurd (false≢true (sym (above-zero true (suc m) e h .sign)))
+root-nonneg (fin false (suc m) e) h = marked-nonneg (round-marked binary32 false (halves (suc m * up e * 4 ^ 149 / down e)) (2 * 2 ^ 149))
+
+abbrev pub diagonal : ℕ → ℕ → Float
+diagonal w h = rootOf (float w ⊗ float w ⊕ float h ⊗ float h)
+
+float-bounds : (n : ℕ) → 1 ≤ n → n ≤ maxSide → Bounds (float 1) (float 8192) (float n)
+unfolding ofInt
+float-bounds n a b = ofInt-bounds binary32 1 8192 n refl refl a b
+
+square-bounds : (n : ℕ) → 1 ≤ n → n ≤ maxSide → Bounds (float 1 ⊗ float 1) (float 8192 ⊗ float 8192) (float n ⊗ float n)
+unfolding ofInt mul le
+square-bounds n a b = mul-bounds binary32 refl refl refl refl (float-bounds n a b) (float-bounds n a b)
+
+diagonal-nonneg : (w h : ℕ) → Sides w h → le nil (diagonal w h) ≡ true
+unfolding ofInt mul add lt
+diagonal-nonneg w h s =
+    root-nonneg _
+    (bounds-above (add-bounds binary32 refl refl (square-bounds w (s .some-cols) (s .wide)) (square-bounds h (s .some-rows) (s .high))) refl)
+
+abbrev far : Float
+far = f32 0x4480_0000
+
+pub diagonal-cuts : (w h : ℕ) → Sides w h → lt (diagonal w h) far ≡ true → Cuts (diagonal w h)
+unfolding ofBits lt le
+diagonal-cuts w h s k =
+    record {
+      above = is-T _ (lt-le-trans (fin true 1 (pos 0)) nil (diagonal w h) refl (diagonal-nonneg w h s));
+      below = is-T _ (lt-le-trans (diagonal w h) far (fin false 1 (pos 64)) k refl);
+    }
+
+far-number : T (not (isNan far))
+unfolding ofBits isNan
+far-number = tt
+
+far-cut : toUnsigned 64 far ≡ 1024
+unfolding ofBits toUnsigned
+far-cut = refl
+
+pub diagonal-far : (w h r : ℕ) → Sides w h → r ≤ maxRadius → lt (diagonal w h) far ≡ false → r ≡ min r (toUnsigned 64 (diagonal w h))
+diagonal-far w h r s k e =
+    ⊎-elim
+    (λ l. omega (arith, toUnsigned-le 64 far (diagonal w h) l, far-cut))
+    (λ l. absurd (false≢true (sym e ∙ l)))
+    (le-or-lt-float far (diagonal w h) far-number (le-number nil (diagonal w h) (diagonal-nonneg w h s) .1))

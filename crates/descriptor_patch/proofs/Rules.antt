@@ -1,0 +1,256 @@
+-- The laws of a patch's samples that specs/Rules.antt states. Assumes nothing.
+use Prim.Native.Nat.{ℕ, zero, suc, _+_, _-_, _<_, _≤_, min}
+use mathlib.Core.Path.{_≡_, refl, sym, ap, _∙_}
+use mathlib.Core.Bool.{Bool, true, false, not, _&&_, cond, false≢true}
+use mathlib.Core.List.{List, [], _∷_, _++_}
+use mathlib.Core.Logic.{_⊎_, ⊎-elim}
+use native.Mathlib.Nat.{eq-or-lt-of-le, le-of-suc-le-suc}
+use native.Mathlib.Numerals.{add-one}
+use native.Mathlib.Omega.{arith}
+use lib.Dec.{T}
+use lib.IntN.{pos, _-ℤ_}
+use lib.Ieee.{Float, nan, inf, fin, binary32, ofBits, neg, add, sub, mul, lt, le, isNan}
+use lib.Ieee.Scale.{finite}
+use Rattle.ieee.specs.F32.{_⊕_, _⊖_, _⊗_, f32, absOf}
+use Rattle.ieee.specs.Numbers.{half, two, four, minusOne}
+use Rattle.ieee_laws.specs.Sign.{Turned, of-inf, of-fin, turned, nought as no-sign}
+use Rattle.ieee_laws.proofs.Order.{le-or-lt-float, le-trans-float, le-number, lt-le, lt-not-le}
+use Rattle.ieee_laws.proofs.Monotone.{nil, add-le, sub-le}
+use Rattle.ieee_laws.proofs.Bounds.{Bounds, bounds-finite, bounds-point, bounds-wider, add-bounds, sub-bounds, mul-bounds, abs-nonneg}
+use Rattle.ieee_laws.proofs.Turned.{neg-opp, mul-turned, le-turned}
+use Rattle.ieee_laws.proofs.TurnedOps.{same}
+use Rattle.lists.specs.Ranges.{joined}
+use Rattle.lists.proofs.Ranges.{joined-none, joined-more}
+use Rattle.params.specs.Limits.{sampleLimit, scaleLow, scaleHigh}
+use Rattle.params.specs.Table.{within, goodSample, allGood}
+use Rattle.hal.specs.Numbers.{minus32, furthest}
+use Rattle.hal.specs.Exp.{inDown}
+use Rattle.hal.specs.Angle.{small, inAngle}
+use Rattle.descriptor_patch.specs.Patch.{expScale, binOf, inRun, endsOf, inGrid, gridAt, usedAt, rotsOf, pixel, sampleAt, samplesOf, fourAt, readsOf, overCells, radiusOf, reachOf, turnOf, first, past}
+use Rattle.descriptor_patch.specs.Place.{maxRadius, Sides, Lies}
+use Rattle.descriptor_patch.specs.Rules.{Each, none, more, Fair, Used, PatchRule}
+use Rattle.descriptor_patch.specs.declared.Sample.{Sample}
+use Rattle.descriptor_patch.specs.declared.Turn.{Turn}
+use Rattle.descriptor_patch.proofs.Whole.{le-or-lt}
+use Rattle.descriptor_patch.proofs.Reach.{and-both, reach-small}
+use Rattle.descriptor_patch.proofs.Good.{good-append}
+
+-- ---- how the patch lies
+
+lies : (w h px py : ℕ) (scale angle : Float) → Sides w h → px < w → py < h → within scaleLow scaleHigh scale ≡ true → Lies w h (turnOf w h px py scale angle)
+unfolding turnOf radiusOf
+lies w h px py scale angle s a b k =
+    record { wide = s .wide; high = s .high; col = a; row = b; reach = omega (arith, reach-small scale k) }
+
+-- ---- lists of samples
+
+module _ (P : Sample → Type 0) where
+  pub each-append : (xs ys : List Sample) → Each P xs → Each P ys → Each P (xs ++ ys)
+  each-append [] ys none q = q
+  each-append (x ∷ xs) ys (more p ps) q = more p (each-append xs ys ps q)
+
+  pub each-joined : (lo hi : ℕ) (f : ℕ → List Sample) → ((c : ℕ) → lo ≤ c → c < hi → Each P (f c)) → Each P (joined lo hi f)
+  each-joined lo zero f h = rw (joined-none lo zero f (omega arith)) none
+  each-joined lo (suc hi) f h =
+      ⊎-elim
+      (λ l. rw (← add-one hi, joined-more lo hi f l) (each-append (joined lo hi f) (f hi) (each-joined lo hi f (λ c a b. h c a (omega arith))) (h hi l (omega arith))))
+      (λ l. rw (joined-none lo (suc hi) f l) none)
+      (le-or-lt lo hi)
+
+  each-where : (b : Bool) (s : Sample) → (b ≡ true → P s) → Each P (cond b (s ∷ []) [])
+  each-where true s h = more (h refl) none
+  each-where false s h = none
+
+  -- what is shown of the sample of each used cell holds of all samples
+  pub each : (img : List Float) (w h : ℕ) (t : Turn) → ((r c : ℕ) → Used w h t r c → P (sampleAt img w h t r c)) → Each P (samplesOf img w h t)
+  unfolding samplesOf overCells
+  each img w h t k =
+      each-joined _ _ _
+      (λ r a b. each-joined _ _ _ (λ c d e. each-where (usedAt t r c) _ (λ u. k r c (record { top = a; bottom = b; left = d; right = e; used = u }))))
+
+-- ---- what is read
+
+pub good-part : (lo hi i : ℕ) (f : ℕ → List Float) → allGood (joined lo hi f) ≡ true → lo ≤ i → i < hi → allGood (f i) ≡ true
+good-part lo zero i f g a b = absurd (omega arith)
+good-part lo (suc hi) i f g a b =
+    let l : lo ≤ hi = omega arith in
+    let e : (allGood (joined lo hi f) && allGood (f hi)) ≡ true = sym (good-append (joined lo hi f) (f hi)) ∙ ap allGood (sym (joined-more lo hi f l)) ∙ rw (add-one hi) g in
+    let p = and-both (allGood (joined lo hi f)) (allGood (f hi)) e in
+    ⊎-elim (λ q. rw q (p .1)) (λ m. good-part lo hi i f (p .0) a m) (eq-or-lt-of-le (le-of-suc-le-suc b))
+
+reads : (img : List Float) (w h : ℕ) (t : Turn) → allGood (readsOf img w h t) ≡ true → (r c : ℕ) → Used w h t r c → allGood (fourAt img w h r c) ≡ true
+unfolding readsOf overCells
+reads img w h t g r c u =
+    let a = good-part _ _ r _ g (u .top) (u .bottom) in
+    let b = good-part _ _ c _ a (u .left) (u .right) in
+    rw (u .used) at b
+
+-- ---- the exponent: a cell of the grid is at most 4 from the middle
+
+abbrev fiveUp : Float
+fiveUp = fin false 5 (pos 0)
+
+abbrev oneDown : Float
+oneDown = fin true 1 (pos 0)
+
+abbrev fourUp : Float
+fourUp = fin false 1 (pos 2)
+
+abbrev fourDown : Float
+fourDown = fin true 1 (pos 2)
+
+number : (x : Float) → finite x ≡ true → T (not (isNan x))
+number x f = le-number x x (bounds-point x f .low) .0
+
+-- x lies from lo to hi, where f keeps the order and f x neither reaches f hi nor falls to f lo
+held : (f : Float → Float) (lo hi x : Float) → finite lo ≡ true → finite hi ≡ true → finite x ≡ true → ((a b : Float) → finite a ≡ true → finite b ≡ true → le a b ≡ true → le (f a) (f b) ≡ true)
+    → (le (f hi) (f x) ≡ true → ⊥) → (le (f x) (f lo) ≡ true → ⊥) → Bounds lo hi x
+held f lo hi x p q r mono no-up no-down =
+    record {
+      from = p;
+      to = q;
+      low = ⊎-elim (λ l. l) (λ l. absurd (no-down (mono x lo r p (lt-le x lo l)))) (le-or-lt-float lo x (number lo p) (number x r));
+      high = ⊎-elim (λ l. l) (λ l. absurd (no-up (mono hi x q r (lt-le hi x l)))) (le-or-lt-float x hi (number x r) (number hi q));
+    }
+
+abbrev lessHalf : Float → Float
+lessHalf a = a ⊖ half
+
+half-finite : finite half ≡ true
+unfolding ofBits
+half-finite = refl
+
+half-le : le half half ≡ true
+half-le = bounds-point half half-finite .low
+
+less-half : (a b : Float) → finite a ≡ true → finite b ≡ true → le a b ≡ true → le (a ⊖ half) (b ⊖ half) ≡ true
+less-half a b p q h = sub-le binary32 a b half half p q half-finite half-finite h half-le
+
+shifted-in : (a : Float) → inGrid (a ⊖ half) ≡ true → Bounds oneDown fiveUp a
+unfolding ofBits sub add neg lt le
+shifted-in nan h = absurd (false≢true h)
+shifted-in (inf true) h = absurd (false≢true h)
+shifted-in (inf false) h = absurd (false≢true h)
+shifted-in (fin s m e) h =
+    let a = fin s m e in
+    let p = and-both (lt minusOne (a ⊖ half)) (lt (a ⊖ half) four) h in
+    held lessHalf oneDown fiveUp a refl refl refl less-half
+    (λ l. lt-not-le (a ⊖ half) four (p .1) (le-trans-float four (fiveUp ⊖ half) (a ⊖ half) refl l))
+    (λ l. lt-not-le minusOne (a ⊖ half) (p .0) (le-trans-float (a ⊖ half) (oneDown ⊖ half) minusOne l refl))
+
+two-finite : finite two ≡ true
+unfolding ofBits
+two-finite = refl
+
+two-le : le two two ≡ true
+two-le = bounds-point two two-finite .low
+
+plus-two : (a b : Float) → finite a ≡ true → finite b ≡ true → le a b ≡ true → le (a ⊕ two) (b ⊕ two) ≡ true
+plus-two a b p q h = add-le binary32 a b two two p q two-finite two-finite h two-le
+
+over-two : (a : Float) → Bounds oneDown fiveUp (a ⊕ two) → Bounds fourDown fourUp a
+unfolding ofBits add lt le
+over-two nan u = absurd (false≢true (u .low))
+over-two (inf true) u = absurd (false≢true (u .low))
+over-two (inf false) u = absurd (false≢true (u .high))
+over-two (fin s m e) u =
+    let a = fin s m e in
+    held (λ x. x ⊕ two) fourDown fourUp a refl refl refl plus-two
+    (λ l. lt-not-le fiveUp (fourUp ⊕ two) refl (le-trans-float (fourUp ⊕ two) (a ⊕ two) fiveUp l (u .high)))
+    (λ l. lt-not-le (fourDown ⊕ two) oneDown refl (le-trans-float oneDown (a ⊕ two) (fourDown ⊕ two) (u .low) l))
+
+in-grid : (a : Float) → inGrid (binOf a) ≡ true → Bounds fourDown fourUp a
+in-grid a h = over-two a (shifted-in (a ⊕ two) h)
+
+-- x * x, of an x of at most 4
+square-abs : (x : Float) → x ⊗ x ≡ absOf x ⊗ absOf x
+unfolding mul absOf
+square-abs nan = refl
+square-abs (inf true) = refl
+square-abs (inf false) = refl
+square-abs (fin true m e) = refl
+square-abs (fin false m e) = refl
+
+four-opp : Turned true fourDown fourUp
+four-opp = of-fin (turned refl)
+
+size-in : (x : Float) → Bounds fourDown fourUp x → Bounds nil fourUp (absOf x)
+unfolding absOf isNan
+size-in nan u = absurd (false≢true (bounds-finite u))
+size-in (inf s) u = absurd (false≢true (bounds-finite u))
+size-in (fin true m e) u = record { from = refl; to = refl; low = abs-nonneg (fin true m e) tt; high = le-turned {b = true} (of-fin (turned refl)) four-opp ∙ u .low }
+size-in (fin false m e) u = record { from = refl; to = refl; low = abs-nonneg (fin false m e) tt; high = u .high }
+
+square-in : (x : Float) → Bounds fourDown fourUp x → Bounds (nil ⊗ nil) (fourUp ⊗ fourUp) (x ⊗ x)
+unfolding mul le
+square-in x u = rw (square-abs x) (mul-bounds binary32 refl refl refl refl (size-in x u) (size-in x u))
+
+-- a sum of two such, times -0.125
+fall-in : (x y : Float) → Bounds fourDown fourUp x → Bounds fourDown fourUp y → inDown ((x ⊗ x ⊕ y ⊗ y) ⊗ expScale) ≡ true
+unfolding ofBits mul add le
+fall-in x y u v =
+    let q = x ⊗ x ⊕ y ⊗ y in
+    let b = add-bounds binary32 refl refl (square-in x u) (square-in y v) in
+    let w = mul-bounds binary32 refl refl refl refl b (bounds-point (f32 0x3e00_0000) refl) in
+    let z = mul-turned {a = false} {b = true} binary32 (same q) (neg-opp (f32 0x3e00_0000)) in
+    let k = bounds-wider nil (fin false 1 (pos 5)) refl refl refl refl w in
+    let l : le minus32 (q ⊗ expScale) ≡ true = le-turned {b = true} (of-fin (turned refl)) z ∙ k .high in
+    let m : le (q ⊗ expScale) nil ≡ true = le-turned {b = true} z (of-fin {s = false} (no-sign refl)) ∙ k .low in
+    rw (l, m)
+
+-- ---- differences of good samples
+
+abbrev nearest : Float
+nearest = fin true 1 (pos 21)
+
+far-opp : Turned true nearest furthest
+far-opp = of-fin (turned refl)
+
+small-of : (x : Float) → le nearest x ≡ true → le x furthest ≡ true → small (absOf x) ≡ true
+unfolding absOf isNan
+small-of nan a b = absurd (le-number nan furthest b .0)
+small-of (inf true) a b = le-turned {b = true} (of-inf refl) far-opp ∙ a
+small-of (inf false) a b = b
+small-of (fin true m e) a b = le-turned {b = true} (of-fin (turned refl)) far-opp ∙ a
+small-of (fin false m e) a b = b
+
+good-bounds : (x : Float) → goodSample x ≡ true → Bounds (neg sampleLimit) sampleLimit x
+unfolding ofBits neg
+good-bounds x h = let p = and-both (le (neg sampleLimit) x) (le x sampleLimit) h in record { from = refl; to = refl; low = p .0; high = p .1 }
+
+difference : (x y : Float) → goodSample x ≡ true → goodSample y ≡ true → small (absOf (x ⊖ y)) ≡ true
+unfolding ofBits neg sub le
+difference x y a b =
+    let u = bounds-wider nearest furthest refl refl refl refl (sub-bounds binary32 refl refl (good-bounds x a) (good-bounds y b)) in
+    small-of (x ⊖ y) (u .low) (u .high)
+
+slopes-in : (a b c d : Float) → allGood (a ∷ b ∷ c ∷ d ∷ []) ≡ true → inAngle (a ⊖ b) (c ⊖ d) ≡ true
+unfolding allGood
+slopes-in a b c d h =
+    let p = and-both (goodSample a) _ h in
+    let q = and-both (goodSample b) _ (p .1) in
+    let r = and-both (goodSample c) _ (q .1) in
+    let s = and-both (goodSample d) _ (r .1) in
+    rw (difference a b (p .0) (q .0), difference c d (r .0) (s .0))
+
+-- ---- a used cell's sample
+
+pub fair : (img : List Float) (w h : ℕ) (t : Turn) (r c : ℕ) → gridAt t r c ≡ true → allGood (fourAt img w h r c) ≡ true → Fair (sampleAt img w h t r c)
+unfolding sampleAt gridAt fourAt
+fair img w h t r c g k =
+    let p = and-both (inGrid (binOf (rotsOf t r c .row))) (inGrid (binOf (rotsOf t r c .col))) g in
+    record {
+      row = p .0;
+      col = p .1;
+      fall = fall-in (rotsOf t r c .col) (rotsOf t r c .row) (in-grid (rotsOf t r c .col) (p .1)) (in-grid (rotsOf t r c .row) (p .0));
+      slopes = slopes-in (pixel img w h r (c + 1)) (pixel img w h r (c - 1)) (pixel img w h (r - 1) c) (pixel img w h (r + 1) c) k;
+    }
+
+samples : (img : List Float) (w h : ℕ) (t : Turn) → allGood (readsOf img w h t) ≡ true → Each Fair (samplesOf img w h t)
+unfolding usedAt
+samples img w h t g =
+    each Fair img w h t
+    (λ r c u. fair img w h t r c (and-both (inRun (endsOf t r) (pos c -ℤ pos (t .px))) (gridAt t r c) (u .used) .1) (reads img w h t g r c u))
+
+pub patch-rule : PatchRule
+patch-rule = record { lies = lies; reads = reads; samples = samples }

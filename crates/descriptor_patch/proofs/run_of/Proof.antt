@@ -1,0 +1,31 @@
+use Rattle.descriptor_patch.specs.Run.{runOf}
+use borrow.Author.Needs.{needs}
+use Rattle.descriptor_patch.proofs.run_of.Statement.{statement}
+use Rattle.descriptor_patch.proofs.run_of.Tie as tie
+use Rattle.descriptor_patch.proofs.run_of.Reads as reads
+use Rattle.descriptor_patch.proofs.run_of.Lts as lts
+use Rattle.descriptor_patch.proofs.columns.Reads as columns-reads
+use Rattle.descriptor_patch.proofs.ends_of.Reads as ends-of-reads
+use Rattle.descriptor_patch.proofs.first_of.Reads as first-of-reads
+use Rattle.descriptor_patch.proofs.past_of.Reads as past-of-reads
+
+first-of-requires : tie.Need-first-of-requires
+first-of-requires c κs = search needs
+
+past-of-requires : tie.Need-past-of-requires
+past-of-requires c κs = search needs
+
+ends-of-requires : tie.Need-ends-of-requires
+ends-of-requires c κs = search needs
+
+columns-requires : tie.Need-columns-requires
+columns-requires c κs = search needs
+
+returns : tie.Need-returns
+unfolding runOf
+returns c = cc
+
+pub run-of-spec : {M : Type 1} → statement M
+run-of-spec =
+    tie.close
+    (tie.spec first-of-requires past-of-requires ends-of-requires columns-requires returns)

@@ -1,0 +1,309 @@
+// The patch of a descriptor: its radius, the cells that are read, and what a cell gives.
+
+ghost use mathlib.Core.Path.{_≡_};
+ghost use mathlib.Core.Bool.{true, cond};
+ghost use mathlib.Core.List.{[]};
+ghost use Prim.Native.Nat.{_+_, _-_, _*_, _<_, _≤_, _^_, min, max};
+ghost use lib.ListN.{length};
+ghost use lib.IntN.{pos, _-ℤ_};
+ghost use Rattle.ieee.specs.F32.{float as floatOf, floatZ};
+ghost use Rattle.params.specs.Limits.{maxSide, scaleLow, scaleHigh};
+ghost use Rattle.params.specs.Table.{within, allGood};
+ghost use Rattle.descriptor_patch.specs.Patch.{reachOf, radiusOf, turnOf, clipJ, endsOf, rotsOf, inGrid, gridAt, sampleAt, fourAt, first as firstOf, past as pastOf, readsOf};
+ghost use Rattle.descriptor_patch.specs.Run.{shifted as shiftedOf, columns as columnsOf, runOf, overRun};
+ghost use Rattle.descriptor_patch.specs.Place.{maxRadius, Sides, Lies, Around};
+
+// The ends of a row's run of columns, as distances from the position.
+pub struct Ends {
+    pub lo: f32,
+    pub hi: f32,
+}
+
+// How a patch lies on the picture: cosine and sine over the width of a cell of the grid, the radius, and the cell of the position.
+pub struct Turn {
+    pub cos: f32,
+    pub sin: f32,
+    pub radius: usize,
+    pub px: usize,
+    pub py: usize,
+}
+
+// Columns from `first` to below `past`.
+pub struct Run {
+    pub first: usize,
+    pub past: usize,
+}
+
+// A cell's place in the turned patch, in cells of the grid.
+pub struct Rots {
+    pub col: f32,
+    pub row: f32,
+}
+
+// A cell of the patch that lies in the grid: its gradient, where it lies in the grid, and the exponent of its weight.
+pub struct Sample {
+    pub dx: f32,
+    pub dy: f32,
+    pub rbin: f32,
+    pub cbin: f32,
+    pub fall: f32,
+}
+
+// ---- how the patch lies
+
+fn float(n: usize) -> f32
+    requires { ⌜ n ≤ maxSide ⌝ }
+    ensures { λ x. ⌜ x ≡ floatOf n ⌝ }
+{
+    n as f32
+}
+
+// hist_width * sqrt(2) * 5 * 0.5, rounded: at most 3 * 64 * 1.41421356 * 2.5, some 679 (`maxRadius`).
+fn reach_of(scale: f32) -> usize
+    requires { ⌜ within scaleLow scaleHigh scale ≡ true ⌝ }
+    ensures { λ r. ⌜ (r ≡ reachOf scale) × (r ≤ maxRadius) ⌝ }
+{
+    let width = 3.0 * scale;
+    std::num::truncating_f32_to_u64(ieee::round_ties_even(width * 1.41421356 * 5.0 * 0.5)) as usize
+}
+
+// The reach, but at most the picture's diagonal, cut to a whole number. A diagonal of 1024 and more is beyond every reach.
+fn radius_of(w: usize, h: usize, scale: f32) -> usize
+    requires { ⌜ Sides w h × (within scaleLow scaleHigh scale ≡ true) ⌝ }
+    ensures { λ r. ⌜ (r ≡ radiusOf w h scale) × (r ≤ maxRadius) ⌝ }
+{
+    let reach = reach_of(scale);
+    let x = float(w);
+    let y = float(h);
+    let d = ieee::sqrt(x * x + y * y);
+    if d < 1024.0 {
+        let k = std::num::truncating_f32_to_u64(d) as usize;
+        if k < reach { k } else { reach }
+    } else {
+        reach
+    }
+}
+
+// How the patch about the cell (py, px) lies.
+pub fn turn_of(w: usize, h: usize, px: usize, py: usize, scale: f32, angle: f32) -> Turn
+    requires { ⌜ Sides w h × ((px < w) × ((py < h) × (within scaleLow scaleHigh scale ≡ true))) ⌝ }
+    ensures { λ t. ⌜ (t ≡ turnOf w h px py scale angle) × Lies w h t ⌝ }
+{
+    let width = 3.0 * scale;
+    Turn {
+        cos: hal::cos(angle) / width,
+        sin: hal::sin(angle) / width,
+        radius: radius_of(w, h, scale),
+        px: px,
+        py: py,
+    }
+}
+
+// ---- the run of a row
+
+// Draws the ends in to the j with -1 < j * coef + off < 4.
+fn clip_j(coef: f32, off: f32, e: Ends) -> Ends
+    ensures { λ r. ⌜ r ≡ clipJ coef off e ⌝ }
+{
+    if coef > 0.0 {
+        Ends {
+            lo: bounds::max(e.lo, (-1.0 - off) / coef),
+            hi: bounds::min(e.hi, (4.0 - off) / coef),
+        }
+    } else if coef < 0.0 {
+        Ends {
+            lo: bounds::max(e.lo, (4.0 - off) / coef),
+            hi: bounds::min(e.hi, (-1.0 - off) / coef),
+        }
+    } else if (off > -1.0) & (off < 4.0) {
+        e
+    } else {
+        Ends { lo: 1.0, hi: 0.0 }
+    }
+}
+
+// a - b as a float.
+fn apart(a: usize, b: usize) -> f32
+    requires { ⌜ (a ≤ maxSide) × (b ≤ maxSide) ⌝ }
+    ensures { λ x. ⌜ x ≡ floatZ (pos a -ℤ pos b) ⌝ }
+{
+    (a as i32 - b as i32) as f32
+}
+
+fn ends_of(t: Turn, r: usize) -> Ends
+    requires { ⌜ (r ≤ maxSide) × ((t .py ≤ maxSide) × (t .radius ≤ maxSide)) ⌝ }
+    ensures { λ e. ⌜ e ≡ endsOf t r ⌝ }
+{
+    let i = apart(r, t.py);
+    let reach = float(t.radius);
+    let all = Ends {
+        lo: -reach,
+        hi: reach,
+    };
+    let rows = clip_j(t.sin, i * t.cos + 1.5, all);
+    clip_j(t.cos, -i * t.sin + 1.5, rows)
+}
+
+// at + z, and 0 where that is below it.
+fn shifted(at: usize, z: i32) -> usize
+    requires { ⌜ at ≤ 2 ^ 32 ⌝ }
+    ensures { λ r. ⌜ r ≡ shiftedOf at z ⌝ }
+{
+    let x = at as i64 + z as i64;
+    if x < 0 { 0 } else { x as usize }
+}
+
+fn larger(a: usize, b: usize) -> usize
+    ensures { λ r. ⌜ r ≡ max a b ⌝ }
+{
+    if a < b { b } else { a }
+}
+
+fn smaller(a: usize, b: usize) -> usize
+    ensures { λ r. ⌜ r ≡ min a b ⌝ }
+{
+    if a < b { a } else { b }
+}
+
+fn less_one(a: usize) -> usize
+    ensures { λ r. ⌜ r ≡ a - 1 ⌝ }
+{
+    if a > 0 { a - 1 } else { 0 }
+}
+
+// The first place within the radius that is not on the edge.
+pub fn first_of(at: usize, radius: usize) -> usize
+    ensures { λ r. ⌜ r ≡ firstOf at radius ⌝ }
+{
+    if radius < at { at - radius } else { 1 }
+}
+
+// The one after the last, of a side of `side`.
+pub fn past_of(at: usize, radius: usize, side: usize) -> usize
+    requires { ⌜ (at < side) × ((side ≤ maxSide) × (radius ≤ maxSide)) ⌝ }
+    ensures { λ r. ⌜ r ≡ pastOf at radius side ⌝ }
+{
+    smaller(at + radius + 1, side - 1)
+}
+
+// The run's columns among those from a to below b.
+fn columns(a: usize, b: usize, px: usize, e: Ends) -> Run
+    requires { ⌜ px ≤ maxSide ⌝ }
+    ensures { λ r. ⌜ r ≡ columnsOf a b px e ⌝ }
+{
+    if e.hi < e.lo {
+        Run { first: a, past: 0 }
+    } else {
+        let lo = shifted(px, ieee::floor_to_i32(e.lo));
+        let hi = shifted(px + 2, ieee::to_i32(-ieee::floor(-e.hi)));
+        Run {
+            first: larger(a, less_one(lo)),
+            past: smaller(b, hi),
+        }
+    }
+}
+
+// The columns of the window and of the run of row r.
+pub fn run_of(t: Turn, w: usize, r: usize) -> Run
+    requires { ⌜ (r ≤ maxSide) × ((w ≤ maxSide) × ((t .px < w) × ((t .py ≤ maxSide) × (t .radius ≤ maxSide)))) ⌝ }
+    ensures { λ e. ⌜ e ≡ runOf t w r ⌝ }
+{
+    let a = first_of(t.px, t.radius);
+    let b = past_of(t.px, t.radius, w);
+    columns(a, b, t.px, ends_of(t, r))
+}
+
+// ---- a cell
+
+fn rots_of(t: Turn, r: usize, c: usize) -> Rots
+    requires { ⌜ (r ≤ maxSide) × ((c ≤ maxSide) × ((t .py ≤ maxSide) × (t .px ≤ maxSide))) ⌝ }
+    ensures { λ p. ⌜ p ≡ rotsOf t r c ⌝ }
+{
+    let i = apart(r, t.py);
+    let j = apart(c, t.px);
+    Rots {
+        col: j * t.cos - i * t.sin,
+        row: j * t.sin + i * t.cos,
+    }
+}
+
+fn in_grid(bin: f32) -> bool
+    ensures { λ b. ⌜ b ≡ inGrid bin ⌝ }
+{
+    (bin > -1.0) & (bin < 4.0)
+}
+
+// Whether the cell (r, c) lies in the grid.
+pub fn grid_at(t: Turn, r: usize, c: usize) -> bool
+    requires { ⌜ (r ≤ maxSide) × ((c ≤ maxSide) × ((t .py ≤ maxSide) × (t .px ≤ maxSide))) ⌝ }
+    ensures { λ b. ⌜ b ≡ gridAt t r c ⌝ }
+{
+    let p = rots_of(t, r, c);
+    in_grid(p.row + 2.0 - 0.5) & in_grid(p.col + 2.0 - 0.5)
+}
+
+// The cell (r, c) as a sample.
+pub fn sample_at(img: &[f32], w: usize, h: usize, t: Turn, r: usize, c: usize) -> Sample
+    requires { ⌜ Around (length (now img)) w h r c × Lies w h t ⌝ }
+    ensures { λ s. ⌜ s ≡ sampleAt (now (img .entry)) w h t r c ⌝ }
+{
+    let p = rots_of(t, r, c);
+    Sample {
+        dx: picture::at(img, w, h, 1, 0, r, c + 1) - picture::at(img, w, h, 1, 0, r, c - 1),
+        dy: picture::at(img, w, h, 1, 0, r - 1, c) - picture::at(img, w, h, 1, 0, r + 1, c),
+        rbin: p.row + 2.0 - 0.5,
+        cbin: p.col + 2.0 - 0.5,
+        fall: (p.col * p.col + p.row * p.row) * -0.125,
+    }
+}
+
+// ---- the test of what is read
+
+fn four_good(img: &[f32], w: usize, h: usize, r: usize, c: usize) -> bool
+    requires { ⌜ Around (length (now img)) w h r c ⌝ }
+    ensures { λ b. ⌜ b ≡ allGood (fourAt (now (img .entry)) w h r c) ⌝ }
+{
+    let right = picture::good_sample(picture::at(img, w, h, 1, 0, r, c + 1));
+    let left = picture::good_sample(picture::at(img, w, h, 1, 0, r, c - 1));
+    let up = picture::good_sample(picture::at(img, w, h, 1, 0, r - 1, c));
+    let down = picture::good_sample(picture::at(img, w, h, 1, 0, r + 1, c));
+    right & (left & (up & down))
+}
+
+// The neighbours of one cell, where it is used.
+fn cell_good(img: &[f32], w: usize, h: usize, t: Turn, r: usize, c: usize) -> bool
+    requires { ⌜ Around (length (now img)) w h r c × Lies w h t ⌝ }
+    ensures { λ b. ⌜ b ≡ allGood (cond (gridAt t r c) (fourAt (now (img .entry)) w h r c) []) ⌝ }
+{
+    !grid_at(t, r, c) | four_good(img, w, h, r, c)
+}
+
+// Those of a row's columns from a to below b.
+fn row_good(img: &[f32], w: usize, h: usize, t: Turn, r: usize, a: usize, b: usize) -> bool
+    requires { ⌜ (length (now img) ≡ 1 * h * w) × (Lies w h t × ((1 ≤ r) × ((r + 1 < h) × ((1 ≤ a) × (b + 1 ≤ w))))) ⌝ }
+    ensures { λ ok. ⌜ ok ≡ allGood (overRun t r (fourAt (now (img .entry)) w h) a b) ⌝ }
+{
+    let mut ok = true;
+    let mut c = a;
+    while c < b {
+        ok = ok & cell_good(img, w, h, t, r, c);
+        c += 1;
+    }
+    ok
+}
+
+// Whether all that is read is in range.
+pub fn patch_good(img: &[f32], w: usize, h: usize, t: Turn) -> bool
+    requires { ⌜ (length (now img) ≡ 1 * h * w) × Lies w h t ⌝ }
+    ensures { λ ok. ⌜ ok ≡ allGood (readsOf (now (img .entry)) w h t) ⌝ }
+{
+    let end = past_of(t.py, t.radius, h);
+    let mut ok = true;
+    let mut r = first_of(t.py, t.radius);
+    while r < end {
+        let run = run_of(t, w, r);
+        ok = ok & row_good(img, w, h, t, r, run.first, run.past);
+        r += 1;
+    }
+    ok
+}

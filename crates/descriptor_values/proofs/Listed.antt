@@ -1,0 +1,36 @@
+-- An array that is filled from the front is the list of its values, and a sum that goes by numbers. Assumes nothing.
+use mathlib.Core.Path.{_≡_, refl, sym, ap, _∙_}
+use mathlib.Core.List.{List, [], _∷_, _++_}
+use Prim.Native.Nat.{ℕ, zero, suc, _+_, _*_, _<_, _≤_}
+use native.Mathlib.Numerals.{add-one}
+use native.Mathlib.Omega.{arith}
+use lib.ListN.{length, take, set}
+use lib.Seq.{take-suc-set, take-all}
+use lib.Ieee.{Float}
+use Rattle.ieee.specs.F32.{_⊕_, _⊗_, fused}
+use Rattle.descriptor_values.specs.Values.{at, lane, plainNorm}
+use Rattle.lists.specs.Ranges.{joined}
+use Rattle.lists.proofs.Ranges.{joined-more}
+
+-- the first n values
+abbrev pub upTo : (ℕ → Float) → ℕ → List Float
+upTo f n = joined 0 n (λ m. f m ∷ [])
+
+pub start : (f : ℕ → Float) → upTo f 0 ≡ []
+unfolding joined
+start f = refl
+
+pub listed-more : (f : ℕ → Float) (a : List Float) (n : ℕ) (v : Float) → n < length a → v ≡ f n → take n a ≡ upTo f n → take (n + 1) (set a n v) ≡ upTo f (n + 1)
+listed-more f a n v h e p =
+    ap (λ (k : ℕ). take k (set a n v)) (add-one n) ∙ take-suc-set a n v h ∙ rw (p, e) (sym (joined-more 0 n (λ m. f m ∷ []) (omega arith)))
+
+pub listed-all : (f : ℕ → Float) (a : List Float) (n m : ℕ) → length a ≡ m → m ≤ n → n ≤ m → take n a ≡ upTo f n → a ≡ upTo f m
+listed-all f a n m l h g e = let q : n ≡ m = omega arith in sym (take-all n a (omega arith)) ∙ e ∙ ap (upTo f) q
+
+pub lane-more : (v : List Float) (l n : ℕ) → lane v l (n + 1) ≡ fused (at v (4 * n + l)) (at v (4 * n + l)) (lane v l n)
+unfolding lane
+lane-more v l n = rw add-one
+
+pub plain-more : (v : List Float) (n : ℕ) → plainNorm v (n + 1) ≡ plainNorm v n ⊕ at v n ⊗ at v n
+unfolding plainNorm
+plain-more v n = rw add-one

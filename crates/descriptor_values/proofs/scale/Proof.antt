@@ -1,0 +1,29 @@
+use Rattle.descriptor_values.specs.Values.{scaleOf}
+use borrow.Author.Needs.{needs}
+use Rattle.descriptor_values.proofs.scale.Statement.{statement}
+use Rattle.descriptor_values.proofs.scale.Tie as tie
+use Rattle.descriptor_values.proofs.scale.Reads as reads
+use Rattle.descriptor_values.proofs.scale.Lts as lts
+use Rattle.bounds.proofs.max.Reads as max-reads
+use Rattle.ieee.proofs.sqrt.Reads as sqrt-reads
+use Rattle.descriptor_values.proofs.plain_sum.Reads as plain-sum-reads
+
+-- src/lib.rt:85:36
+plain-sum-requires : tie.Need-plain-sum-requires
+plain-sum-requires c κs = search needs
+
+-- src/lib.rt:85:25
+sqrt-requires : tie.Need-sqrt-requires
+sqrt-requires c κs = search needs
+
+-- src/lib.rt:85:13
+max-requires : tie.Need-max-requires
+max-requires c κs = search needs
+
+-- src/lib.rt:82:1
+returns : tie.Need-returns
+unfolding scaleOf
+returns c = cc
+
+pub scale-spec : {M : Type 1} → statement M
+scale-spec = tie.close (tie.spec plain-sum-requires sqrt-requires max-requires returns)

@@ -1,0 +1,61 @@
+-- How many keypoints cells, rows and the whole give. Assumes nothing.
+use Prim.Native.Nat.{ℕ, _-_, _*_, _≤_}
+use mathlib.Core.Path.{_≡_}
+use mathlib.Core.Bool.{Bool, true, false, cond}
+use mathlib.Core.List.{List, []}
+use native.Mathlib.Nat.{mul-le-mul, mul-one, le-trans}
+use native.Mathlib.Omega.{arith}
+use lib.ListN.{length}
+use lib.Ieee.{Float}
+use Rattle.lists.specs.Ranges.{joined}
+use Rattle.lists.proofs.Ranges.{joined-none, joined-empty, joined-bound}
+use Rattle.params.specs.Limits.{border, maxSide}
+use Rattle.params.specs.declared.Settings.{Settings}
+use Rattle.detect_refine.specs.Keypoint.{refineOf}
+use Rattle.detect_refine.specs.declared.Refined.{Refined}
+use Rattle.detect_refine.specs.declared.Refined.the-variants.{Dropped, At}
+use Rattle.detect_extrema.specs.Neighbours.{Rule, candidate}
+use Rattle.detect_extrema.specs.Scan.{kept, found, rowOf, keypoints}
+use Rattle.params.specs.Threshold.{thresholdOf}
+
+kept-one : (x : Refined) → length (kept x) ≤ 1
+kept-one Dropped = omega arith
+kept-one (At k) = omega arith
+
+chosen-one : (b : Bool) (x : Refined) → length (cond b (kept x) []) ≤ 1
+chosen-one true x = kept-one x
+chosen-one false x = omega arith
+
+module _ (rule : Rule) (d : List Float) (w h : ℕ) (s : Settings) (octave p : ℕ) where
+  pub found-one : (r c : ℕ) → length (found rule d w h s octave p r c) ≤ 1
+  unfolding found
+  found-one r c = chosen-one (candidate rule (thresholdOf (s .contrast) (s .layers)) d w h p r c) (refineOf d w h s octave p r c)
+
+  -- the cells of a row up to a column
+  pub cells-bound : (r lo hi : ℕ) → length (joined lo hi (λ c. found rule d w h s octave p r c)) ≤ hi - lo
+  cells-bound r lo hi =
+      let e : (hi - lo) * 1 ≡ hi - lo = mul-one (hi - lo) in
+      omega (arith, joined-bound 1 lo hi (λ c. found rule d w h s octave p r c) (λ c. found-one r c))
+
+  pub row-bound : (r : ℕ) → length (rowOf rule d w h s octave p r) ≤ w - border - border
+  unfolding rowOf
+  row-bound r = cells-bound r border (w - border)
+
+  -- the rows up to one
+  pub rows-bound : (lo hi : ℕ) → length (joined lo hi (λ r. rowOf rule d w h s octave p r)) ≤ (hi - lo) * (w - border - border)
+  rows-bound lo hi = joined-bound (w - border - border) lo hi (λ r. rowOf rule d w h s octave p r) (λ r. row-bound r)
+
+  -- that is few enough to number their words
+  pub rows-few : (lo hi : ℕ) → hi ≤ maxSide → w ≤ maxSide → length (joined lo hi (λ r. rowOf rule d w h s octave p r)) ≤ maxSide * maxSide
+  rows-few lo hi a b =
+      le-trans (rows-bound lo hi)
+      (mul-le-mul {n₁ = hi - lo} {m₁ = w - border - border} {n₂ = maxSide} {m₂ = maxSide} (omega arith) (omega arith))
+
+  -- a picture too small for the border
+  pub few-rows : h ≤ 2 * border → keypoints rule d w h s octave p ≡ []
+  unfolding keypoints
+  few-rows e = joined-none border (h - border) _ (omega arith)
+
+  pub few-columns : w ≤ 2 * border → keypoints rule d w h s octave p ≡ []
+  unfolding keypoints rowOf
+  few-columns e = joined-empty border (h - border) _ (λ r. joined-none border (w - border) _ (omega arith))

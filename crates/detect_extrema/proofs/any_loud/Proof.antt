@@ -1,0 +1,55 @@
+use Prim.Native.Nat.{_≤_, _-_}
+use mathlib.Core.Path.{_≡_, ap, _∙_}
+use native.Mathlib.Omega.{arith}
+use borrow.Author.Needs.{needs}
+use Rattle.detect_extrema.specs.Neighbours.{loud}
+use Rattle.detect_extrema.specs.Hints.{anyLoud}
+use Rattle.detect_extrema.proofs.Looks.{any-none, any-more, any-end}
+use Rattle.detect_extrema.proofs.any_loud.Statement.{statement}
+use Rattle.detect_extrema.proofs.any_loud.Tie as tie
+
+abbrev Inv-loop : tie.InvT-loop
+Inv-loop dog w h n threshold p r lo hi any₀ c₀ any c =
+    (lo ≤ c) × (c - lo ≤ hi - lo) × (any ≡ anyLoud threshold dog w h p r lo c)
+
+abbrev μ-loop : tie.MeasureT-loop
+μ-loop dog w h n threshold p r lo hi any₀ c₀ any c = hi - c
+
+loop-holds : tie.Need-loop-holds Inv-loop μ-loop
+loop-holds c = (omega arith, omega arith, any-none _ _ _ _ _ _ _)
+
+at-requires : tie.Need-at-requires Inv-loop μ-loop
+at-requires c κs = search needs
+
+is-loud-requires : tie.Need-is-loud-requires Inv-loop μ-loop
+is-loud-requires c κs = search needs
+
+add-c : tie.Need-add-c Inv-loop μ-loop
+add-c c = search needs
+
+loop-less : tie.Need-loop-less Inv-loop μ-loop
+loop-less c = search needs
+
+loop-again : tie.Need-loop-again Inv-loop μ-loop
+loop-again c =
+    let l = c .before .before .before .loop in
+    (omega arith, omega arith, any-more _ _ _ _ _ _ _ (l .c) _ _ (l .inv .0) (l .inv .2) (c .is-loud .ensures ∙ ap (loud _) (c .before .at .ensures)))
+
+returns : tie.Need-returns Inv-loop μ-loop
+returns c =
+    let l = c .before .loop in
+    l .inv .2 ∙ any-end _ _ _ _ _ _ _ (l .c) _ (omega arith)
+
+pub any-loud-spec : {M : Type 1} → statement M
+any-loud-spec =
+    tie.close
+    (tie.spec
+    Inv-loop
+    μ-loop
+    loop-holds
+    at-requires
+    is-loud-requires
+    add-c
+    loop-less
+    loop-again
+    returns)

@@ -1,0 +1,49 @@
+-- The keypoints of one layer, row by row, rules D2 and D17, and the words that they go out as, rule A18. Definitions only.
+use Prim.Native.Nat.{ℕ, _+_, _-_}
+use mathlib.Core.Bool.{cond}
+use mathlib.Core.List.{List, [], _∷_, _++_}
+use lib.Ieee.{Float}
+use Rattle.ieee.specs.F32.{bitsOf}
+use Rattle.lists.specs.Ranges.{joined}
+use Rattle.params.specs.Limits.{border}
+use Rattle.params.specs.Threshold.{thresholdOf}
+use Rattle.params.specs.declared.Settings.{Settings}
+use Rattle.detect_refine.specs.Keypoint.{refineOf}
+use Rattle.detect_refine.specs.declared.RawKeypoint.{RawKeypoint}
+use Rattle.detect_refine.specs.declared.Refined.{Refined}
+use Rattle.detect_refine.specs.declared.Refined.the-variants.{Dropped, At}
+use Rattle.detect_extrema.specs.Neighbours.{Rule, candidate}
+
+abbrev pub kept : Refined → List RawKeypoint
+kept Dropped = []
+kept (At k) = k ∷ []
+
+-- what the cell (p, r, c) gives: nothing, or the keypoint that it is refined to
+unfoldable pub found : Rule → List Float → ℕ → ℕ → Settings → ℕ → ℕ → ℕ → ℕ → List RawKeypoint
+found rule d w h s octave p r c =
+    cond (candidate rule (thresholdOf (s .contrast) (s .layers)) d w h p r c) (kept (refineOf d w h s octave p r c)) []
+
+-- the cells of a row from column lo to below hi, from left to right
+abbrev pub cellsOf : Rule → List Float → ℕ → ℕ → Settings → ℕ → ℕ → ℕ → ℕ → ℕ → List RawKeypoint
+cellsOf rule d w h s octave p r lo hi = joined lo hi (λ c. found rule d w h s octave p r c)
+
+-- those that are at least the border from both edges
+unfoldable pub rowOf : Rule → List Float → ℕ → ℕ → Settings → ℕ → ℕ → ℕ → List RawKeypoint
+rowOf rule d w h s octave p r = cellsOf rule d w h s octave p r border (w - border)
+
+-- the rows that are at least the border from both edges, from top to bottom
+unfoldable pub keypoints : Rule → List Float → ℕ → ℕ → Settings → ℕ → ℕ → List RawKeypoint
+keypoints rule d w h s octave p = joined border (h - border) (λ r. rowOf rule d w h s octave p r)
+
+-- a keypoint goes out as so many words
+abbrev pub keypointWords : ℕ
+keypointWords = 10
+
+-- x, y, size, response, octave, layer, xi, cc, rr and the moves
+abbrev pub wordsOf : RawKeypoint → List ℕ
+wordsOf k =
+    bitsOf (k .x) ∷ bitsOf (k .y) ∷ bitsOf (k .size) ∷ bitsOf (k .response) ∷ k .octave ∷ k .layer ∷ bitsOf (k .xi) ∷ k .cc ∷ k .rr ∷ k .moves ∷ []
+
+unfoldable pub words : List RawKeypoint → List ℕ
+words [] = []
+words (k ∷ ks) = wordsOf k ++ words ks

@@ -1,0 +1,15 @@
+use Rattle.detect_refine.proofs.Counts.{held}
+use borrow.Author.Needs.{needs}
+use Rattle.detect_refine.proofs.float.Statement.{statement}
+use Rattle.detect_refine.proofs.float.Tie as tie
+use Rattle.detect_refine.proofs.float.Reads as reads
+use Rattle.detect_refine.proofs.float.Lts as lts
+
+int-to-float-result : tie.Need-int-to-float-result
+int-to-float-result c = held _ (c .before .pre)
+
+returns : tie.Need-returns
+returns c = search needs
+
+pub float-spec : {M : Type 1} → statement M
+float-spec = tie.close (tie.spec int-to-float-result returns)

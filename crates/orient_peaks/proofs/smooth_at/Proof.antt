@@ -1,0 +1,70 @@
+use Rattle.orient_peaks.specs.Peaks.{smoothAt}
+use borrow.Author.Needs.{needs}
+use Rattle.orient_peaks.proofs.smooth_at.Statement.{statement}
+use Rattle.orient_peaks.proofs.smooth_at.Tie as tie
+use Rattle.orient_peaks.proofs.smooth_at.Reads as reads
+use Rattle.orient_peaks.proofs.smooth_at.Lts as lts
+use Rattle.ieee.proofs.mul_add.Reads as mul-add-reads
+use Rattle.orient_peaks.proofs.bin_around.Reads as bin-around-reads
+
+add-bin-around : tie.Need-add-bin-around
+add-bin-around c = search needs
+
+sub-bin-around : tie.Need-sub-bin-around
+sub-bin-around c = search needs
+
+bin-around-requires : tie.Need-bin-around-requires
+bin-around-requires c κs = search needs
+
+add-bin-around-2 : tie.Need-add-bin-around-2
+add-bin-around-2 c = search needs
+
+bin-around-requires-2 : tie.Need-bin-around-requires-2
+bin-around-requires-2 c κs = search needs
+
+add-bin-around-3 : tie.Need-add-bin-around-3
+add-bin-around-3 c = search needs
+
+sub-bin-around-2 : tie.Need-sub-bin-around-2
+sub-bin-around-2 c = search needs
+
+bin-around-requires-3 : tie.Need-bin-around-requires-3
+bin-around-requires-3 c κs = search needs
+
+add-bin-around-4 : tie.Need-add-bin-around-4
+add-bin-around-4 c = search needs
+
+bin-around-requires-4 : tie.Need-bin-around-requires-4
+bin-around-requires-4 c κs = search needs
+
+bin-around-requires-5 : tie.Need-bin-around-requires-5
+bin-around-requires-5 c κs = search needs
+
+mul-add-requires : tie.Need-mul-add-requires
+mul-add-requires c κs = search needs
+
+mul-add-requires-2 : tie.Need-mul-add-requires-2
+mul-add-requires-2 c κs = search needs
+
+returns : tie.Need-returns
+unfolding smoothAt
+returns c = cc
+
+pub smooth-at-spec : {M : Type 1} → statement M
+smooth-at-spec =
+    tie.close
+    (tie.spec
+    add-bin-around
+    sub-bin-around
+    bin-around-requires
+    add-bin-around-2
+    bin-around-requires-2
+    add-bin-around-3
+    sub-bin-around-2
+    bin-around-requires-3
+    add-bin-around-4
+    bin-around-requires-4
+    bin-around-requires-5
+    mul-add-requires
+    mul-add-requires-2
+    returns)

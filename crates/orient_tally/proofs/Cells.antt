@@ -1,0 +1,121 @@
+-- Laws of a window's cells: how many there are, where each lies, and what one more does to the tally. Assumes nothing.
+use Prim.Native.Nat.{ℕ, zero, suc, _+_, _-_, _*_, _/_, _%_, _<_, _≤_}
+use mathlib.Core.Path.{_≡_, refl, sym, ap, _∙_}
+use mathlib.Core.List.{List, [], _∷_, _++_}
+use mathlib.Core.Logic.{_⊎_, ⊎-elim}
+use native.Mathlib.Nat.{mul-le-mul-right, suc-mul, zero-mul, mul-zero, add-zero, add-suc, mod-lt, div-add-mod', div-lt-iff-lt-mul, eq-or-lt-of-le, le-of-suc-le-suc}
+use native.Mathlib.Numerals.{add-one}
+use native.Mathlib.Omega.{arith}
+use lib.ListN.{length, take, getD, length-append, length-take, List·getD-append}
+use lib.Seq.{take-suc, take-length, getD-append-add}
+use lib.Ieee.{Float}
+use Rattle.lists.specs.Ranges.{joined}
+use Rattle.lists.proofs.Ranges.{joined-start, joined-more}
+use Rattle.orient_tally.specs.Window.{Cell, cell, rowOf, cellsOf, cellsRead}
+use Rattle.orient_tally.specs.Tally.{counted, sampleOf, tallied, empty, tallyOf}
+use Rattle.orient_tally.specs.Place.{Fits, Placed, cellAt}
+use Rattle.orient_tally.specs.declared.Tally.{Tally}
+use Rattle.orient_tally.specs.declared.Sample.{Sample}
+use Rattle.orient_tally.specs.declared.Window.{Window}
+
+pub packed : {q m c w : ℕ} → q < m → c < w → q * w + c < m * w
+packed {q} {m} {c} {w} a b = omega (arith, mul-le-mul-right w a, suc-mul q w)
+
+-- ---- parts of one length, joined
+module _ {A : Type 0} (lo m : ℕ) (f : ℕ → List A) (e : (i : ℕ) → length (f i) ≡ m) where
+  one-more : (n : ℕ) → joined lo (lo + suc n) f ≡ joined lo (lo + n) f ++ f (lo + n)
+  one-more n = let z : lo + suc n ≡ (lo + n) + 1 = omega arith in rw (z, joined-more lo (lo + n) f (omega arith))
+
+  pub length-parts : (n : ℕ) → length (joined lo (lo + n) f) ≡ n * m
+  length-parts zero = rw (add-zero, joined-start lo f, zero-mul)
+  length-parts (suc n) = rw (one-more n, length-append, length-parts n, e (lo + n), suc-mul)
+
+  pub part-at : (n : ℕ) (d : A) (i j : ℕ) → i < n → j < m → getD (joined lo (lo + n) f) (i * m + j) d ≡ getD (f (lo + i)) j d
+  part-at zero d i j a b = absurd (omega arith)
+  part-at (suc n) d i j a b =
+      rw (one-more n)
+      (⊎-elim
+      (λ q. let p : i ≡ n = omega arith in let z : i * m + j ≡ length (joined lo (lo + n) f) + j = ap (λ (x : ℕ). x * m + j) p ∙ rw (length-parts n) in rw (z, getD-append-add, p))
+      (λ l. let z : i * m + j < length (joined lo (lo + n) f) = rw (length-parts n) (packed l b) in rw (List·getD-append (joined lo (lo + n) f) (f (lo + n)) d (i * m + j) z) (part-at n d i j l b))
+      (eq-or-lt-of-le (le-of-suc-le-suc a)))
+
+-- ---- the cells
+length-row : (win : Window) (y : ℕ) → length (rowOf win y) ≡ win .cols
+unfolding rowOf
+length-row win y = length-parts (win .left) 1 (λ x. cell y x ∷ []) (λ i. refl) (win .cols) ∙ omega arith
+
+-- n is the closed form: rows × columns
+pub read-is : (win : Window) → cellsRead win ≡ win .rows * win .cols
+unfolding cellsRead cellsOf
+read-is win = length-parts (win .top) (win .cols) (rowOf win) (length-row win) (win .rows)
+
+row-at : (win : Window) (y j : ℕ) (d : Cell) → j < win .cols → getD (rowOf win y) j d ≡ cell y (win .left + j)
+unfolding rowOf
+row-at win y j d h =
+    let z : j ≡ j * 1 + 0 = omega arith in
+    ap (λ (k : ℕ). getD (joined (win .left) (win .left + win .cols) (λ x. cell y x ∷ [])) k d) z
+    ∙ part-at (win .left) 1 (λ x. cell y x ∷ []) (λ i. refl) (win .cols) d j 0 h (omega arith)
+
+-- the cell in row i and column j of the window
+pub cell-in : (win : Window) (i j : ℕ) (d : Cell) → i < win .rows → j < win .cols → getD (cellsOf win) (i * win .cols + j) d ≡ cell (win .top + i) (win .left + j)
+unfolding cellsOf
+cell-in win i j d a b = part-at (win .top) (win .cols) (rowOf win) (length-row win) (win .rows) d i j a b ∙ row-at win (win .top + i) j d b
+
+pub some-cols : (r c k : ℕ) → k < r * c → 0 < c
+some-cols r zero k h = absurd (omega (arith, mul-zero r))
+some-cols r (suc c) k h = omega arith
+
+-- where the k-th cell lies
+pub cell-at : (win : Window) (k : ℕ) (d : Cell) → k < win .rows * win .cols → getD (cellsOf win) k d ≡ cellAt win k
+unfolding cellsOf
+cell-at win k d h =
+    let c = some-cols (win .rows) (win .cols) k h in
+    ap (λ (i : ℕ). getD (cellsOf win) i d) (sym (div-add-mod' k (win .cols)))
+    ∙ part-at (win .top) (win .cols) (rowOf win) (length-row win) (win .rows) d (k / win .cols) (k % win .cols) (div-lt-iff-lt-mul c .1 h) (mod-lt k c)
+    ∙ row-at win (win .top + k / win .cols) (k % win .cols) d (mod-lt k c)
+
+-- ---- the cells lie in the picture, with their neighbours
+pub placed : {len : ℕ} {win : Window} → Fits len win → (i j : ℕ) → i < win .rows → j < win .cols → Placed len win (win .top + i) (win .left + j)
+placed {len} {win} f i j a b =
+    record { whole = f .whole; up = omega arith; down = omega arith; left = omega arith; right = omega arith; rows = omega arith; cols = omega arith }
+
+pub record At (len : ℕ) (win : Window) (k : ℕ) : Type 0 where
+  pub some : 0 < win .cols
+  pub row : k / win .cols < win .rows
+  pub col : k % win .cols < win .cols
+  pub place : Placed len win (win .top + k / win .cols) (win .left + k % win .cols)
+
+pub placed-at : {len n k : ℕ} {win : Window} → Fits len win → n ≡ win .rows * win .cols → k < n → At len win k
+placed-at {len} {n} {k} {win} f e h =
+    let h′ : k < win .rows * win .cols = omega arith in
+    let c = some-cols (win .rows) (win .cols) k h′ in
+    let a = div-lt-iff-lt-mul c .1 h′ in
+    let b = mod-lt k c in
+    record { some = c; row = a; col = b; place = placed f (k / win .cols) (k % win .cols) a b }
+
+-- ---- the tally
+counted-append : (f : ℕ → Cell → Sample) (k : ℕ) (a b : List Cell) (t : Tally) → counted f k (a ++ b) t ≡ counted f (k + length a) b (counted f k a t)
+unfolding counted
+counted-append f k [] b t = rw add-zero
+counted-append f k (c ∷ a) b t = let z : k + suc (length a) ≡ (k + 1) + length a = omega arith in rw (z, counted-append f (k + 1) a b (tallied t (f k c)))
+
+-- the first k samples
+unfoldable pub after : List Float → Window → ℕ → Tally
+after img win k = counted (sampleOf img win (cellsRead win)) 0 (take k (cellsOf win)) empty
+
+pub after-none : (img : List Float) (win : Window) → empty ≡ after img win 0
+unfolding after counted
+after-none img win = refl
+
+pub after-more : (img : List Float) (win : Window) (n k : ℕ) (s : Sample) (t : Tally) → n ≡ win .rows * win .cols → k < n → s ≡ sampleOf img win n k (cellAt win k) → t ≡ tallied (after img win k) s → t ≡ after img win (k + 1)
+unfolding after counted cellsRead
+after-more img win n k s t a h p e =
+    let l : length (cellsOf win) ≡ n = read-is win ∙ sym a in
+    let h′ : k < win .rows * win .cols = omega arith in
+    let z : 0 + length (take k (cellsOf win)) ≡ k = simp length-take (omega arith) in
+    let f = sampleOf img win (length (cellsOf win)) in
+    e ∙ rw (add-one, take-suc (cellsOf win) k (cellAt win k) (omega arith), counted-append f 0 (take k (cellsOf win)) (getD (cellsOf win) k (cellAt win k) ∷ []) empty, z, cell-at win k (cellAt win k) h′, p, l)
+
+pub after-all : (img : List Float) (win : Window) (n : ℕ) → n ≡ win .rows * win .cols → after img win n ≡ tallyOf img win
+unfolding after tallyOf cellsRead
+after-all img win n a = let z : n ≡ length (cellsOf win) = a ∙ sym (read-is win) in rw (z, take-length)

@@ -1,0 +1,69 @@
+use borrow.Author.Needs.{needs}
+use Prim.Native.Nat.{_-_, _≤_}
+use Rattle.run_extract.proofs.largest.Statement.{statement}
+use Rattle.run_extract.proofs.largest.Tie as tie
+
+abbrev Inv-loop : tie.InvT-loop
+Inv-loop words at most₀ i₀ most i = i ≤ 128
+
+abbrev μ-loop : tie.MeasureT-loop
+μ-loop words at most₀ i₀ most i = 128 - i
+
+loop-holds : tie.Need-loop-holds Inv-loop μ-loop
+loop-holds c = search needs
+
+add-if1 : tie.Need-add-if1 Inv-loop μ-loop
+add-if1 c = search needs
+
+add-if1-2 : tie.Need-add-if1-2 Inv-loop μ-loop
+add-if1-2 c = search needs
+
+mul-if1 : tie.Need-mul-if1 Inv-loop μ-loop
+mul-if1 c = search needs
+
+element-copy-out-if1 : tie.Need-element-copy-out-if1 Inv-loop μ-loop
+element-copy-out-if1 c = search needs
+
+add-most : tie.Need-add-most Inv-loop μ-loop
+add-most c = search needs
+
+add-most-2 : tie.Need-add-most-2 Inv-loop μ-loop
+add-most-2 c = search needs
+
+mul-most : tie.Need-mul-most Inv-loop μ-loop
+mul-most c = search needs
+
+element-copy-out-most : tie.Need-element-copy-out-most Inv-loop μ-loop
+element-copy-out-most c = search needs
+
+add-i : tie.Need-add-i Inv-loop μ-loop
+add-i c = search needs
+
+loop-less : tie.Need-loop-less Inv-loop μ-loop
+loop-less c = search needs
+
+loop-again : tie.Need-loop-again Inv-loop μ-loop
+loop-again c = search needs
+
+returns : tie.Need-returns Inv-loop μ-loop
+returns c = search needs
+
+pub largest-spec : {M : Type 1} → statement M
+largest-spec =
+    tie.close
+    (tie.spec
+    Inv-loop
+    μ-loop
+    loop-holds
+    add-if1
+    add-if1-2
+    mul-if1
+    element-copy-out-if1
+    add-most
+    add-most-2
+    mul-most
+    element-copy-out-most
+    add-i
+    loop-less
+    loop-again
+    returns)

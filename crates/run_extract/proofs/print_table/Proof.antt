@@ -1,0 +1,53 @@
+use borrow.Author.Needs.{needs}
+use Prim.Native.Nat.{_-_, _≤_}
+use Rattle.run_extract.proofs.print_table.Statement.{statement}
+use Rattle.run_extract.proofs.print_table.Tie as tie
+
+abbrev Inv-loop : tie.InvT-loop
+Inv-loop words count i₀ i = i ≤ count
+
+abbrev μ-loop : tie.MeasureT-loop
+μ-loop words count i₀ i = count - i
+
+slice-aggregate-print : tie.Need-slice-aggregate-print Inv-loop μ-loop
+slice-aggregate-print c = search needs
+
+print-requires : tie.Need-print-requires Inv-loop μ-loop
+print-requires c κs = search needs
+
+loop-holds : tie.Need-loop-holds Inv-loop μ-loop
+loop-holds c = search needs
+
+mul-print-record : tie.Need-mul-print-record Inv-loop μ-loop
+mul-print-record c = search needs
+
+print-record-requires : tie.Need-print-record-requires Inv-loop μ-loop
+print-record-requires c κs = search needs
+
+add-i : tie.Need-add-i Inv-loop μ-loop
+add-i c = search needs
+
+loop-less : tie.Need-loop-less Inv-loop μ-loop
+loop-less c = search needs
+
+loop-again : tie.Need-loop-again Inv-loop μ-loop
+loop-again c = search needs
+
+returns : tie.Need-returns Inv-loop μ-loop
+returns c = search needs
+
+pub print-table-spec : {M : Type 1} → statement M
+print-table-spec =
+    tie.close
+    (tie.spec
+    Inv-loop
+    μ-loop
+    slice-aggregate-print
+    print-requires
+    loop-holds
+    mul-print-record
+    print-record-requires
+    add-i
+    loop-less
+    loop-again
+    returns)

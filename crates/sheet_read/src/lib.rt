@@ -2,7 +2,7 @@
 ghost use mathlib.Core.Path.{_≡_};
 ghost use mathlib.Core.List.{_∷_, [], flatMap};
 ghost use Prim.Native.Nat.{_+_, _*_, _-_, _^_, _<_, _≤_};
-ghost use lib.ListN.{length, take, drop};
+ghost use lib.ListN.{length, getD, take, drop};
 ghost use Rattle.lists.specs.Pasted.{pasted};
 ghost use Rattle.sheet.specs.Pack.{value, fields, unpack, sound};
 ghost use Rattle.sheet.specs.Layout.{edition1, headerSize, headerSlots, recordSize, headSize, frontSize, headSlots, floatSlots, valueCount};
@@ -20,9 +20,21 @@ use sheet::Read;
 // The words that are given for a record, its bytes, and those of the header.
 const READ_WORDS: usize = 139;
 
+// Of these the whole numbers, they and the floats, and all but the blank word.
+const HEAD_WORDS: usize = 5;
+
+const FRONT_WORDS: usize = 10;
+
+const PLAIN_WORDS: usize = 138;
+
 const RECORD_BYTES: usize = 154;
 
 const HEADER_BYTES: usize = 8;
+
+// Those of a record's whole numbers and floats, and the number of its values.
+const FRONT_BYTES: usize = 26;
+
+const VALUES: usize = 128;
 
 fn wide_byte(x: u8) -> u64
     ensures { λ r. ⌜ r ≡ x ⌝ }
@@ -174,14 +186,22 @@ fn sheet_right(sheet: &[u8]) -> bool
     records_right(h.width + 1, h.height + 1, h.layers, sheet, n)
 }
 
-// The blank word: whether a record's 128 bytes are all zero. They start behind the 6 bytes of its whole numbers and the 20 of its floats.
+// One of a record's 128 values. They start behind the 6 bytes of its whole numbers and the 20 of its floats.
+fn value_at(bytes: &[u8], i: usize) -> u8
+    requires { ⌜ (length (now bytes) ≡ recordSize edition1) × (i < valueCount) ⌝ }
+    ensures { λ r. ⌜ r ≡ getD (now (bytes .entry)) (frontSize + i) 0 ⌝ }
+{
+    bytes[FRONT_BYTES + i]
+}
+
+// The blank word: whether a record's 128 bytes are all zero.
 fn blank_in(bytes: &[u8]) -> u32
     requires { ⌜ length (now bytes) ≡ recordSize edition1 ⌝ }
     ensures { λ r. ⌜ r ≡ blankOf (drop frontSize (now (bytes .entry))) ⌝ }
 {
     let mut i = 0;
-    while i < 128 {
-        if bytes[26 + i] != 0 {
+    while i < VALUES {
+        if value_at(bytes, i) != 0 {
             return 0;
         }
         i += 1;
@@ -196,21 +216,30 @@ fn take_values(bytes: &[u8], out: &mut [u32], to: usize)
     ensures { λ _. ⌜ now (out .exit) ≡ pasted to (drop frontSize (now (bytes .entry))) (now (out .entry)) ⌝ }
 {
     let mut i = 0;
-    while i < 128 {
-        out[to + i] = bytes[26 + i] as u32;
+    while i < VALUES {
+        out[to + i] = value_at(bytes, i) as u32;
         i += 1;
     }
 }
 
-fn put_five(out: &mut [u32], to: usize, a: u32, b: u32, c: u32, d: u32, e: u32)
-    requires { ⌜ to + 5 ≤ length (now out) ⌝ }
-    ensures { λ _. ⌜ now (out .exit) ≡ pasted to (a ∷ b ∷ c ∷ d ∷ e ∷ []) (now (out .entry)) ⌝ }
+// Five words in a row.
+struct Five {
+    a: u32,
+    b: u32,
+    c: u32,
+    d: u32,
+    e: u32,
+}
+
+fn put_five(out: &mut [u32], to: usize, five: Five)
+    requires { ⌜ to + headWords ≤ length (now out) ⌝ }
+    ensures { λ _. ⌜ now (out .exit) ≡ pasted to (five .a ∷ five .b ∷ five .c ∷ five .d ∷ five .e ∷ []) (now (out .entry)) ⌝ }
 {
-    out[to] = a;
-    out[to + 1] = b;
-    out[to + 2] = c;
-    out[to + 3] = d;
-    out[to + 4] = e;
+    out[to] = five.a;
+    out[to + 1] = five.b;
+    out[to + 2] = five.c;
+    out[to + 3] = five.d;
+    out[to + 4] = five.e;
 }
 
 // Writes a record's whole numbers at the place `to`.
@@ -219,15 +248,14 @@ fn put_head(out: &mut [u32], to: usize, h: Head)
     requires { ⌜ HeadFits h ⌝ }
     ensures { λ _. ⌜ now (out .exit) ≡ pasted to (take headWords (headValues h)) (now (out .entry)) ⌝ }
 {
-    put_five(
-        out,
-        to,
-        h.row as u32,
-        h.column as u32,
-        h.octave as u32,
-        h.layer as u32,
-        h.code as u32,
-    );
+    let five = Five {
+        a: h.row as u32,
+        b: h.column as u32,
+        c: h.octave as u32,
+        d: h.layer as u32,
+        e: h.code as u32,
+    };
+    put_five(out, to, five);
 }
 
 // Writes a record's floats at the place `to`.
@@ -236,15 +264,14 @@ fn put_floats(out: &mut [u32], to: usize, f: Floats)
     requires { ⌜ FloatsFit f ⌝ }
     ensures { λ _. ⌜ now (out .exit) ≡ pasted to (floatValues f) (now (out .entry)) ⌝ }
 {
-    put_five(
-        out,
-        to,
-        f.x as u32,
-        f.y as u32,
-        f.size as u32,
-        f.response as u32,
-        f.angle as u32,
-    );
+    let five = Five {
+        a: f.x as u32,
+        b: f.y as u32,
+        c: f.size as u32,
+        d: f.response as u32,
+        e: f.angle as u32,
+    };
+    put_five(out, to, five);
 }
 
 // Writes both, from a record's bytes.
@@ -254,7 +281,7 @@ fn take_front(bytes: &[u8], out: &mut [u32], to: usize)
     ensures { λ _. ⌜ now (out .exit) ≡ pasted to (bytesFront (now (bytes .entry))) (now (out .entry)) ⌝ }
 {
     put_head(out, to, head_in(bytes));
-    put_floats(out, to + 5, floats_in(bytes));
+    put_floats(out, to + HEAD_WORDS, floats_in(bytes));
 }
 
 // Writes a record's words at the place `to`.
@@ -265,8 +292,8 @@ fn take_record(bytes: &[u8], out: &mut [u32], to: usize)
 {
     let blank = blank_in(bytes);
     take_front(bytes, out, to);
-    take_values(bytes, out, to + 10);
-    out[to + 138] = blank;
+    take_values(bytes, out, to + FRONT_WORDS);
+    out[to + PLAIN_WORDS] = blank;
 }
 
 // Writes the words of the first n records.

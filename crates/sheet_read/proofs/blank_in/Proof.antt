@@ -20,20 +20,18 @@ abbrev μ-loop : tie.MeasureT-loop
 
 loop-holds : tie.Need-loop-holds Inv-loop μ-loop
 loop-holds c =
-    let bs = c .args .bytes .now in
+    let bs = c .before .args .bytes .now in
     (search needs, ap allZero (take-all valueCount (drop frontSize bs) (rw length-drop (omega arith))))
 
-add-if1 : tie.Need-add-if1 Inv-loop μ-loop
-add-if1 c = search needs
-
-shared-slice-read-if1 : tie.Need-shared-slice-read-if1 Inv-loop μ-loop
-shared-slice-read-if1 c = search needs
+value-at-requires : tie.Need-value-at-requires Inv-loop μ-loop
+value-at-requires c κs = search needs
 
 returns : tie.Need-returns Inv-loop μ-loop
 returns c =
     let l = c .before .before .before .loop in
-    let s = c .before .before .before .before in
-    ap (λ (b : Bool). cond b 1 0) (sym (zeros-bad valueCount (l .i) frontSize (s .args .bytes .now) (omega arith) (omega arith) (c .if1 .taken)) ∙ l .inv .1)
+    let s = c .before .before .before .before .before in
+    let v = c .before .value-at .ensures in
+    ap (λ (b : Bool). cond b 1 0) (sym (zeros-bad valueCount (l .i) frontSize (s .args .bytes .now) (omega arith) (omega arith) (λ e. c .if1 .taken (v ∙ e))) ∙ l .inv .1)
 
 add-i : tie.Need-add-i Inv-loop μ-loop
 add-i c = search needs
@@ -44,13 +42,14 @@ loop-less c = search needs
 loop-again : tie.Need-loop-again Inv-loop μ-loop
 loop-again c =
     let l = c .before .before .before .loop in
-    let s = c .before .before .before .before in
-    (omega arith, zeros-good valueCount (l .i) frontSize (s .args .bytes .now) (omega arith) (omega arith) (c .if1 .left) ∙ l .inv .1)
+    let s = c .before .before .before .before .before in
+    let v = c .before .value-at .ensures in
+    (omega arith, zeros-good valueCount (l .i) frontSize (s .args .bytes .now) (omega arith) (omega arith) (sym v ∙ c .if1 .left) ∙ l .inv .1)
 
 returns-2 : tie.Need-returns-2 Inv-loop μ-loop
 returns-2 c =
     let l = c .before .loop in
-    let s = c .before .before in
+    let s = c .before .before .before in
     ap (λ (b : Bool). cond b 1 0) (sym (zeros-end valueCount (l .i) frontSize (s .args .bytes .now) (c .loop-test .left)) ∙ l .inv .1)
 
 pub blank-in-spec : {M : Type 1} → statement M
@@ -60,8 +59,7 @@ blank-in-spec =
     Inv-loop
     μ-loop
     loop-holds
-    add-if1
-    shared-slice-read-if1
+    value-at-requires
     returns
     add-i
     loop-less

@@ -51,7 +51,7 @@ same-length : tie.Need-same-length
 same-length c = search needs
 
 returns : tie.Need-returns
-returns c = five-set (c .args .to) (c .args .a) (c .args .b) (c .args .c) (c .args .d) (c .args .e) (c .args .out .now) (c .pre)
+returns c = five-set (c .args .to) (c .args .five .a) (c .args .five .b) (c .args .five .c) (c .args .five .d) (c .args .five .e) (c .args .out .now) (c .pre)
 
 pub put-five-spec : {M : Type 1} → statement M
 put-five-spec =

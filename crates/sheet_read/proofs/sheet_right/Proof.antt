@@ -1,4 +1,5 @@
 use mathlib.Core.Path.{sym, _∙_}
+use native.Mathlib.Omega.{arith}
 use borrow.Author.Needs.{needs}
 use borrow.Author.Tests.{not-true, not-false}
 use Rattle.sheet_read.proofs.Taken.{short-is, bad-header, bad-length, records-say}
@@ -30,7 +31,7 @@ add-if3 c = search needs
 returns-3 : tie.Need-returns-3
 returns-3 c =
     let bs = c .before .before .before .before .before .before .args .sheet .now in
-    sym (bad-length bs (c .before .before .before .header-in .result) (c .before .before .before .header-in .ensures .0) (c .if3 .taken))
+    sym (bad-length bs (c .before .before .before .header-in .result) (c .before .before .before .header-in .ensures .0) (λ e. omega (arith, c .if3 .taken, e)))
 
 add-records-right : tie.Need-add-records-right
 add-records-right c = search needs
@@ -45,7 +46,7 @@ returns-4 : tie.Need-returns-4
 returns-4 c =
     let bs = c .before .before .before .before .before .before .before .before .before .args .sheet .now in
     c .records-right .ensures
-    ∙ sym (records-say bs (c .before .before .before .before .before .before .header-in .result) (c .before .before .before .before .before .before .header-in .ensures .0) (c .before .before .before .before .before .before .before .if1 .left) (sym (c .before .before .before .before .before .header-right .ensures) ∙ not-false _ (c .before .before .before .before .if2 .left)) (c .before .before .before .if3 .left))
+    ∙ sym (records-say bs (c .before .before .before .before .before .before .header-in .result) (c .before .before .before .before .before .before .header-in .ensures .0) (c .before .before .before .before .before .before .before .if1 .left) (sym (c .before .before .before .before .before .header-right .ensures) ∙ not-false _ (c .before .before .before .before .if2 .left)) (omega (arith, c .before .before .before .if3 .left)))
 
 pub sheet-right-spec : {M : Type 1} → statement M
 sheet-right-spec =

@@ -4,7 +4,7 @@ use Prim.Native.Nat.{ℕ, _+_, _-_, _≤_}
 use native.Mathlib.Nat.{add-zero}
 use native.Mathlib.Omega.{arith}
 use borrow.Author.Needs.{needs}
-use lib.ListN.{length, take, drop, length-drop}
+use lib.ListN.{length, set, take, drop, length-drop}
 use Rattle.lists.specs.Pasted.{pasted}
 use Rattle.lists.proofs.Pasted.{pasted-none}
 use Rattle.sheet.specs.Pack.{bytes}
@@ -24,20 +24,18 @@ abbrev μ-loop : tie.MeasureT-loop
 
 loop-holds : tie.Need-loop-holds Inv-loop μ-loop
 loop-holds c =
-    let bs = c .args .bytes .now in
-    (search needs, refl, ap (λ (n : ℕ). pasted n (take valueCount (drop frontSize bs)) (c .args .out .now)) (add-zero (c .args .to)) ∙ ap (λ (t : List ℕ). pasted (c .args .to) t (c .args .out .now)) (take-all valueCount (drop frontSize bs) (rw length-drop (omega arith))))
+    let a = c .before .before .args in
+    let bs = a .bytes .now in
+    (search needs, refl, ap (λ (n : ℕ). pasted n (take valueCount (drop frontSize bs)) (a .out .now)) (add-zero (a .to)) ∙ ap (λ (t : List ℕ). pasted (a .to) t (a .out .now)) (take-all valueCount (drop frontSize bs) (rw length-drop (omega arith))))
+
+value-at-requires : tie.Need-value-at-requires Inv-loop μ-loop
+value-at-requires c κs = search needs
+
+cast-out : tie.Need-cast-out Inv-loop μ-loop
+cast-out c = search needs
 
 add-out : tie.Need-add-out Inv-loop μ-loop
 add-out c = search needs
-
-shared-slice-read-out : tie.Need-shared-slice-read-out Inv-loop μ-loop
-shared-slice-read-out c = search needs
-
-cast-out : tie.Need-cast-out Inv-loop μ-loop
-cast-out c = omega (arith, c .shared-slice-known .given (frontSize + c .before .before .loop .i))
-
-add-out-2 : tie.Need-add-out-2 Inv-loop μ-loop
-add-out-2 c = search needs
 
 mul-out : tie.Need-mul-out Inv-loop μ-loop
 mul-out c = search needs
@@ -54,11 +52,14 @@ loop-less c = search needs
 loop-again : tie.Need-loop-again Inv-loop μ-loop
 loop-again c =
     let l = c .before .before .loop in
-    let s = c .before .before .before in
+    let s = c .before .before .before .before .before in
+    let v = c .value-at .ensures in
     let room : s .args .to + valueCount ≤ length (l .out) = omega arith in (
       omega arith,
       search needs,
-      copy-turn valueCount (l .i) (s .args .to) frontSize (s .args .bytes .now) (l .out) (c .before .loop-test .taken) (omega arith) room ∙ l .inv .2,
+      ap (λ (x : ℕ). pasted (s .args .to + (l .i + 1)) (take (valueCount - (l .i + 1)) (drop (frontSize + (l .i + 1)) (s .args .bytes .now))) (set (l .out) (s .args .to + l .i) x)) v
+          ∙ copy-turn valueCount (l .i) (s .args .to) frontSize (s .args .bytes .now) (l .out) (c .before .loop-test .taken) (omega arith) room
+          ∙ l .inv .2,
     )
 
 same-length : tie.Need-same-length Inv-loop μ-loop
@@ -67,7 +68,7 @@ same-length c = search needs
 returns : tie.Need-returns Inv-loop μ-loop
 returns c =
     let l = c .before .loop in
-    let s = c .before .before in
+    let s = c .before .before .before .before in
     let e : valueCount - l .i ≡ 0 = omega arith in
     sym (pasted-none (s .args .to + l .i) (l .out)) ∙ rw e at (l .inv .2)
 
@@ -78,10 +79,9 @@ take-values-spec =
     Inv-loop
     μ-loop
     loop-holds
-    add-out
-    shared-slice-read-out
+    value-at-requires
     cast-out
-    add-out-2
+    add-out
     mul-out
     slice-write-out
     add-i

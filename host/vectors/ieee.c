@@ -1,7 +1,7 @@
 /* Vectors of the single operations of IEEE 754, from the C library and the compiler of this machine, for crates/run_ieee. No code of ours is in them.
  *
- *   gcc -O2 -ffp-contract=off -o /tmp/ieee_vectors host/vectors/ieee.c -lm
- *   /tmp/ieee_vectors > crates/run_ieee/data/vectors.bin
+ *   gcc -O2 -ffp-contract=off -o /tmp/vectors host/vectors/ieee.c -lm
+ *   /tmp/vectors > crates/run_ieee/data/vectors.bin
  *
  * data/vectors.bin is the output. Where a machine has other NaN patterns the file is the same: an answer that is not a number is written as 2143289344.
  * A record is five words of 32 bits, most significant byte first: the operation, three operands and the answer; floats by their bits, signed numbers in two's complement.

@@ -1,4 +1,4 @@
-//! The list of `descriptor_replay`, little-endian, all words u32: the mark 0x42434C33 and the number of cases; then each case: width
+//! The list of `run_descriptor`, little-endian, all words u32: the mark 0x42434C33 and the number of cases; then each case: width
 //! and height; x, y, scale and angle by their bits; the values lent, the number, the count and the samples used; the height × width
 //! samples as f32; and the lent values as they stand after the call, by their bits, each 0xA5A5A5A5 before it. A case whose samples
 //! are not as many as its shape says, or a not-a-number among its places, can't be told in this form, so number 3 is not in the list.

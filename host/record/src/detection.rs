@@ -1,4 +1,4 @@
-//! The list of `detect_replay`, little-endian: the mark 0x42434C31 and the number of cases as u32; then each case: as u32 width,
+//! The list of `run_detect`, little-endian: the mark 0x42434C31 and the number of cases as u32; then each case: as u32 width,
 //! height, planes, layer, octave, layers; as f64 contrast, edge, sigma; as u32 the words lent, the number, the count; the planes ×
 //! height × width samples as f32; as u32 the words lent once more, and all of them as they stand after the call, each 0xA5A5A5A5
 //! before it. A case whose samples are not as many as its shape says can't be told in this form, so number 3 is not in the list.

@@ -1,5 +1,5 @@
 //! record detection [SEED], record orientation [SEED], record descriptor [SEED]: writes the fixed list of stacks, of keypoints or of
-//! places that the Rattle program `detect_replay`, `orient_replay` or `descriptor_replay` replays, and a note beside it with the seed
+//! places that the Rattle program `run_detect`, `run_orient` or `run_descriptor` replays, and a note beside it with the seed
 //! and the command. Expected answers are the published Rust's; refusals are those of the table rendered a second time.
 
 mod descriptor;
@@ -29,9 +29,9 @@ fn main() -> ExitCode {
         return ExitCode::from(2);
     };
     match what.as_str() {
-        "detection" => detection::write(&data_folder("detect_replay"), seed),
-        "orientation" => orientation::write(&data_folder("orient_replay"), seed),
-        "descriptor" => descriptor::write(&data_folder("descriptor_replay"), seed),
+        "detection" => detection::write(&data_folder("run_detect"), seed),
+        "orientation" => orientation::write(&data_folder("run_orient"), seed),
+        "descriptor" => descriptor::write(&data_folder("run_descriptor"), seed),
         _ => {
             eprintln!("record: which list? detection, orientation or descriptor");
             return ExitCode::from(2);

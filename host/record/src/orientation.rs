@@ -1,4 +1,4 @@
-//! The list of `orient_replay`, little-endian, all words u32: the mark 0x42434C32 and the number of cases; then each case: width and
+//! The list of `run_orient`, little-endian, all words u32: the mark 0x42434C32 and the number of cases; then each case: width and
 //! height; the keypoint's ten words; the words lent, the number, the count and the cells read; the height × width samples as f32; and
 //! the lent words as they stand after the call, each 0xA5A5A5A5 before it. A case whose samples are not as many as its shape says, or
 //! whose keypoint has not ten words, can't be told in this form, so number 3 is not in the list.

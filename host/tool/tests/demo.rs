@@ -93,7 +93,7 @@ fn text(records: &[[u32; 138]]) -> String {
 
 #[test]
 fn the_demo_s_planes_and_text() {
-    let folder = Path::new(env!("CARGO_MANIFEST_DIR")).join("../../crates/extract_demo");
+    let folder = Path::new(env!("CARGO_MANIFEST_DIR")).join("../../crates/run_extract");
     let o = octave();
     let mut made = vec![("data/planes.bin", planes(&o))];
     if oracle::FOUND {

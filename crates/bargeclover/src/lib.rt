@@ -16,17 +16,16 @@ ghost use Rattle.sheet.specs.Writes.{frameOf, writeAnswer, writeOut};
 ghost use Rattle.sheet.specs.Reads.{readAnswer, readOut};
 ghost use Rattle.words.specs.Keypoint.{keypointIn};
 ghost use Rattle.words.specs.Oriented.{orientedIn};
-ghost use Rattle.bargeclover.specs.Given.{settingsOf};
-ghost use Rattle.bargeclover.specs.Inputs.{inputWords, wordsOut, inputsNumber, inputsLeft};
+ghost use Rattle.bargeclover.specs.Given.{settingsOf, shapeOf, sizeOf, spotOf};
+ghost use Rattle.words.specs.Inputs.{inputsNumber, inputsLeft};
 ghost use Rattle.hal.specs.Exp.{exp2Of, expOf};
 ghost use Rattle.hal.specs.Turn.{sinOf, cosOf};
 ghost use Rattle.hal.specs.Angle.{angleOf};
 ghost use Rattle.hal.specs.Magnitude.{magnitudeOf};
-use descriptor::Described;
-use descriptor_inputs::Inputs;
-use params::Answer;
+use descriptor::Spot;
 use params::Settings;
-use params::Threshold;
+use picture::Shape;
+use picture::Size;
 
 // ---- routines
 
@@ -116,49 +115,7 @@ pub extern "C" fn bargeclover_to_i32(x: u32) -> i32
     ieee::to_i32(ieee::of_bits(x))
 }
 
-// ---- answers
-
-// The number of an answer (rule A2).
-fn number_of(a: Answer) -> u32
-    ensures { λ r. ⌜ r ≡ numberOf a ⌝ }
-{
-    match a {
-        Answer::Done(_) => 0,
-        Answer::Short(_) => 7,
-        Answer::Refused(k) => k,
-    }
-}
-
-// The count beside it (rule A17).
-fn count_of(a: Answer) -> usize
-    ensures { λ r. ⌜ r ≡ countOf a ⌝ }
-{
-    match a {
-        Answer::Done(n) => n,
-        Answer::Short(n) => n,
-        Answer::Refused(_) => 0,
-    }
-}
-
 // ---- the threshold
-
-fn threshold_number(t: Threshold) -> u32
-    ensures { λ r. ⌜ r ≡ thresholdNumber t ⌝ }
-{
-    match t {
-        Threshold::Given(_) => 0,
-        Threshold::Refused(k) => k,
-    }
-}
-
-fn threshold_value(t: Threshold) -> f32
-    ensures { λ r. ⌜ r ≡ thresholdValue t ⌝ }
-{
-    match t {
-        Threshold::Given(x) => x,
-        Threshold::Refused(_) => 0.0,
-    }
-}
 
 #[no_mangle]
 pub extern "C" fn bargeclover_threshold(
@@ -170,8 +127,8 @@ pub extern "C" fn bargeclover_threshold(
     ensures { λ _. ⌜ now («threshold_bits» .exit) ≡ bitsOf (thresholdValue (thresholdAnswer contrast layers)) ⌝ }
 {
     let t = params::extrema_threshold(contrast, layers);
-    *threshold_bits = ieee::bits_of(threshold_value(t));
-    threshold_number(t)
+    *threshold_bits = ieee::bits_of(params::threshold_value(t));
+    params::threshold_number(t)
 }
 
 // ---- detection
@@ -191,9 +148,9 @@ pub extern "C" fn bargeclover_find_extrema(
     out: &mut [u32],
     count: &mut usize,
 ) -> u32
-    ensures { λ r. ⌜ r ≡ numberOf (extremaAnswer (now (dog .entry)) width height planes layer octave (settingsOf contrast edge sigma layers) (length (now (out .entry)))) ⌝ }
-    ensures { λ _. ⌜ now (count .exit) ≡ countOf (extremaAnswer (now (dog .entry)) width height planes layer octave (settingsOf contrast edge sigma layers) (length (now (out .entry)))) ⌝ }
-    ensures { λ _. ⌜ now (out .exit) ≡ extremaOut (now (dog .entry)) width height planes layer octave (settingsOf contrast edge sigma layers) (now (out .entry)) ⌝ }
+    ensures { λ r. ⌜ r ≡ numberOf (extremaAnswer (now (dog .entry)) (shapeOf width height planes) layer octave (settingsOf contrast edge sigma layers) (length (now (out .entry)))) ⌝ }
+    ensures { λ _. ⌜ now (count .exit) ≡ countOf (extremaAnswer (now (dog .entry)) (shapeOf width height planes) layer octave (settingsOf contrast edge sigma layers) (length (now (out .entry)))) ⌝ }
+    ensures { λ _. ⌜ now (out .exit) ≡ extremaOut (now (dog .entry)) (shapeOf width height planes) layer octave (settingsOf contrast edge sigma layers) (now (out .entry)) ⌝ }
 {
     let s = Settings {
         contrast: contrast,
@@ -201,9 +158,14 @@ pub extern "C" fn bargeclover_find_extrema(
         sigma: sigma,
         layers: layers,
     };
-    let a = detect::find_extrema(dog, width, height, planes, layer, octave, s, out);
-    *count = count_of(a);
-    number_of(a)
+    let t = Shape {
+        width: width,
+        height: height,
+        planes: planes,
+    };
+    let a = detect::find_extrema(dog, t, layer, octave, s, out);
+    *count = params::count_of(a);
+    params::number_of(a)
 }
 
 // ---- orientation
@@ -218,30 +180,24 @@ pub extern "C" fn bargeclover_assign_orientations(
     count: &mut usize,
     samples: &mut usize,
 ) -> u32
-    ensures { λ r. ⌜ r ≡ numberOf (orientAnswer (now (img .entry)) width height (keypointIn (now (keypoint .entry))) (length (now (out .entry))) .answer) ⌝ }
-    ensures { λ _. ⌜ now (count .exit) ≡ countOf (orientAnswer (now (img .entry)) width height (keypointIn (now (keypoint .entry))) (length (now (out .entry))) .answer) ⌝ }
-    ensures { λ _. ⌜ now (samples .exit) ≡ orientAnswer (now (img .entry)) width height (keypointIn (now (keypoint .entry))) (length (now (out .entry))) .samples ⌝ }
-    ensures { λ _. ⌜ now (out .exit) ≡ orientOut (now (img .entry)) width height (keypointIn (now (keypoint .entry))) (now (out .entry)) ⌝ }
+    ensures { λ r. ⌜ r ≡ numberOf (orientAnswer (now (img .entry)) (sizeOf width height) (keypointIn (now (keypoint .entry))) (length (now (out .entry))) .answer) ⌝ }
+    ensures { λ _. ⌜ now (count .exit) ≡ countOf (orientAnswer (now (img .entry)) (sizeOf width height) (keypointIn (now (keypoint .entry))) (length (now (out .entry))) .answer) ⌝ }
+    ensures { λ _. ⌜ now (samples .exit) ≡ orientAnswer (now (img .entry)) (sizeOf width height) (keypointIn (now (keypoint .entry))) (length (now (out .entry))) .samples ⌝ }
+    ensures { λ _. ⌜ now (out .exit) ≡ orientOut (now (img .entry)) (sizeOf width height) (keypointIn (now (keypoint .entry))) (now (out .entry)) ⌝ }
 {
     let k = words::keypoint_in(keypoint);
-    let r = orient::assign_orientations(img, width, height, k, out);
+    let s = Size {
+        width: width,
+        height: height,
+    };
+    let r = orient::assign_orientations(img, s, k, out);
     let a = r.answer;
-    *count = count_of(a);
+    *count = params::count_of(a);
     *samples = r.samples;
-    number_of(a)
+    params::number_of(a)
 }
 
 // ---- the descriptor's inputs
-
-fn put_inputs(i: Inputs, out: &mut [u32])
-    requires { ⌜ length (now out) ≡ inputWords ⌝ }
-    ensures { λ _. ⌜ now (out .exit) ≡ wordsOut i ⌝ }
-{
-    out[0] = ieee::bits_of(i.x);
-    out[1] = ieee::bits_of(i.y);
-    out[2] = ieee::bits_of(i.scale);
-    out[3] = ieee::bits_of(i.angle);
-}
 
 #[no_mangle]
 pub extern "C" fn bargeclover_descriptor_inputs(
@@ -253,47 +209,10 @@ pub extern "C" fn bargeclover_descriptor_inputs(
     ensures { λ _. ⌜ now (out .exit) ≡ inputsLeft (inputsOf (orientedIn (now (oriented .entry))) octave) (now (out .entry)) ⌝ }
 {
     let i = descriptor_inputs::descriptor_inputs(words::oriented_in(oriented), octave);
-    if i.number != 0 {
-        return i.number;
-    }
-    if out.len() != 4 {
-        return 7;
-    }
-    put_inputs(i, out);
-    0
+    words::give_inputs(i, out)
 }
 
 // ---- the descriptor
-
-fn described_number(a: Described) -> u32
-    ensures { λ r. ⌜ r ≡ describedNumber a ⌝ }
-{
-    match a {
-        Described::Done(_) => 0,
-        Described::Short => 7,
-        Described::Refused(k) => k,
-    }
-}
-
-fn described_count(a: Described) -> usize
-    ensures { λ r. ⌜ r ≡ describedCount a ⌝ }
-{
-    match a {
-        Described::Done(_) => 128,
-        Described::Short => 128,
-        Described::Refused(_) => 0,
-    }
-}
-
-fn described_used(a: Described) -> usize
-    ensures { λ r. ⌜ r ≡ usedOf a ⌝ }
-{
-    match a {
-        Described::Done(n) => n,
-        Described::Short => 0,
-        Described::Refused(_) => 0,
-    }
-}
 
 #[no_mangle]
 pub extern "C" fn bargeclover_compute_descriptor(
@@ -308,15 +227,25 @@ pub extern "C" fn bargeclover_compute_descriptor(
     count: &mut usize,
     samples: &mut usize,
 ) -> u32
-    ensures { λ r. ⌜ r ≡ describedNumber (describedOf (now (img .entry)) width height x y scale angle (length (now (out .entry)))) ⌝ }
-    ensures { λ _. ⌜ now (count .exit) ≡ describedCount (describedOf (now (img .entry)) width height x y scale angle (length (now (out .entry)))) ⌝ }
-    ensures { λ _. ⌜ now (samples .exit) ≡ usedOf (describedOf (now (img .entry)) width height x y scale angle (length (now (out .entry)))) ⌝ }
-    ensures { λ _. ⌜ now (out .exit) ≡ describedOut (now (img .entry)) width height x y scale angle (now (out .entry)) ⌝ }
+    ensures { λ r. ⌜ r ≡ describedNumber (describedOf (now (img .entry)) (sizeOf width height) (spotOf x y scale angle) (length (now (out .entry)))) ⌝ }
+    ensures { λ _. ⌜ now (count .exit) ≡ describedCount (describedOf (now (img .entry)) (sizeOf width height) (spotOf x y scale angle) (length (now (out .entry)))) ⌝ }
+    ensures { λ _. ⌜ now (samples .exit) ≡ usedOf (describedOf (now (img .entry)) (sizeOf width height) (spotOf x y scale angle) (length (now (out .entry)))) ⌝ }
+    ensures { λ _. ⌜ now (out .exit) ≡ describedOut (now (img .entry)) (sizeOf width height) (spotOf x y scale angle) (now (out .entry)) ⌝ }
 {
-    let a = descriptor::compute_descriptor(img, width, height, x, y, scale, angle, out);
-    *count = described_count(a);
-    *samples = described_used(a);
-    described_number(a)
+    let s = Size {
+        width: width,
+        height: height,
+    };
+    let p = Spot {
+        x: x,
+        y: y,
+        scale: scale,
+        angle: angle,
+    };
+    let a = descriptor::compute_descriptor(img, s, p, out);
+    *count = descriptor::count_of(a);
+    *samples = descriptor::used_of(a);
+    descriptor::number_of(a)
 }
 
 // ---- the sheet
@@ -335,8 +264,8 @@ pub extern "C" fn bargeclover_write_sheet(
     ensures { λ _. ⌜ now (out .exit) ≡ writeOut edition1 (frameOf width height layers) (now (words .entry)) (now (out .entry)) ⌝ }
 {
     let a = sheet_write::write_sheet(width, height, layers, words, out);
-    *count = count_of(a);
-    number_of(a)
+    *count = params::count_of(a);
+    params::number_of(a)
 }
 
 #[no_mangle]
@@ -357,9 +286,9 @@ pub extern "C" fn bargeclover_read_sheet(
 {
     let r = sheet_read::read_sheet(sheet, out);
     let a = r.answer;
-    *count = count_of(a);
+    *count = params::count_of(a);
     *width = r.width;
     *height = r.height;
     *layers = r.layers;
-    number_of(a)
+    params::number_of(a)
 }

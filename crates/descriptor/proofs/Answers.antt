@@ -9,14 +9,17 @@ use lib.Seq.{take-suc, take-suc-set, take-all}
 use lib.Ieee.{Float, nan}
 use Rattle.ieee.specs.F32.{bitsOf}
 use Rattle.ieee.specs.Numbers.{nought}
+use Rattle.picture.specs.declared.Size.{Size}
 use Rattle.descriptor_patch.specs.Patch.{samplesOf}
-use Rattle.descriptor_patch.specs.declared.Turn.{Turn}
+use Rattle.descriptor_patch.specs.declared.Patch.{Patch}
 use Rattle.descriptor_grid.specs.Grid.{gatheredIn, gathered}
 use Rattle.descriptor_values.specs.Places.{places}
 use Rattle.descriptor_values.specs.Values.{values, valuesOf}
 use Rattle.descriptor.specs.Place.{turnAt}
 use Rattle.descriptor.specs.Entry.{faultOf, valuesAt, wordsAt, describedOf, describedOut}
+use Rattle.descriptor.specs.declared.Spot.{Spot}
 use Rattle.descriptor.specs.declared.Described.the-variants.{Done, Short, Refused}
+use Rattle.descriptor.proofs.Checks.{turn-angle}
 
 -- ---- a list filled from the front with the bits of another's elements
 pub put-more : (v : List Float) (out : List ℕ) (n b : ℕ) → n < length v → n < length out → b ≡ bitsOf (getD v n nan) → take n out ≡ take n (map bitsOf v)
@@ -28,41 +31,41 @@ pub put-all : (v : List Float) (out : List ℕ) (n : ℕ) → length v ≤ n →
 put-all v out n h k e = sym (take-all n out k) ∙ e ∙ take-all n (map bitsOf v) (rw length-map h)
 
 -- ---- the values of what was gathered
-pub filled : (img : List Float) (w h : ℕ) (x y scale angle : Float) (t : Turn) (hist v : List Float) (out : List ℕ) → t ≡ turnAt w h x y scale angle
-    → hist ≡ gatheredIn angle (replicate places nought) (samplesOf img w h t) → v ≡ valuesOf hist → out ≡ map bitsOf v → out ≡ wordsAt img w h x y scale angle
+pub filled : (img : List Float) (s : Size) (p : Spot) (t : Patch) (hist v : List Float) (out : List ℕ) → t ≡ turnAt s p
+    → hist ≡ gatheredIn (t .angle) (replicate places nought) (samplesOf img t) → v ≡ valuesOf hist → out ≡ map bitsOf v → out ≡ wordsAt img s p
 unfolding wordsAt valuesAt gathered
-filled img w h x y scale angle t hist v out a b c d = d ∙ ap (map bitsOf) c ∙ rw (b, a)
+filled img s p t hist v out a b c d = d ∙ ap (map bitsOf) c ∙ rw (b, a, turn-angle s p)
 
 -- ---- the entry
-module _ (img : List Float) (w h : ℕ) (x y scale angle : Float) where
+module _ (img : List Float) (s : Size) (p : Spot) where
   abbrev fault : ℕ
-  fault = faultOf img w h x y scale angle
+  fault = faultOf img s p
 
   abbrev used : ℕ
-  used = length (samplesOf img w h (turnAt w h x y scale angle))
+  used = length (samplesOf img (turnAt s p))
 
-  pub answer-refused : (f room : ℕ) → f ≡ fault → (f ≡ 0 → ⊥) → Refused f ≡ describedOf img w h x y scale angle room
+  pub answer-refused : (f room : ℕ) → f ≡ fault → (f ≡ 0 → ⊥) → Refused f ≡ describedOf img s p room
   unfolding describedOf
   answer-refused zero room e n = absurd (n refl)
   answer-refused (suc f) room e n = rw (← e)
 
-  pub out-refused : (f : ℕ) (out : List ℕ) → f ≡ fault → (f ≡ 0 → ⊥) → out ≡ describedOut img w h x y scale angle out
+  pub out-refused : (f : ℕ) (out : List ℕ) → f ≡ fault → (f ≡ 0 → ⊥) → out ≡ describedOut img s p out
   unfolding describedOut
   out-refused f out e n = rw (← answer-refused f (length out) e n)
 
   module _ (fine : fault ≡ 0) where
-    pub answer-short : (room : ℕ) → (room ≡ values → ⊥) → Short ≡ describedOf img w h x y scale angle room
+    pub answer-short : (room : ℕ) → (room ≡ values → ⊥) → Short ≡ describedOf img s p room
     unfolding describedOf
     answer-short room n = rw (fine, ne-eqb room values n)
 
-    pub out-short : (out : List ℕ) → (length out ≡ values → ⊥) → out ≡ describedOut img w h x y scale angle out
+    pub out-short : (out : List ℕ) → (length out ≡ values → ⊥) → out ≡ describedOut img s p out
     unfolding describedOut
     out-short out n = rw (← answer-short (length out) n)
 
-    pub answer-done : (n room : ℕ) → n ≡ used → room ≡ values → Done n ≡ describedOf img w h x y scale angle room
+    pub answer-done : (n room : ℕ) → n ≡ used → room ≡ values → Done n ≡ describedOf img s p room
     unfolding describedOf
     answer-done n room e r = rw (fine, eq-eqb room values r, e)
 
-    pub out-done : (n : ℕ) (out new : List ℕ) → n ≡ used → length out ≡ values → new ≡ wordsAt img w h x y scale angle → new ≡ describedOut img w h x y scale angle out
+    pub out-done : (n : ℕ) (out new : List ℕ) → n ≡ used → length out ≡ values → new ≡ wordsAt img s p → new ≡ describedOut img s p out
     unfolding describedOut
     out-done n out new e r v = rw (← answer-done n (length out) e r) v

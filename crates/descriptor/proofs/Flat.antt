@@ -13,6 +13,7 @@ use lib.Seq.{getD-append-add}
 use lib.IntN.{pos, _-ℤ_}
 use lib.Ieee.{Float, nan, ofBits, neg, le}
 use lib.Ieee.Scale.{finite}
+use Rattle.lists.proofs.Bools.{and-both}
 use Rattle.ieee.specs.F32.{_=ᶠ_}
 use Rattle.ieee.specs.Numbers.{nought}
 use Rattle.ieee_laws.proofs.Monotone.{nil}
@@ -21,12 +22,12 @@ use Rattle.lists.specs.Ranges.{joined}
 use Rattle.lists.proofs.Ranges.{joined-more}
 use Rattle.params.specs.Limits.{sampleLimit}
 use Rattle.params.specs.Table.{goodSample, allGood}
-use Rattle.descriptor_patch.specs.Patch.{pixel, endsOf, inRun, gridAt, first, past, usedAt, sampleAt, fourAt, overCells, samplesOf, readsOf}
+use Rattle.picture.specs.Picture.{pixel, slopeAt, fourAt, firstIn, pastIn}
+use Rattle.descriptor_patch.specs.Patch.{endsOf, inRun, gridAt, usedAt, sampleAt, overCells, samplesOf, readsOf}
 use Rattle.descriptor_patch.specs.Rules.{Used}
-use Rattle.descriptor_patch.specs.declared.Turn.{Turn}
-use Rattle.descriptor_grid_laws.proofs.Parts.{sub-level}
+use Rattle.descriptor_patch.specs.declared.Patch.{Patch}
+use Rattle.descriptor_laws.proofs.Parts.{sub-level}
 use Rattle.descriptor.specs.Nothing.{Level}
-use Rattle.descriptor.proofs.Checks.{and-both}
 
 -- ---- a part of what is level is level
 level-front : (a b : List Float) → Level (a ++ b) → Level a
@@ -47,7 +48,7 @@ level-part lo (suc hi) i f a b s =
     (λ m. level-part lo hi i f a m (level-front (joined lo hi f) (f hi) t))
     (eq-or-lt-of-le (le-of-suc-le-suc b))
 
-pub used-grid : (t : Turn) (r c : ℕ) → usedAt t r c ≡ true → gridAt t r c ≡ true
+pub used-grid : (t : Patch) (r c : ℕ) → usedAt t r c ≡ true → gridAt t r c ≡ true
 unfolding usedAt
 used-grid t r c e = and-both (inRun (endsOf t r) (pos c -ℤ pos (t .px))) (gridAt t r c) e .1
 
@@ -65,26 +66,27 @@ good-finite v g =
     let b = and-both (le (neg sampleLimit) v) (le v sampleLimit) g in
     bounds-finite (record { from = limits .0; to = limits .1; low = b .0; high = b .1 })
 
-module _ (img : List Float) (w h : ℕ) (t : Turn) where
-  level-used : Level (readsOf img w h t) → (r c : ℕ) → Used w h t r c → Level (fourAt img w h r c)
+module _ (img : List Float) (t : Patch) where
+  level-used : Level (readsOf img t) → (r c : ℕ) → Used t r c → Level (fourAt img (t .size .width) r c)
   unfolding readsOf overCells
   level-used s r c u =
-      let row : Level (joined (first (t .px) (t .radius)) (past (t .px) (t .radius) w) (λ c. cond (usedAt t r c) (fourAt img w h r c) [])) =
-      level-part (first (t .py) (t .radius)) (past (t .py) (t .radius) h) r _ (u .top) (u .bottom) s in
-      let cell : Level (cond (usedAt t r c) (fourAt img w h r c) []) =
-      level-part (first (t .px) (t .radius)) (past (t .px) (t .radius) w) c (λ c. cond (usedAt t r c) (fourAt img w h r c) []) (u .left) (u .right) row in
-      subst (λ (b : Bool). Level (cond b (fourAt img w h r c) [])) (u .used) cell
+      let row : Level (joined (firstIn (t .px) (t .radius)) (pastIn (t .px) (t .radius) (t .size .width)) (λ c. cond (usedAt t r c) (fourAt img (t .size .width) r c) [])) =
+      level-part (firstIn (t .py) (t .radius)) (pastIn (t .py) (t .radius) (t .size .height)) r _ (u .top) (u .bottom) s in
+      let cell : Level (cond (usedAt t r c) (fourAt img (t .size .width) r c) []) =
+      level-part (firstIn (t .px) (t .radius)) (pastIn (t .px) (t .radius) (t .size .width)) c (λ c. cond (usedAt t r c) (fourAt img (t .size .width) r c) []) (u .left) (u .right) row in
+      subst (λ (b : Bool). Level (cond b (fourAt img (t .size .width) r c) [])) (u .used) cell
 
   -- about a used cell of a level patch: the differences of its neighbours are zeros
-  pub no-slope : Level (readsOf img w h t) → (r c : ℕ) → Used w h t r c → allGood (fourAt img w h r c) ≡ true
-      → ((sampleAt img w h t r c .dx =ᶠ nought) ≡ true) × ((sampleAt img w h t r c .dy =ᶠ nought) ≡ true)
-  unfolding fourAt allGood sampleAt
+  pub no-slope : Level (readsOf img t) → (r c : ℕ) → Used t r c → allGood (fourAt img (t .size .width) r c) ≡ true
+      → ((sampleAt img t r c .dx =ᶠ nought) ≡ true) × ((sampleAt img t r c .dy =ᶠ nought) ≡ true)
+  unfolding fourAt allGood sampleAt slopeAt
   no-slope s r c u g =
+      let w = t .size .width in
       let f = level-used s r c u in
-      let a = and-both (goodSample (pixel img w h r (c + 1))) _ g in
-      let b = and-both (goodSample (pixel img w h r (c - 1))) _ (a .1) in
-      let d = and-both (goodSample (pixel img w h (r - 1) c)) _ (b .1) in
-      (rw nought-is (sub-level (pixel img w h r (c + 1)) (pixel img w h r (c - 1)) (good-finite _ (a .0)) (f 0 1 (omega arith) (omega arith))), rw nought-is (sub-level (pixel img w h (r - 1) c) (pixel img w h (r + 1) c) (good-finite _ (d .0)) (f 2 3 (omega arith) (omega arith))))
+      let a = and-both (goodSample (pixel img w r (c + 1))) _ g in
+      let b = and-both (goodSample (pixel img w r (c - 1))) _ (a .1) in
+      let d = and-both (goodSample (pixel img w (r - 1) c)) _ (b .1) in
+      (rw nought-is (sub-level (pixel img w r (c + 1)) (pixel img w r (c - 1)) (good-finite _ (a .0)) (f 0 1 (omega arith) (omega arith))), rw nought-is (sub-level (pixel img w (r - 1) c) (pixel img w (r + 1) c) (good-finite _ (d .0)) (f 2 3 (omega arith) (omega arith))))
 
 -- ---- four for one
 module _ {A B : Type 0} where
@@ -97,7 +99,7 @@ module _ {A B : Type 0} where
   four-joined lo zero f g e = refl
   four-joined lo (suc hi) f g e = four-where (leb lo hi) (joined lo hi f ++ f hi) (joined lo hi g ++ g hi) (simp length-append (omega (arith, four-joined lo hi f g e, e hi)))
 
-pub read : (img : List Float) (w h : ℕ) (t : Turn) → length (readsOf img w h t) ≡ 4 * length (samplesOf img w h t)
+pub read : (img : List Float) (t : Patch) → length (readsOf img t) ≡ 4 * length (samplesOf img t)
 unfolding readsOf samplesOf overCells fourAt
-read img w h t =
-    four-joined _ _ _ _ (λ r. four-joined _ _ _ _ (λ c. four-where (usedAt t r c) (fourAt img w h r c) (sampleAt img w h t r c ∷ []) refl))
+read img t =
+    four-joined _ _ _ _ (λ r. four-joined _ _ _ _ (λ c. four-where (usedAt t r c) (fourAt img (t .size .width) r c) (sampleAt img t r c ∷ []) refl))

@@ -1,5 +1,5 @@
--- What is known of arguments that passed the checks. Definitions only.
-use Prim.Native.Nat.{ℕ, _*_, _<_}
+-- Inner: what is known of arguments that passed the checks, no part of what a caller is promised. Definitions only.
+use Prim.Native.Nat.{_*_, _<_}
 use mathlib.Core.Path.{_≡_}
 use mathlib.Core.Bool.{true}
 use mathlib.Core.List.{List}
@@ -8,20 +8,22 @@ use lib.Ieee.{Float}
 use Rattle.ieee.specs.Numbers.{nought, wholeTurn}
 use Rattle.params.specs.Limits.{scaleLow, scaleHigh}
 use Rattle.params.specs.Table.{within, allGood}
+use Rattle.picture.specs.declared.Size.{Size}
 use Rattle.descriptor_patch.specs.Patch.{cellOf, readsOf}
-use Rattle.descriptor_patch.specs.Place.{Sides, Lies}
+use Rattle.descriptor_patch.specs.Place.{Sides}
 use Rattle.descriptor.specs.Place.{cellAt, turnAt}
+use Rattle.descriptor.specs.declared.Spot.{Spot}
 
 -- the position, the scale and the angle, up to number 5
-pub record Aimed (w h : ℕ) (x y scale angle : Float) : Type 0 where
-  pub sides : Sides w h
-  pub column : cellAt (cellOf x) < w
-  pub row : cellAt (cellOf y) < h
-  pub sized : within scaleLow scaleHigh scale ≡ true
-  pub turned : within nought wholeTurn angle ≡ true
+pub record Aimed (s : Size) (p : Spot) : Type 0 where
+  pub sides : Sides s
+  pub column : cellAt (cellOf (p .x)) < s .width
+  pub row : cellAt (cellOf (p .y)) < s .height
+  pub sized : within scaleLow scaleHigh (p .scale) ≡ true
+  pub turned : within nought wholeTurn (p .angle) ≡ true
 
 -- and the picture too
-pub record Ready (img : List Float) (w h : ℕ) (x y scale angle : Float) : Type 0 where
-  pub whole : length img ≡ h * w
-  pub aimed : Aimed w h x y scale angle
-  pub good : allGood (readsOf img w h (turnAt w h x y scale angle)) ≡ true
+pub record Ready (img : List Float) (s : Size) (p : Spot) : Type 0 where
+  pub whole : length img ≡ s .height * s .width
+  pub aimed : Aimed s p
+  pub good : allGood (readsOf img (turnAt s p)) ≡ true

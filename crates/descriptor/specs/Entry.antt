@@ -8,10 +8,12 @@ use lib.Ieee.{Float}
 use Rattle.ieee.specs.F32.{bitsOf}
 use Rattle.params.specs.Table.{line, firstFault, shapeWrong, lengthWrong, allGood}
 use Rattle.params.specs.Answers.{onFault}
+use Rattle.picture.specs.declared.Size.{Size}
 use Rattle.descriptor_patch.specs.Patch.{samplesOf, readsOf}
 use Rattle.descriptor_grid.specs.Grid.{gathered}
 use Rattle.descriptor_values.specs.Values.{values, valuesOf}
 use Rattle.descriptor.specs.Place.{spotWrong, turnWrong, turnAt}
+use Rattle.descriptor.specs.declared.Spot.{Spot}
 use Rattle.descriptor.specs.declared.Described.{Described}
 use Rattle.descriptor.specs.declared.Described.the-variants.{Done, Short, Refused}
 
@@ -32,29 +34,29 @@ usedOf Short = 0
 usedOf (Refused k) = 0
 
 -- the checks in the order of the table (rule A3), before that of room; 2 and 4 have no argument here. Only the four neighbours of each sample are tested.
-unfoldable pub faultOf : List Float → ℕ → ℕ → Float → Float → Float → Float → ℕ
-faultOf img w h x y scale angle =
+unfoldable pub faultOf : List Float → Size → Spot → ℕ
+faultOf img s p =
     firstFault
-    (line 1 (shapeWrong w h)
-    ∷ line 3 (lengthWrong (length img) (h * w))
-    ∷ line 5 (spotWrong w h x y || turnWrong scale angle)
-    ∷ line 6 (not (allGood (readsOf img w h (turnAt w h x y scale angle))))
+    (line 1 (shapeWrong (s .width) (s .height))
+    ∷ line 3 (lengthWrong (length img) (s .height * s .width))
+    ∷ line 5 (spotWrong s p || turnWrong p)
+    ∷ line 6 (not (allGood (readsOf img (turnAt s p))))
     ∷ [])
 
 -- the answer, at `room` places lent: exactly 128 are wanted (rule A14)
-unfoldable pub describedOf : List Float → ℕ → ℕ → Float → Float → Float → Float → ℕ → Described
-describedOf img w h x y scale angle room =
-    onFault (faultOf img w h x y scale angle)
-    (cond (eqb room values) (Done (length (samplesOf img w h (turnAt w h x y scale angle)))) Short)
-    (Refused (faultOf img w h x y scale angle))
+unfoldable pub describedOf : List Float → Size → Spot → ℕ → Described
+describedOf img s p room =
+    onFault (faultOf img s p)
+    (cond (eqb room values) (Done (length (samplesOf img (turnAt s p)))) Short)
+    (Refused (faultOf img s p))
 
 -- the values of a patch that is accepted
-unfoldable pub valuesAt : List Float → ℕ → ℕ → Float → Float → Float → Float → List Float
-valuesAt img w h x y scale angle = valuesOf (gathered angle (samplesOf img w h (turnAt w h x y scale angle)))
+unfoldable pub valuesAt : List Float → Size → Spot → List Float
+valuesAt img s p = valuesOf (gathered (p .angle) (samplesOf img (turnAt s p)))
 
 -- and as they are written: each by its bits
-unfoldable pub wordsAt : List Float → ℕ → ℕ → Float → Float → Float → Float → List ℕ
-wordsAt img w h x y scale angle = map bitsOf (valuesAt img w h x y scale angle)
+unfoldable pub wordsAt : List Float → Size → Spot → List ℕ
+wordsAt img s p = map bitsOf (valuesAt img s p)
 
 -- `new` where the answer is done, and on any refusal what stood there
 abbrev pub landed : Described → List ℕ → List ℕ → List ℕ
@@ -63,6 +65,6 @@ landed Short new old = old
 landed (Refused k) new old = old
 
 -- the lent words afterwards
-unfoldable pub describedOut : List Float → ℕ → ℕ → Float → Float → Float → Float → List ℕ → List ℕ
-describedOut img w h x y scale angle out =
-    landed (describedOf img w h x y scale angle (length out)) (wordsAt img w h x y scale angle) out
+unfoldable pub describedOut : List Float → Size → Spot → List ℕ → List ℕ
+describedOut img s p out =
+    landed (describedOf img s p (length out)) (wordsAt img s p) out

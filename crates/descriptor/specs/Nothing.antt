@@ -1,4 +1,4 @@
--- Nothing and zero (rule P18). A descriptor can be 128 zeros for two reasons: no cell of its patch lay where it can be read, or all that was read is level. The number of samples
+-- Law: Nothing and zero (rule P18). A descriptor can be 128 zeros for two reasons: no cell of its patch lay where it can be read, or all that was read is level. The number of samples
 -- beside the values always says which: 0 for nothing read, above 0 for anything else. This is said of what `compute_descriptor` answers and leaves in the lent words,
 -- for every call that is accepted. proofs/Nothing.antt proves it. Definitions only.
 use Prim.Native.Nat.{ℕ, _*_, _<_}
@@ -8,9 +8,11 @@ use mathlib.Core.List.{List, []}
 use lib.ListN.{length, getD, replicate}
 use lib.Ieee.{Float, nan}
 use Rattle.ieee.specs.F32.{_=ᶠ_}
+use Rattle.picture.specs.declared.Size.{Size}
 use Rattle.descriptor_patch.specs.Patch.{readsOf}
 use Rattle.descriptor_values.specs.Values.{values}
 use Rattle.descriptor.specs.Place.{turnAt}
+use Rattle.descriptor.specs.declared.Spot.{Spot}
 use Rattle.descriptor.specs.Entry.{faultOf, usedOf, describedOf, describedOut}
 
 -- all samples of a list are equal as numbers: +0 beside −0 is level too
@@ -22,18 +24,18 @@ abbrev pub zeros : List ℕ
 zeros = replicate values 0
 
 -- a call, and the words lent for it
-module _ (img : List Float) (w h : ℕ) (x y scale angle : Float) (out : List ℕ) where
+module _ (img : List Float) (s : Size) (p : Spot) (out : List ℕ) where
   -- what is read of the picture: the four neighbours of each sample of the patch
   abbrev pub read : List Float
-  read = readsOf img w h (turnAt w h x y scale angle)
+  read = readsOf img (turnAt s p)
 
   -- the number of samples that is answered
   abbrev pub samples : ℕ
-  samples = usedOf (describedOf img w h x y scale angle (length out))
+  samples = usedOf (describedOf img s p (length out))
 
   -- the lent words afterwards
   abbrev pub left : List ℕ
-  left = describedOut img w h x y scale angle out
+  left = describedOut img s p out
 
   pub record Told : Type 0 where
     -- where nothing is read: no sample, and zeros
@@ -47,4 +49,4 @@ module _ (img : List Float) (w h : ℕ) (x y scale angle : Float) (out : List �
 
 pub record NothingRule : Type 0 where
   -- for every call that is accepted, with the 128 places that it asks for
-  pub told : (img : List Float) (w h : ℕ) (x y scale angle : Float) (out : List ℕ) → faultOf img w h x y scale angle ≡ 0 → length out ≡ values → Told img w h x y scale angle out
+  pub told : (img : List Float) (s : Size) (p : Spot) (out : List ℕ) → faultOf img s p ≡ 0 → length out ≡ values → Told img s p out

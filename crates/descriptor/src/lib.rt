@@ -1,6 +1,7 @@
 // The descriptor: 128 values from the gradients of a turned patch, and how many samples they were made of.
 
-use descriptor_patch::Turn;
+use descriptor_patch::Patch;
+use picture::Size;
 ghost use mathlib.Core.Path.{_≡_};
 ghost use mathlib.Core.List.{map};
 ghost use Prim.Native.Nat.{_+_, _*_, _<_, _≤_};
@@ -10,8 +11,19 @@ ghost use Rattle.descriptor_patch.specs.Patch.{samplesOf};
 ghost use Rattle.descriptor_patch.specs.Place.{Lies};
 ghost use Rattle.descriptor_values.specs.Values.{values as wanted};
 ghost use Rattle.descriptor.specs.Place.{onSide, cellAt, spotWrong, turnWrong, turnAt};
-ghost use Rattle.descriptor.specs.Entry.{faultOf, wordsAt, describedOf, describedOut};
+ghost use Rattle.descriptor.specs.Entry.{numberOf, countOf, usedOf, faultOf, wordsAt, describedOf, describedOut};
 ghost use Rattle.descriptor.specs.Accepted.{Aimed, Ready};
+
+// Where a descriptor is asked for: a position in cells of the picture, the scale there, and the angle in degrees that the patch is turned by.
+pub struct Spot {
+    pub x: f32,
+    pub y: f32,
+    pub scale: f32,
+    pub angle: f32,
+}
+
+// How many values a descriptor has.
+const VALUES: usize = 128;
 
 // What `compute_descriptor` answers: done, with the samples used; not 128 places lent; or refused, by its number (rule A2).
 pub enum Described {
@@ -39,49 +51,50 @@ fn cell_at(z: i32) -> usize
 }
 
 // The position is not finite, or its cell lies outside the picture.
-fn spot_wrong(w: usize, h: usize, x: f32, y: f32) -> bool
-    ensures { λ b. ⌜ b ≡ spotWrong w h x y ⌝ }
+fn spot_wrong(s: Size, p: Spot) -> bool
+    ensures { λ b. ⌜ b ≡ spotWrong s p ⌝ }
 {
-    !(ieee::is_finite(x)
-        & (ieee::is_finite(y)
-            & (on_side(w, ieee::round_to_i32(x)) & on_side(h, ieee::round_to_i32(y)))))
+    !(ieee::is_finite(p.x)
+        & (ieee::is_finite(p.y)
+            & (on_side(s.width, ieee::round_to_i32(p.x))
+                & on_side(s.height, ieee::round_to_i32(p.y)))))
 }
 
 // The scale is outside 0.125 to 64, or the angle outside 0 to 360.
-fn turn_wrong(scale: f32, angle: f32) -> bool
-    ensures { λ b. ⌜ b ≡ turnWrong scale angle ⌝ }
+fn turn_wrong(p: Spot) -> bool
+    ensures { λ b. ⌜ b ≡ turnWrong p ⌝ }
 {
-    !(((0.125 <= scale) & (scale <= 64.0)) & ((0.0 <= angle) & (angle <= 360.0)))
+    !(((0.125 <= p.scale) & (p.scale <= 64.0)) & ((0.0 <= p.angle) & (p.angle <= 360.0)))
 }
 
 // How the patch lies.
-fn turn_at(w: usize, h: usize, x: f32, y: f32, scale: f32, angle: f32) -> Turn
-    requires { ⌜ Aimed w h x y scale angle ⌝ }
-    ensures { λ t. ⌜ (t ≡ turnAt w h x y scale angle) × Lies w h t ⌝ }
+fn turn_at(s: Size, p: Spot) -> Patch
+    requires { ⌜ Aimed s p ⌝ }
+    ensures { λ t. ⌜ (t ≡ turnAt s p) × Lies t ⌝ }
 {
-    let px = cell_at(ieee::round_to_i32(x));
-    let py = cell_at(ieee::round_to_i32(y));
-    descriptor_patch::turn_of(w, h, px, py, scale, angle)
+    let px = cell_at(ieee::round_to_i32(p.x));
+    let py = cell_at(ieee::round_to_i32(p.y));
+    descriptor_patch::patch_of(s, px, py, p.scale, p.angle)
 }
 
 // The first fault in the order of the table, 0 for none; room is tested later.
-fn fault_of(img: &[f32], w: usize, h: usize, x: f32, y: f32, scale: f32, angle: f32) -> u32
-    ensures { λ b. ⌜ b ≡ faultOf (now (img .entry)) w h x y scale angle ⌝ }
-    ensures { λ b. ⌜ (b ≡ 0 → Ready (now (img .entry)) w h x y scale angle) ⌝ }
+fn fault_of(img: &[f32], s: Size, p: Spot) -> u32
+    ensures { λ b. ⌜ b ≡ faultOf (now (img .entry)) s p ⌝ }
+    ensures { λ b. ⌜ (b ≡ 0 → Ready (now (img .entry)) s p) ⌝ }
 {
-    if params::shape_wrong(w, h) {
+    if params::shape_wrong(s.width, s.height) {
         return 1;
     }
-    if img.len() != h * w {
+    if img.len() != s.height * s.width {
         return 3;
     }
-    if spot_wrong(w, h, x, y) {
+    if spot_wrong(s, p) {
         return 5;
     }
-    if turn_wrong(scale, angle) {
+    if turn_wrong(p) {
         return 5;
     }
-    if descriptor_patch::patch_good(img, w, h, turn_at(w, h, x, y, scale, angle)) {
+    if descriptor_patch::patch_good(img, turn_at(s, p)) {
         0
     } else {
         6
@@ -103,23 +116,14 @@ fn put(v: &[f32; 128], out: &mut [u32])
 }
 
 // The values of the patch by their bits, and the number of its samples.
-fn fill(
-    img: &[f32],
-    w: usize,
-    h: usize,
-    x: f32,
-    y: f32,
-    scale: f32,
-    angle: f32,
-    out: &mut [u32],
-) -> usize
-    requires { ⌜ Ready (now img) w h x y scale angle × (length (now out) ≡ wanted) ⌝ }
-    ensures { λ n. ⌜ n ≡ length (samplesOf (now (img .entry)) w h (turnAt w h x y scale angle)) ⌝ }
-    ensures { λ _. ⌜ now (out .exit) ≡ wordsAt (now (img .entry)) w h x y scale angle ⌝ }
+fn fill(img: &[f32], s: Size, p: Spot, out: &mut [u32]) -> usize
+    requires { ⌜ Ready (now img) s p × (length (now out) ≡ wanted) ⌝ }
+    ensures { λ n. ⌜ n ≡ length (samplesOf (now (img .entry)) (turnAt s p)) ⌝ }
+    ensures { λ _. ⌜ now (out .exit) ≡ wordsAt (now (img .entry)) s p ⌝ }
 {
     let mut hist = [0.0; 360];
-    let t = turn_at(w, h, x, y, scale, angle);
-    let used = descriptor_gather::gather(img, w, h, t, angle, &mut hist);
+    let t = turn_at(s, p);
+    let used = descriptor_gather::gather(img, t, &mut hist);
     let v = descriptor_values::values(&hist);
     put(&v, out);
     used
@@ -127,25 +131,51 @@ fn fill(
 
 // The 128 values of the patch about a position, each by its bits, and the number of its samples. The values are lent as words and not as floats: a lent word is all its
 // bits, so that a refusal leaves even the payload of a not-a-number as it stood.
-pub fn compute_descriptor(
-    img: &[f32],
-    w: usize,
-    h: usize,
-    x: f32,
-    y: f32,
-    scale: f32,
-    angle: f32,
-    out: &mut [u32],
-) -> Described
-    ensures { λ a. ⌜ a ≡ describedOf (now (img .entry)) w h x y scale angle (length (now (out .entry))) ⌝ }
-    ensures { λ _. ⌜ now (out .exit) ≡ describedOut (now (img .entry)) w h x y scale angle (now (out .entry)) ⌝ }
+pub fn compute_descriptor(img: &[f32], s: Size, p: Spot, out: &mut [u32]) -> Described
+    ensures { λ a. ⌜ a ≡ describedOf (now (img .entry)) s p (length (now (out .entry))) ⌝ }
+    ensures { λ _. ⌜ now (out .exit) ≡ describedOut (now (img .entry)) s p (now (out .entry)) ⌝ }
 {
-    let fault = fault_of(img, w, h, x, y, scale, angle);
+    let fault = fault_of(img, s, p);
     if fault != 0 {
         return Described::Refused(fault);
     }
     if out.len() != 128 {
         return Described::Short;
     }
-    Described::Done(fill(img, w, h, x, y, scale, angle, out))
+    Described::Done(fill(img, s, p, out))
+}
+
+// ---- what an answer says
+
+// The number of an answer (rule A2).
+pub fn number_of(a: Described) -> u32
+    ensures { λ r. ⌜ r ≡ numberOf a ⌝ }
+{
+    match a {
+        Described::Done(_) => 0,
+        Described::Short => 7,
+        Described::Refused(k) => k,
+    }
+}
+
+// The count beside it (rule A17).
+pub fn count_of(a: Described) -> usize
+    ensures { λ r. ⌜ r ≡ countOf a ⌝ }
+{
+    match a {
+        Described::Done(_) => VALUES,
+        Described::Short => VALUES,
+        Described::Refused(_) => 0,
+    }
+}
+
+// The samples that the values were made of (rule P18).
+pub fn used_of(a: Described) -> usize
+    ensures { λ r. ⌜ r ≡ usedOf a ⌝ }
+{
+    match a {
+        Described::Done(n) => n,
+        Described::Short => 0,
+        Described::Refused(_) => 0,
+    }
 }

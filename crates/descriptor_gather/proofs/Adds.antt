@@ -10,15 +10,17 @@ use lib.Ieee.{Float}
 use Rattle.lists.specs.Ranges.{joined}
 use Rattle.lists.proofs.Ranges.{joined-start, joined-more, joined-bound}
 use Rattle.params.specs.Table.{allGood}
-use Rattle.descriptor_patch.specs.Patch.{gridAt, fourAt, readsOf, first, past}
+use Rattle.params.specs.Limits.{maxSide}
+use Rattle.picture.specs.Picture.{fourAt, firstIn, pastIn}
+use Rattle.descriptor_patch.specs.Patch.{gridAt, readsOf}
 use Rattle.descriptor_patch.specs.Run.{runOf, overRun, rowOf}
-use Rattle.descriptor_patch.specs.Place.{Lies}
+use Rattle.descriptor_patch.specs.declared.Run.{Run}
 use Rattle.descriptor_patch.specs.declared.Sample.{Sample}
-use Rattle.descriptor_patch.specs.declared.Turn.{Turn}
-use Rattle.descriptor_patch.proofs.Runs.{over-cells, run-within}
+use Rattle.descriptor_patch.specs.declared.Patch.{Patch}
+use Rattle.descriptor_patch.proofs.Runs.{over-cells}
 use Rattle.descriptor_patch.proofs.Rules.{good-part}
 use Rattle.descriptor_grid.specs.Grid.{spotOf, scattered, gatheredIn}
-use Rattle.descriptor_gather.specs.Gather.{sampleIn, Inner}
+use Rattle.descriptor_gather.specs.Gather.{sampleIn}
 
 pub gathered-append : (angle : Float) (h : List Float) (xs ys : List Sample) → gatheredIn angle h (xs ++ ys) ≡ gatheredIn angle (gatheredIn angle h xs) ys
 unfolding gatheredIn
@@ -56,25 +58,20 @@ pub one-most : (g : Bool) (s : Sample) → length (cond g (s ∷ []) []) ≤ 1
 one-most true s = omega arith
 one-most false s = omega arith
 
-pub run-most : (img : List Float) (w h : ℕ) (t : Turn) (r a b : ℕ) → length (overRun t r (sampleIn img w h t) a b) ≤ b
+pub run-most : (img : List Float) (t : Patch) (r : ℕ) (e : Run) → length (overRun t r (sampleIn img t) e) ≤ e .past
 unfolding overRun
-run-most img w h t r a b =
-    omega (arith, joined-bound 1 a b (λ c. cond (gridAt t r c) (sampleIn img w h t r c) []) (λ c. one-most (gridAt t r c) _), mul-one (b - a))
+run-most img t r e =
+    omega (arith, joined-bound 1 (e .first) (e .past) (λ c. cond (gridAt t r c) (sampleIn img t r c) []) (λ c. one-most (gridAt t r c) _), mul-one (e .past - e .first))
 
-pub more-rows : {n k w : ℕ} (r : ℕ) → n ≤ 8192 * r → k ≤ w → w ≤ 8192 → n + k ≤ 8192 * (r + 1)
+pub more-rows : {n k w : ℕ} (r : ℕ) → n ≤ maxSide * r → k ≤ w → w ≤ maxSide → n + k ≤ maxSide * (r + 1)
 more-rows r h l m = omega arith
 
-pub below-side : (at radius side r : ℕ) → r < past at radius side → side ≤ 8192 → r < 8192
+pub below-side : (at radius side r : ℕ) → r < pastIn at radius side → side ≤ maxSide → r < maxSide
 below-side at radius side r h k = omega arith
 
 -- ---- a row of the patch
 
-pub inner : (w h r : ℕ) (t : Turn) → Lies w h t → first (t .py) (t .radius) ≤ r → r < past (t .py) (t .radius) h → Inner w h r (runOf t w r .first) (runOf t w r .past)
-inner w h r t l a b =
-    let q = run-within w h r t l in
-    record { up = omega arith; down = omega arith; left = q .0; right = q .1 }
-
-pub row-good : (img : List Float) (w h r : ℕ) (t : Turn) → allGood (readsOf img w h t) ≡ true → first (t .py) (t .radius) ≤ r → r < past (t .py) (t .radius) h
-    → allGood (overRun t r (fourAt img w h) (runOf t w r .first) (runOf t w r .past)) ≡ true
+pub row-good : (img : List Float) (t : Patch) (r : ℕ) → allGood (readsOf img t) ≡ true → firstIn (t .py) (t .radius) ≤ r → r < pastIn (t .py) (t .radius) (t .size .height)
+    → allGood (overRun t r (fourAt img (t .size .width)) (runOf t r)) ≡ true
 unfolding readsOf rowOf
-row-good img w h r t g a b = good-part _ _ r _ (ap allGood (over-cells w h t (fourAt img w h)) ∙ g) a b
+row-good img t r g a b = good-part _ _ r _ (ap allGood (over-cells t (fourAt img (t .size .width))) ∙ g) a b

@@ -7,14 +7,11 @@ use native.Mathlib.Omega.{arith}
 use borrow.Author.Tests.{le-leb, leb-true, leb-false, lt-leb}
 use lib.Dec.{leb}
 use lib.Ieee.{Float}
+use Rattle.lists.proofs.Bools.{and-true}
 use Rattle.descriptor_values.specs.Places.{place}
 use Rattle.descriptor_grid.specs.Grid.{live, when, scattered}
 use Rattle.descriptor_grid.specs.Reach.{Inside}
 use Rattle.descriptor_grid.specs.declared.Spot.{Spot}
-
-and-true : (b : Bool) → (b && true) ≡ b
-and-true true = refl
-and-true false = refl
 
 -- a row or column that a spot has, and the next one
 live-here : (r : ℕ) → r ≤ 4 → live r ≡ leb 1 r

@@ -8,11 +8,11 @@ use borrow.Author.Tests.{ltb-true, ltb-false}
 use lib.Dec.{T, ltb}
 use lib.Ieee.Bits.{is-true}
 use lib.Ieee.{Float, binary32, ofBits, ofInt, sub, mul, lt, le}
+use Rattle.lists.proofs.Bools.{and-both}
 use Rattle.ieee.specs.F32.{_⊖_, _⊗_, f32, floatZ}
-use Rattle.ieee.specs.Numbers.{minusOne, four}
+use Rattle.ieee.specs.Numbers.{nought, minusOne, four, wholeTurn}
 use Rattle.ieee_laws.proofs.Order.{lt-le, lt-not-le, le-or-lt-float, le-trans-float}
 use Rattle.ieee_laws.proofs.Bounds.{Bounds, sub-bounds, mul-bounds-by}
-use Rattle.hal.specs.Numbers.{nought, full}
 use Rattle.hal.specs.Turn.{inTurn}
 use Rattle.hal.specs.Angle.{inAngle, angleOf}
 use Rattle.hal.specs.Exp.{expOf}
@@ -26,11 +26,6 @@ use Rattle.descriptor_grid.specs.declared.Spot.{Spot}
 use Rattle.descriptor_grid.specs.declared.Shares.{Shares}
 use Rattle.descriptor_grid.proofs.Steps.{step}
 use Rattle.descriptor_grid.proofs.Floors.{signed-le, finite-number}
-
-and-both : (a b : Bool) → (a && b) ≡ true → (a ≡ true) × (b ≡ true)
-and-both true true h = (refl, refl)
-and-both true false h = absurd (false≢true h)
-and-both false b h = absurd (false≢true h)
 
 -- ---- rows and columns
 
@@ -82,12 +77,12 @@ grid-range v k h f =
 
 -- ---- the turn, in slots
 
-turn-bounds : (a b : Float) → T (le nought a) → T (lt a full) → inTurn b ≡ true → Bounds (f32 0xc100_0000) (f32 0x4100_0000) ((a ⊖ b) ⊗ binsPerDegree)
+turn-bounds : (a b : Float) → T (le nought a) → T (lt a wholeTurn) → inTurn b ≡ true → Bounds (f32 0xc100_0000) (f32 0x4100_0000) ((a ⊖ b) ⊗ binsPerDegree)
 unfolding ofBits sub mul le
 turn-bounds a b l u h =
-    let p = and-both (le nought b) (le b full) h in
-    let x : Bounds nought full a = record { from = refl; to = refl; low = is-true (le nought a) l; high = lt-le a full (is-true (lt a full) u) } in
-    let y : Bounds nought full b = record { from = refl; to = refl; low = p .0; high = p .1 } in
+    let p = and-both (le nought b) (le b wholeTurn) h in
+    let x : Bounds nought wholeTurn a = record { from = refl; to = refl; low = is-true (le nought a) l; high = lt-le a wholeTurn (is-true (lt a wholeTurn) u) } in
+    let y : Bounds nought wholeTurn b = record { from = refl; to = refl; low = p .0; high = p .1 } in
     mul-bounds-by binary32 binsPerDegree refl refl refl refl (sub-bounds binary32 refl refl x y)
 
 pub turn-near : (dx dy angle : Float) → inAngle dx dy ≡ true → inTurn angle ≡ true → Near ((angleOf dx dy ⊖ angle) ⊗ binsPerDegree)

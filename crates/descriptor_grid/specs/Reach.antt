@@ -1,4 +1,4 @@
--- What the code asks of a sample and of a number, and what it says of a floor and of a spot. Definitions only.
+-- Inner: what the code asks of a sample and of a number, and what it says of a floor and of a spot. No part of what a caller is promised. Definitions only.
 use Prim.Native.Nat.{ℕ, _+_, _≤_}
 use mathlib.Core.Path.{_≡_}
 use mathlib.Core.Bool.{true}

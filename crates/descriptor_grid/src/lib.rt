@@ -4,6 +4,7 @@ ghost use mathlib.Core.Path.{_≡_};
 ghost use Prim.Native.Nat.{_+_, _<_, _≤_};
 ghost use Rattle.ieee.specs.F32.{_⊖_, floatZ};
 ghost use Rattle.hal.specs.Powers.{powers as table};
+ghost use Rattle.descriptor_values.specs.Places.{places};
 ghost use Rattle.descriptor_grid.specs.Grid.{sharesOf, spotOf, pairAt, when, scattered};
 ghost use Rattle.descriptor_grid.specs.Reach.{lowered, Near, Floored, Lands, Inside};
 
@@ -93,7 +94,7 @@ fn spot_of(powers: &[u32; 256], angle: f32, s: descriptor_patch::Sample) -> Spot
 
 // Two slots side by side.
 fn pair_at(hist: &mut [f32; 360], i: usize, a: f32, b: f32)
-    requires { ⌜ i + 1 < 360 ⌝ }
+    requires { ⌜ i + 1 < places ⌝ }
     ensures { λ _. ⌜ now (hist .exit) ≡ pairAt (now (hist .entry)) i a b ⌝ }
 {
     hist[i] = hist[i] + a;
@@ -101,7 +102,7 @@ fn pair_at(hist: &mut [f32; 360], i: usize, a: f32, b: f32)
 }
 
 fn pair_if(t: bool, hist: &mut [f32; 360], i: usize, a: f32, b: f32)
-    requires { ⌜ i + 1 < 360 ⌝ }
+    requires { ⌜ i + 1 < places ⌝ }
     ensures { λ _. ⌜ now (hist .exit) ≡ when t (now (hist .entry)) i a b ⌝ }
 {
     if t {

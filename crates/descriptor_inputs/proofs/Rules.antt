@@ -10,6 +10,7 @@ use lib.ListN.{length, getD}
 use lib.IntN.{pos}
 use lib.Ieee.{Float, nan, binary32, ofBits, ofInt, sub, mul, div, lt, le}
 use lib.Ieee.Scale.{finite}
+use Rattle.lists.proofs.Bools.{and-both}
 use Rattle.ieee.specs.F32.{_⊖_, _⊗_, _⊘_, _<ᶠ_, absOf, float}
 use Rattle.ieee.specs.Numbers.{nought, half, wholeTurn, epsilon}
 use Rattle.ieee_laws.proofs.Order.{le-trans-float, lt-le}
@@ -19,9 +20,9 @@ use Rattle.lists.specs.Ranges.{every}
 use Rattle.params.specs.Limits.{maxOctave, scaleLow, scaleHigh}
 use Rattle.params.specs.Table.{within}
 use Rattle.params.specs.declared.Settings.{Settings}
+use Rattle.picture.specs.declared.Size.{Size}
 use Rattle.detect_refine.specs.Sound.{Sound}
 use Rattle.detect_refine.specs.declared.RawKeypoint.{RawKeypoint}
-use Rattle.orient_tally.proofs.Values.{and-both}
 use Rattle.orient_tally.proofs.Every.{every-at}
 use Rattle.orient.specs.Entry.{orientedOf, orientedList}
 use Rattle.orient.specs.Rules.{Passed}
@@ -114,7 +115,7 @@ module _ (o : ℕ) (size : Float) (h : o ≤ maxOctave) (a : le (float (2 ^ o)) 
   size-from = rw nought-is (le-trans-float nil (float (2 ^ o)) size (and-both (le nil (float (2 ^ o))) _ (test .1) .0) a)
 
 -- ---- what orientation gives is accepted
-module _ (w h octave : ℕ) (s : Settings) (k : RawKeypoint) (o : OrientedKeypoint) (in-range : octave ≤ maxOctave) (z : Sound w h s octave k) (p : Passed k o) (angle : within nought wholeTurn (o .angle) ≡ true) where
+module _ (s : Size) (octave : ℕ) (settings : Settings) (k : RawKeypoint) (o : OrientedKeypoint) (in-range : octave ≤ maxOctave) (z : Sound (s .width) (s .height) settings octave k) (p : Passed k o) (angle : within nought wholeTurn (o .angle) ≡ true) where
   size-low : le (float (2 ^ octave)) (o .size) ≡ true
   size-low = rw (p .size) (z .size-from)
 
@@ -143,5 +144,5 @@ pub input-rule : InputRule
 input-rule =
     record {
       turned = turned-in;
-      taken = λ img w h octave s k i in-range z l angle. taken w h octave s k _ in-range z (orient-rule .passed img w h k i l) angle;
+      taken = λ img s octave settings k i in-range z l angle. taken s octave settings k _ in-range z (orient-rule .passed img s k i l) angle;
     }

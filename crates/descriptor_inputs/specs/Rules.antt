@@ -1,4 +1,4 @@
--- What is proved of the descriptor's inputs beyond the entry's contract: proofs/Rules.antt proves each. Definitions only.
+-- Law: what is proved of the descriptor's inputs beyond the entry's contract: proofs/Rules.antt proves each. Definitions only.
 use Prim.Native.Nat.{ℕ, _<_, _≤_}
 use mathlib.Core.Path.{_≡_}
 use mathlib.Core.Bool.{true}
@@ -10,6 +10,7 @@ use Rattle.ieee.specs.Numbers.{nought, wholeTurn}
 use Rattle.params.specs.Limits.{maxOctave, scaleLow, scaleHigh}
 use Rattle.params.specs.Table.{within}
 use Rattle.params.specs.declared.Settings.{Settings}
+use Rattle.picture.specs.declared.Size.{Size}
 use Rattle.detect_refine.specs.Sound.{Sound}
 use Rattle.detect_refine.specs.declared.RawKeypoint.{RawKeypoint}
 use Rattle.orient.specs.Entry.{orientedOf, orientedList}
@@ -26,6 +27,6 @@ pub record InputRule : Type 0 where
   -- an angle in 0 to 360 is turned to one in 0 to 360
   pub turned : (angle : Float) → within nought wholeTurn angle ≡ true → within nought wholeTurn (turnedOf angle) ≡ true
   -- every oriented keypoint that orientation gives for a keypoint of detection, its angle in 0 to 360
-  pub taken : (img : List Float) (width height octave : ℕ) (s : Settings) (k : RawKeypoint) (i : ℕ) → octave ≤ maxOctave → Sound width height s octave k
-      → i < length (orientedList img width height k) → within nought wholeTurn (getD (orientedList img width height k) i (orientedOf k nan) .angle) ≡ true
-      → Taken (getD (orientedList img width height k) i (orientedOf k nan)) octave
+  pub taken : (img : List Float) (s : Size) (octave : ℕ) (settings : Settings) (k : RawKeypoint) (i : ℕ) → octave ≤ maxOctave → Sound (s .width) (s .height) settings octave k
+      → i < length (orientedList img s k) → within nought wholeTurn (getD (orientedList img s k) i (orientedOf k nan) .angle) ≡ true
+      → Taken (getD (orientedList img s k) i (orientedOf k nan)) octave

@@ -6,24 +6,8 @@ use mathlib.Core.List.{List, [], _∷_, _++_}
 use lib.Ieee.{Float}
 use Rattle.lists.specs.Ranges.{joined}
 use Rattle.lists.proofs.Ranges.{joined-start, joined-more}
-use Rattle.params.specs.Table.{goodSample, allGood}
-
-and-true : (b : Bool) → (b && true) ≡ b
-and-true true = refl
-and-true false = refl
-
-pub good-append : (xs ys : List Float) → allGood (xs ++ ys) ≡ (allGood xs && allGood ys)
-unfolding allGood
-good-append [] ys = refl
-good-append (x ∷ xs) ys = rw (good-append xs ys) (assoc (goodSample x) (allGood xs) (allGood ys))
-  where
-    assoc : (a b c : Bool) → (a && (b && c)) ≡ ((a && b) && c)
-    assoc true b c = refl
-    assoc false b c = refl
-
-pub four-good : (a b c d : Float) → (goodSample a && (goodSample b && (goodSample c && goodSample d))) ≡ allGood (a ∷ b ∷ c ∷ d ∷ [])
-unfolding allGood
-four-good a b c d = rw (and-true (goodSample d))
+use Rattle.params.specs.Table.{allGood}
+use Rattle.picture.proofs.Runs.{good-append}
 
 -- of a cell that is not used nothing is read
 pub good-where : (g : Bool) (xs : List Float) → (not g || allGood xs) ≡ allGood (cond g xs [])

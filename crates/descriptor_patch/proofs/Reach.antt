@@ -7,7 +7,8 @@ use native.Mathlib.Omega.{arith}
 use lib.Dec.{T}
 use lib.IntN.{pos}
 use lib.Ieee.{Float, nan, inf, fin, binary32, up, down, ofBits, ofInt, add, mul, lt, le, toUnsigned, isNan}
-use Rattle.ieee.specs.F32.{_⊕_, _⊗_, f32, rounded, rootOf, float}
+use Rattle.lists.proofs.Bools.{and-both, is-T}
+use Rattle.ieee.specs.F32.{_⊗_, f32, rounded, rootOf, float}
 use Rattle.ieee.specs.Root.{sqrt, halves}
 use Rattle.ieee.specs.Whole.{roundEven}
 use Rattle.ieee.specs.Numbers.{half, three, five, root2}
@@ -16,17 +17,9 @@ use Rattle.ieee_laws.proofs.Monotone.{nil, above-zero, toUnsigned-le}
 use Rattle.ieee_laws.proofs.Bounds.{Bounds, bounds-point, bounds-above, add-bounds, mul-bounds, roundEven-bounds, ofInt-bounds, marked-nonneg}
 use Rattle.params.specs.Limits.{maxSide, scaleLow, scaleHigh}
 use Rattle.params.specs.Table.{within}
-use Rattle.descriptor_patch.specs.Patch.{histWidth, reachOf}
+use Rattle.picture.specs.declared.Size.{Size}
+use Rattle.descriptor_patch.specs.Patch.{histWidth, reachOf, diagonalOf}
 use Rattle.descriptor_patch.specs.Place.{maxRadius, Sides}
-
-pub and-both : (a b : Bool) → (a && b) ≡ true → (a ≡ true) × (b ≡ true)
-and-both true true h = (refl, refl)
-and-both true false h = absurd (false≢true h)
-and-both false b h = absurd (false≢true h)
-
-pub is-T : (b : Bool) → b ≡ true → T b
-is-T true h = tt
-is-T false h = absurd (false≢true h)
 
 -- a float that can be cut to a u64
 pub record Cuts (x : Float) : Type 0 where
@@ -79,32 +72,29 @@ root-nonneg (fin s zero e) h = absurd (omega (arith, above-zero s zero e h .size
 root-nonneg (fin true (suc m) e) h = absurd (false≢true (sym (above-zero true (suc m) e h .sign)))
 root-nonneg (fin false (suc m) e) h = marked-nonneg (round-marked binary32 false (halves (suc m * up e * 4 ^ 149 / down e)) (2 * 2 ^ 149))
 
-abbrev pub diagonal : ℕ → ℕ → Float
-diagonal w h = rootOf (float w ⊗ float w ⊕ float h ⊗ float h)
-
-float-bounds : (n : ℕ) → 1 ≤ n → n ≤ maxSide → Bounds (float 1) (float 8192) (float n)
+float-bounds : (n : ℕ) → 1 ≤ n → n ≤ maxSide → Bounds (float 1) (float maxSide) (float n)
 unfolding ofInt
-float-bounds n a b = ofInt-bounds binary32 1 8192 n refl refl a b
+float-bounds n a b = ofInt-bounds binary32 1 maxSide n refl refl a b
 
-square-bounds : (n : ℕ) → 1 ≤ n → n ≤ maxSide → Bounds (float 1 ⊗ float 1) (float 8192 ⊗ float 8192) (float n ⊗ float n)
+square-bounds : (n : ℕ) → 1 ≤ n → n ≤ maxSide → Bounds (float 1 ⊗ float 1) (float maxSide ⊗ float maxSide) (float n ⊗ float n)
 unfolding ofInt mul le
 square-bounds n a b = mul-bounds binary32 refl refl refl refl (float-bounds n a b) (float-bounds n a b)
 
-diagonal-nonneg : (w h : ℕ) → Sides w h → le nil (diagonal w h) ≡ true
-unfolding ofInt mul add lt
-diagonal-nonneg w h s =
+diagonal-nonneg : (s : Size) → Sides s → le nil (diagonalOf s) ≡ true
+unfolding diagonalOf ofInt mul add lt
+diagonal-nonneg s p =
     root-nonneg _
-    (bounds-above (add-bounds binary32 refl refl (square-bounds w (s .some-cols) (s .wide)) (square-bounds h (s .some-rows) (s .high))) refl)
+    (bounds-above (add-bounds binary32 refl refl (square-bounds (s .width) (p .some-cols) (p .wide)) (square-bounds (s .height) (p .some-rows) (p .high))) refl)
 
 abbrev far : Float
 far = f32 0x4480_0000
 
-pub diagonal-cuts : (w h : ℕ) → Sides w h → lt (diagonal w h) far ≡ true → Cuts (diagonal w h)
+pub diagonal-cuts : (s : Size) → Sides s → lt (diagonalOf s) far ≡ true → Cuts (diagonalOf s)
 unfolding ofBits lt le
-diagonal-cuts w h s k =
+diagonal-cuts s p k =
     record {
-      above = is-T _ (lt-le-trans (fin true 1 (pos 0)) nil (diagonal w h) refl (diagonal-nonneg w h s));
-      below = is-T _ (lt-le-trans (diagonal w h) far (fin false 1 (pos 64)) k refl);
+      above = is-T _ (lt-le-trans (fin true 1 (pos 0)) nil (diagonalOf s) refl (diagonal-nonneg s p));
+      below = is-T _ (lt-le-trans (diagonalOf s) far (fin false 1 (pos 64)) k refl);
     }
 
 far-number : T (not (isNan far))
@@ -115,9 +105,9 @@ far-cut : toUnsigned 64 far ≡ 1024
 unfolding ofBits toUnsigned
 far-cut = refl
 
-pub diagonal-far : (w h r : ℕ) → Sides w h → r ≤ maxRadius → lt (diagonal w h) far ≡ false → r ≡ min r (toUnsigned 64 (diagonal w h))
-diagonal-far w h r s k e =
+pub diagonal-far : (s : Size) (r : ℕ) → Sides s → r ≤ maxRadius → lt (diagonalOf s) far ≡ false → r ≡ min r (toUnsigned 64 (diagonalOf s))
+diagonal-far s r p k e =
     ⊎-elim
-    (λ l. omega (arith, toUnsigned-le 64 far (diagonal w h) l, far-cut))
+    (λ l. omega (arith, toUnsigned-le 64 far (diagonalOf s) l, far-cut))
     (λ l. absurd (false≢true (sym e ∙ l)))
-    (le-or-lt-float far (diagonal w h) far-number (le-number nil (diagonal w h) (diagonal-nonneg w h s) .1))
+    (le-or-lt-float far (diagonalOf s) far-number (le-number nil (diagonalOf s) (diagonal-nonneg s p) .1))

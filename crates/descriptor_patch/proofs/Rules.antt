@@ -1,8 +1,8 @@
 -- The laws of a patch's samples that specs/Rules.antt states. Assumes nothing.
 use Prim.Native.Nat.{ℕ, zero, suc, _+_, _-_, _<_, _≤_, min}
 use mathlib.Core.Path.{_≡_, refl, sym, ap, _∙_}
-use mathlib.Core.Bool.{Bool, true, false, not, _&&_, cond, false≢true}
-use mathlib.Core.List.{List, [], _∷_, _++_}
+use mathlib.Core.Bool.{true, false, not, _&&_, false≢true}
+use mathlib.Core.List.{List, [], _∷_}
 use mathlib.Core.Logic.{_⊎_, ⊎-elim}
 use native.Mathlib.Nat.{eq-or-lt-of-le, le-of-suc-le-suc}
 use native.Mathlib.Numerals.{add-one}
@@ -11,6 +11,7 @@ use lib.Dec.{T}
 use lib.IntN.{pos, _-ℤ_}
 use lib.Ieee.{Float, nan, inf, fin, binary32, ofBits, neg, add, sub, mul, lt, le, isNan}
 use lib.Ieee.Scale.{finite}
+use Rattle.lists.proofs.Bools.{and-both}
 use Rattle.ieee.specs.F32.{_⊕_, _⊖_, _⊗_, f32, absOf}
 use Rattle.ieee.specs.Numbers.{half, two, four, minusOne}
 use Rattle.ieee_laws.specs.Sign.{Turned, of-inf, of-fin, turned, nought as no-sign}
@@ -20,53 +21,38 @@ use Rattle.ieee_laws.proofs.Bounds.{Bounds, bounds-finite, bounds-point, bounds
 use Rattle.ieee_laws.proofs.Turned.{neg-opp, mul-turned, le-turned}
 use Rattle.ieee_laws.proofs.TurnedOps.{same}
 use Rattle.lists.specs.Ranges.{joined}
-use Rattle.lists.proofs.Ranges.{joined-none, joined-more}
+use Rattle.lists.proofs.Ranges.{joined-more}
 use Rattle.params.specs.Limits.{sampleLimit, scaleLow, scaleHigh}
 use Rattle.params.specs.Table.{within, goodSample, allGood}
 use Rattle.hal.specs.Numbers.{minus32, furthest}
 use Rattle.hal.specs.Exp.{inDown}
 use Rattle.hal.specs.Angle.{small, inAngle}
-use Rattle.descriptor_patch.specs.Patch.{expScale, binOf, inRun, endsOf, inGrid, gridAt, usedAt, rotsOf, pixel, sampleAt, samplesOf, fourAt, readsOf, overCells, radiusOf, reachOf, turnOf, first, past}
+use Rattle.lists.specs.Each.{Each}
+use Rattle.lists.proofs.Each.{each-one, each-when, each-joined}
+use Rattle.picture.specs.Picture.{pixel, slopeAt, fourAt}
+use Rattle.picture.specs.declared.Size.{Size}
+use Rattle.picture.proofs.Runs.{good-append}
+use Rattle.picture.proofs.Slopes.{good-slope}
+use Rattle.descriptor_patch.specs.Patch.{expScale, binOf, inRun, endsOf, inGrid, gridAt, usedAt, rotsOf, sampleAt, samplesOf, readsOf, overCells, radiusOf, patchOf}
 use Rattle.descriptor_patch.specs.Place.{maxRadius, Sides, Lies}
-use Rattle.descriptor_patch.specs.Rules.{Each, none, more, Fair, Used, PatchRule}
+use Rattle.descriptor_patch.specs.Rules.{Fair, Used, PatchRule}
 use Rattle.descriptor_patch.specs.declared.Sample.{Sample}
-use Rattle.descriptor_patch.specs.declared.Turn.{Turn}
-use Rattle.descriptor_patch.proofs.Whole.{le-or-lt}
-use Rattle.descriptor_patch.proofs.Reach.{and-both, reach-small}
-use Rattle.descriptor_patch.proofs.Good.{good-append}
+use Rattle.descriptor_patch.specs.declared.Patch.{Patch}
+use Rattle.descriptor_patch.proofs.Reach.{reach-small}
 
 -- ---- how the patch lies
 
-lies : (w h px py : ℕ) (scale angle : Float) → Sides w h → px < w → py < h → within scaleLow scaleHigh scale ≡ true → Lies w h (turnOf w h px py scale angle)
-unfolding turnOf radiusOf
-lies w h px py scale angle s a b k =
-    record { wide = s .wide; high = s .high; col = a; row = b; reach = omega (arith, reach-small scale k) }
+lies : (s : Size) (px py : ℕ) (scale angle : Float) → Sides s → px < s .width → py < s .height → within scaleLow scaleHigh scale ≡ true → Lies (patchOf s px py scale angle)
+unfolding patchOf radiusOf
+lies s px py scale angle p a b k =
+    record { wide = p .wide; high = p .high; col = a; row = b; reach = omega (arith, reach-small scale k) }
 
--- ---- lists of samples
-
-module _ (P : Sample → Type 0) where
-  pub each-append : (xs ys : List Sample) → Each P xs → Each P ys → Each P (xs ++ ys)
-  each-append [] ys none q = q
-  each-append (x ∷ xs) ys (more p ps) q = more p (each-append xs ys ps q)
-
-  pub each-joined : (lo hi : ℕ) (f : ℕ → List Sample) → ((c : ℕ) → lo ≤ c → c < hi → Each P (f c)) → Each P (joined lo hi f)
-  each-joined lo zero f h = rw (joined-none lo zero f (omega arith)) none
-  each-joined lo (suc hi) f h =
-      ⊎-elim
-      (λ l. rw (← add-one hi, joined-more lo hi f l) (each-append (joined lo hi f) (f hi) (each-joined lo hi f (λ c a b. h c a (omega arith))) (h hi l (omega arith))))
-      (λ l. rw (joined-none lo (suc hi) f l) none)
-      (le-or-lt lo hi)
-
-  each-where : (b : Bool) (s : Sample) → (b ≡ true → P s) → Each P (cond b (s ∷ []) [])
-  each-where true s h = more (h refl) none
-  each-where false s h = none
-
-  -- what is shown of the sample of each used cell holds of all samples
-  pub each : (img : List Float) (w h : ℕ) (t : Turn) → ((r c : ℕ) → Used w h t r c → P (sampleAt img w h t r c)) → Each P (samplesOf img w h t)
-  unfolding samplesOf overCells
-  each img w h t k =
-      each-joined _ _ _
-      (λ r a b. each-joined _ _ _ (λ c d e. each-where (usedAt t r c) _ (λ u. k r c (record { top = a; bottom = b; left = d; right = e; used = u }))))
+-- what is shown of the sample of each used cell holds of all samples
+pub each : (P : Sample → Type 0) (img : List Float) (t : Patch) → ((r c : ℕ) → Used t r c → P (sampleAt img t r c)) → Each P (samplesOf img t)
+unfolding samplesOf overCells
+each P img t k =
+    each-joined _ _ _
+    (λ r a b. each-joined _ _ _ (λ c d e. each-when (usedAt t r c) _ (λ u. each-one (k r c (record { top = a; bottom = b; left = d; right = e; used = u })))))
 
 -- ---- what is read
 
@@ -78,9 +64,9 @@ good-part lo (suc hi) i f g a b =
     let p = and-both (allGood (joined lo hi f)) (allGood (f hi)) e in
     ⊎-elim (λ q. rw q (p .1)) (λ m. good-part lo hi i f (p .0) a m) (eq-or-lt-of-le (le-of-suc-le-suc b))
 
-reads : (img : List Float) (w h : ℕ) (t : Turn) → allGood (readsOf img w h t) ≡ true → (r c : ℕ) → Used w h t r c → allGood (fourAt img w h r c) ≡ true
+reads : (img : List Float) (t : Patch) → allGood (readsOf img t) ≡ true → (r c : ℕ) → Used t r c → allGood (fourAt img (t .size .width) r c) ≡ true
 unfolding readsOf overCells
-reads img w h t g r c u =
+reads img t g r c u =
     let a = good-part _ _ r _ g (u .top) (u .bottom) in
     let b = good-part _ _ c _ a (u .left) (u .right) in
     rw (u .used) at b
@@ -198,59 +184,24 @@ fall-in x y u v =
     let m : le (q ⊗ expScale) nil ≡ true = le-turned {b = true} z (of-fin {s = false} (no-sign refl)) ∙ k .low in
     rw (l, m)
 
--- ---- differences of good samples
-
-abbrev nearest : Float
-nearest = fin true 1 (pos 21)
-
-far-opp : Turned true nearest furthest
-far-opp = of-fin (turned refl)
-
-small-of : (x : Float) → le nearest x ≡ true → le x furthest ≡ true → small (absOf x) ≡ true
-unfolding absOf isNan
-small-of nan a b = absurd (le-number nan furthest b .0)
-small-of (inf true) a b = le-turned {b = true} (of-inf refl) far-opp ∙ a
-small-of (inf false) a b = b
-small-of (fin true m e) a b = le-turned {b = true} (of-fin (turned refl)) far-opp ∙ a
-small-of (fin false m e) a b = b
-
-good-bounds : (x : Float) → goodSample x ≡ true → Bounds (neg sampleLimit) sampleLimit x
-unfolding ofBits neg
-good-bounds x h = let p = and-both (le (neg sampleLimit) x) (le x sampleLimit) h in record { from = refl; to = refl; low = p .0; high = p .1 }
-
-difference : (x y : Float) → goodSample x ≡ true → goodSample y ≡ true → small (absOf (x ⊖ y)) ≡ true
-unfolding ofBits neg sub le
-difference x y a b =
-    let u = bounds-wider nearest furthest refl refl refl refl (sub-bounds binary32 refl refl (good-bounds x a) (good-bounds y b)) in
-    small-of (x ⊖ y) (u .low) (u .high)
-
-slopes-in : (a b c d : Float) → allGood (a ∷ b ∷ c ∷ d ∷ []) ≡ true → inAngle (a ⊖ b) (c ⊖ d) ≡ true
-unfolding allGood
-slopes-in a b c d h =
-    let p = and-both (goodSample a) _ h in
-    let q = and-both (goodSample b) _ (p .1) in
-    let r = and-both (goodSample c) _ (q .1) in
-    let s = and-both (goodSample d) _ (r .1) in
-    rw (difference a b (p .0) (q .0), difference c d (r .0) (s .0))
-
 -- ---- a used cell's sample
 
-pub fair : (img : List Float) (w h : ℕ) (t : Turn) (r c : ℕ) → gridAt t r c ≡ true → allGood (fourAt img w h r c) ≡ true → Fair (sampleAt img w h t r c)
-unfolding sampleAt gridAt fourAt
-fair img w h t r c g k =
+pub fair : (img : List Float) (t : Patch) (r c : ℕ) → gridAt t r c ≡ true → allGood (fourAt img (t .size .width) r c) ≡ true → Fair (sampleAt img t r c)
+unfolding sampleAt gridAt
+fair img t r c g k =
     let p = and-both (inGrid (binOf (rotsOf t r c .row))) (inGrid (binOf (rotsOf t r c .col))) g in
     record {
       row = p .0;
       col = p .1;
       fall = fall-in (rotsOf t r c .col) (rotsOf t r c .row) (in-grid (rotsOf t r c .col) (p .1)) (in-grid (rotsOf t r c .row) (p .0));
-      slopes = slopes-in (pixel img w h r (c + 1)) (pixel img w h r (c - 1)) (pixel img w h (r - 1) c) (pixel img w h (r + 1) c) k;
+      slopes = good-slope img (t .size .width) r c k;
     }
 
-samples : (img : List Float) (w h : ℕ) (t : Turn) → allGood (readsOf img w h t) ≡ true → Each Fair (samplesOf img w h t)
+samples : (img : List Float) (t : Patch) → allGood (readsOf img t) ≡ true → Each Fair (samplesOf img t)
 unfolding usedAt
-samples img w h t g =
-    each Fair img w h t
-    (λ r c u. fair img w h t r c (and-both (inRun (endsOf t r) (pos c -ℤ pos (t .px))) (gridAt t r c) (u .used) .1) (reads img w h t g r c u))
+samples img t g =
+    each Fair img t
+    (λ r c u. fair img t r c (and-both (inRun (endsOf t r) (pos c -ℤ pos (t .px))) (gridAt t r c) (u .used) .1) (reads img t g r c u))
 
 pub patch-rule : PatchRule
 patch-rule = record { lies = lies; reads = reads; samples = samples }

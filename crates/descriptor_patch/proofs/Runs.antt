@@ -11,16 +11,18 @@ use lib.Dec.{leb, ltb}
 use lib.IntN.{ℤ, pos, _-ℤ_}
 use lib.Signed.{leZ}
 use lib.Ieee.{Float, neg}
+use Rattle.lists.proofs.Naturals.{le-or-lt}
 use Rattle.ieee.specs.F32.{_<ᶠ_, floorOf, toI32}
 use Rattle.lists.specs.Ranges.{joined}
 use Rattle.lists.proofs.Ranges.{joined-none, joined-more, joined-split}
-use Rattle.descriptor_patch.specs.Patch.{inRun, endsOf, gridAt, usedAt, overCells, first, past}
+use Rattle.picture.specs.Picture.{firstIn, pastIn}
+use Rattle.descriptor_patch.specs.Patch.{inRun, endsOf, gridAt, usedAt, overCells}
 use Rattle.descriptor_patch.specs.Run.{shifted, columns, runOf, overRun, rowOf}
-use Rattle.descriptor_patch.specs.Place.{Lies}
+use Rattle.descriptor_patch.specs.Place.{Lies, Inner}
 use Rattle.descriptor_patch.specs.declared.Ends.{Ends}
 use Rattle.descriptor_patch.specs.declared.Run.{Run}
-use Rattle.descriptor_patch.specs.declared.Turn.{Turn}
-use Rattle.descriptor_patch.proofs.Whole.{le-or-lt, same-test, low-end, high-end}
+use Rattle.descriptor_patch.specs.declared.Patch.{Patch}
+use Rattle.descriptor_patch.proofs.Whole.{same-test, low-end, high-end}
 
 -- ---- lists joined over a range
 
@@ -121,21 +123,21 @@ cond-and : {A : Type 0} (a b : Bool) (x : List A) → cond (a && b) x [] ≡ con
 cond-and true b x = refl
 cond-and false b x = refl
 
-pub over-row : {A : Type 0} (w : ℕ) (t : Turn) (part : ℕ → ℕ → List A) (r : ℕ)
-    → joined (first (t .px) (t .radius)) (past (t .px) (t .radius) w) (λ c. cond (usedAt t r c) (part r c) []) ≡ rowOf t w part r
+pub over-row : {A : Type 0} (t : Patch) (part : ℕ → ℕ → List A) (r : ℕ)
+    → joined (firstIn (t .px) (t .radius)) (pastIn (t .px) (t .radius) (t .size .width)) (λ c. cond (usedAt t r c) (part r c) []) ≡ rowOf t part r
 unfolding rowOf overRun runOf usedAt
-over-row w t part r =
-    let a = first (t .px) (t .radius) in
-    let b = past (t .px) (t .radius) w in
+over-row t part r =
+    let a = firstIn (t .px) (t .radius) in
+    let b = pastIn (t .px) (t .radius) (t .size .width) in
     let e = endsOf t r in
     joined-run a b (columns a b (t .px) e .first) (columns a b (t .px) e .past) _ _ (run-start a b (t .px) e) (run-end a b (t .px) e)
     (λ c p q. cond-and (inRun e (pos c -ℤ pos (t .px))) (gridAt t r c) (part r c) ∙ rw (run-is a b (t .px) e c p q))
 
 -- what is said of each used cell is what the rows' runs say of theirs
-pub over-cells : {A : Type 0} (w h : ℕ) (t : Turn) (part : ℕ → ℕ → List A)
-    → joined (first (t .py) (t .radius)) (past (t .py) (t .radius) h) (rowOf t w part) ≡ overCells w h t part
+pub over-cells : {A : Type 0} (t : Patch) (part : ℕ → ℕ → List A)
+    → joined (firstIn (t .py) (t .radius)) (pastIn (t .py) (t .radius) (t .size .height)) (rowOf t part) ≡ overCells t part
 unfolding overCells
-over-cells w h t part = joined-same _ _ _ _ (λ r p q. sym (over-row w t part r))
+over-cells t part = joined-same _ _ _ _ (λ r p q. sym (over-row t part r))
 
 -- a loop over a range ends at its end, or does nothing
 pub joined-done : {A : Type 0} (lo hi c : ℕ) (f : ℕ → List A) → c ≤ max lo hi → hi ≤ c → joined lo c f ≡ joined lo hi f
@@ -145,15 +147,26 @@ joined-done lo hi c f h k =
     (λ l. rw (joined-none lo c f (omega arith), joined-none lo hi f (omega arith)))
     (le-or-lt lo hi)
 
--- the columns of a run have their neighbours
-pub run-within : (w h r : ℕ) (t : Turn) → Lies w h t → (1 ≤ runOf t w r .first) × (runOf t w r .past + 1 ≤ w)
+-- the columns of a row's run have their neighbours
+pub run-within : (t : Patch) (r : ℕ) → Lies t → (1 ≤ runOf t r .first) × (runOf t r .past + 1 ≤ t .size .width)
 unfolding runOf
-run-within w h r t l =
-    let a = first (t .px) (t .radius) in
-    let b = past (t .px) (t .radius) w in
+run-within t r l =
+    let a = firstIn (t .px) (t .radius) in
+    let b = pastIn (t .px) (t .radius) (t .size .width) in
     let s = run-start a b (t .px) (endsOf t r) in
     let e = run-end a b (t .px) (endsOf t r) in
     (omega (arith, s), omega (arith, e, l .col))
+
+inner-first : {r : ℕ} (at radius : ℕ) → firstIn at radius ≤ r → 1 ≤ r
+inner-first at radius h = omega arith
+
+inner-last : {r : ℕ} (at radius side : ℕ) → r < pastIn at radius side → r + 1 < side
+inner-last at radius side h = omega arith
+
+pub inner : (t : Patch) (r : ℕ) → Lies t → firstIn (t .py) (t .radius) ≤ r → r < pastIn (t .py) (t .radius) (t .size .height) → Inner t r (runOf t r)
+inner t r l a b =
+    let q = run-within t r l in
+    record { up = inner-first (t .py) (t .radius) a; down = inner-last (t .py) (t .radius) (t .size .height) b; left = q .0; right = q .1 }
 
 -- ---- a loop that counts up
 

@@ -9,14 +9,9 @@ use lib.Dec.{T, leb, ltb, le→leb, lt→ltb}
 use lib.IntN.{ℤ, pos, negsuc, natAbs, sucℤ, predℤ, _+ℤ_, _-ℤ_, subℕ, +ℤ-one, -ℤ-one}
 use lib.Signed.{leZ, ltZ, mag, nonNeg}
 use lib.Ieee.{binary32, inFloat}
+use Rattle.lists.proofs.Naturals.{le-or-lt}
+use Rattle.params.specs.Limits.{maxSide}
 use Rattle.descriptor_patch.specs.Run.{shifted}
-
-pub le-or-lt : (m n : ℕ) → (m ≤ n) ⊎ (n < m)
-le-or-lt m n = go (leb m n) refl
-  where
-    go : (b : Bool) → leb m n ≡ b → (m ≤ n) ⊎ (n < m)
-    go true e = inl (leb-true m n e)
-    go false e = inr (leb-false m n e)
 
 pub diff-up : (a b : ℕ) → b ≤ a → pos a -ℤ pos b ≡ pos (a - b)
 diff-up a zero h = ap pos (omega arith)
@@ -33,7 +28,7 @@ mag-diff a b n h k =
     (λ l. rw (diff-down a b l) (omega arith))
     (le-or-lt b a)
 
-pub held-diff : (a b : ℕ) → a ≤ 8192 → b ≤ 8192 → T (inFloat binary32 (pos a -ℤ pos b))
+pub held-diff : (a b : ℕ) → a ≤ maxSide → b ≤ maxSide → T (inFloat binary32 (pos a -ℤ pos b))
 unfolding inFloat
 held-diff a b h k =
     ⊎-elim

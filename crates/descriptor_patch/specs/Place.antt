@@ -1,32 +1,32 @@
--- What the code asks of a patch and of a cell in it. Definitions only.
-use Prim.Native.Nat.{ℕ, _+_, _*_, _<_, _≤_}
-use mathlib.Core.Path.{_≡_}
+-- Inner: what the code asks of a patch and of a cell in it, no part of what a caller is promised. Definitions only.
+use Prim.Native.Nat.{ℕ, _+_, _<_, _≤_}
 use Rattle.params.specs.Limits.{maxSide}
-use Rattle.descriptor_patch.specs.declared.Turn.{Turn}
+use Rattle.picture.specs.declared.Size.{Size}
+use Rattle.descriptor_patch.specs.declared.Patch.{Patch}
+use Rattle.descriptor_patch.specs.declared.Run.{Run}
 
 -- no patch reaches further: 3 × 64 × √2 × 5 × 0.5, rounded
 abbrev pub maxRadius : ℕ
 maxRadius = 679
 
 -- the sides of a picture
-pub record Sides (w h : ℕ) : Type 0 where
-  pub some-cols : 1 ≤ w
-  pub some-rows : 1 ≤ h
-  pub wide : w ≤ maxSide
-  pub high : h ≤ maxSide
+pub record Sides (s : Size) : Type 0 where
+  pub some-cols : 1 ≤ s .width
+  pub some-rows : 1 ≤ s .height
+  pub wide : s .width ≤ maxSide
+  pub high : s .height ≤ maxSide
 
--- the patch lies about a cell of a picture of h rows of w
-pub record Lies (w h : ℕ) (t : Turn) : Type 0 where
-  pub wide : w ≤ maxSide
-  pub high : h ≤ maxSide
-  pub col : t .px < w
-  pub row : t .py < h
+-- the patch lies about a cell of its picture
+pub record Lies (t : Patch) : Type 0 where
+  pub wide : t .size .width ≤ maxSide
+  pub high : t .size .height ≤ maxSide
+  pub col : t .px < t .size .width
+  pub row : t .py < t .size .height
   pub reach : t .radius ≤ maxRadius
 
--- the cell (r, c) of a picture, whose list is `len` long, has its four neighbours
-pub record Around (len w h r c : ℕ) : Type 0 where
-  pub whole : len ≡ 1 * h * w
+-- the columns e of row r, and their neighbours, lie in the picture
+pub record Inner (t : Patch) (r : ℕ) (e : Run) : Type 0 where
   pub up : 1 ≤ r
-  pub down : r + 1 < h
-  pub left : 1 ≤ c
-  pub right : c + 1 < w
+  pub down : r + 1 < t .size .height
+  pub left : 1 ≤ e .first
+  pub right : e .past + 1 ≤ t .size .width

@@ -1,4 +1,4 @@
--- The run of a row as columns of the picture, so that no other cell of the row is looked at. Definitions only.
+-- Inner: the run of a row as columns of the picture, so that no other cell of the row is looked at. No part of what a caller is promised. Definitions only.
 use Prim.Native.Nat.{ℕ, suc, _+_, _-_, min, max}
 use mathlib.Core.Bool.{cond}
 use mathlib.Core.List.{List, []}
@@ -6,10 +6,11 @@ use lib.IntN.{ℤ, pos, negsuc}
 use lib.Ieee.{neg}
 use Rattle.ieee.specs.F32.{_<ᶠ_, floorOf, toI32}
 use Rattle.lists.specs.Ranges.{joined}
-use Rattle.descriptor_patch.specs.Patch.{endsOf, gridAt, first, past}
+use Rattle.picture.specs.Picture.{firstIn, pastIn}
+use Rattle.descriptor_patch.specs.Patch.{endsOf, gridAt}
 use Rattle.descriptor_patch.specs.declared.Ends.{Ends}
 use Rattle.descriptor_patch.specs.declared.Run.{Run}
-use Rattle.descriptor_patch.specs.declared.Turn.{Turn}
+use Rattle.descriptor_patch.specs.declared.Patch.{Patch}
 
 -- `at` and z, and 0 where that is below it
 unfoldable pub shifted : ℕ → ℤ → ℕ
@@ -26,13 +27,13 @@ columns a b px e =
     })
 
 -- the columns of the window and of the run of row r
-unfoldable pub runOf : Turn → ℕ → ℕ → Run
-runOf t w r = columns (first (t .px) (t .radius)) (past (t .px) (t .radius) w) (t .px) (endsOf t r)
+unfoldable pub runOf : Patch → ℕ → Run
+runOf t r = columns (firstIn (t .px) (t .radius)) (pastIn (t .px) (t .radius) (t .size .width)) (t .px) (endsOf t r)
 
--- what is said of each cell of a row's columns from a to below b that lies in the grid, joined
-unfoldable pub overRun {ℓ} : {A : Type ℓ} → Turn → ℕ → (ℕ → ℕ → List A) → ℕ → ℕ → List A
-overRun t r part a b = joined a b (λ c. cond (gridAt t r c) (part r c) [])
+-- what is said of each cell of some columns of row r that lies in the grid, joined
+unfoldable pub overRun {ℓ} : {A : Type ℓ} → Patch → ℕ → (ℕ → ℕ → List A) → Run → List A
+overRun t r part e = joined (e .first) (e .past) (λ c. cond (gridAt t r c) (part r c) [])
 
 -- and of each of row r's run that does
-unfoldable pub rowOf {ℓ} : {A : Type ℓ} → Turn → ℕ → (ℕ → ℕ → List A) → ℕ → List A
-rowOf t w part r = overRun t r part (runOf t w r .first) (runOf t w r .past)
+unfoldable pub rowOf {ℓ} : {A : Type ℓ} → Patch → (ℕ → ℕ → List A) → ℕ → List A
+rowOf t part r = overRun t r part (runOf t r)

@@ -1,5 +1,6 @@
 // The patch of a descriptor: its radius, the cells that are read, and what a cell gives.
 
+use picture::Size;
 ghost use mathlib.Core.Path.{_≡_};
 ghost use mathlib.Core.Bool.{true, cond};
 ghost use mathlib.Core.List.{[]};
@@ -9,9 +10,11 @@ ghost use lib.IntN.{pos, _-ℤ_};
 ghost use Rattle.ieee.specs.F32.{float as floatOf, floatZ};
 ghost use Rattle.params.specs.Limits.{maxSide, scaleLow, scaleHigh};
 ghost use Rattle.params.specs.Table.{within, allGood};
-ghost use Rattle.descriptor_patch.specs.Patch.{reachOf, radiusOf, turnOf, clipJ, endsOf, rotsOf, inGrid, gridAt, sampleAt, fourAt, first as firstOf, past as pastOf, readsOf};
+ghost use Rattle.picture.specs.Picture.{fourAt};
+ghost use Rattle.picture.specs.Place.{Around};
+ghost use Rattle.descriptor_patch.specs.Patch.{reachOf, radiusOf, patchOf, clipJ, endsOf, rotsOf, inGrid, gridAt, sampleAt, readsOf};
 ghost use Rattle.descriptor_patch.specs.Run.{shifted as shiftedOf, columns as columnsOf, runOf, overRun};
-ghost use Rattle.descriptor_patch.specs.Place.{maxRadius, Sides, Lies, Around};
+ghost use Rattle.descriptor_patch.specs.Place.{maxRadius, Sides, Lies, Inner};
 
 // The ends of a row's run of columns, as distances from the position.
 pub struct Ends {
@@ -19,8 +22,10 @@ pub struct Ends {
     pub hi: f32,
 }
 
-// How a patch lies on the picture: cosine and sine over the width of a cell of the grid, the radius, and the cell of the position.
-pub struct Turn {
+// How a patch lies on a picture: the picture's size, the angle that it is turned by, that angle's cosine and sine over the width of a cell of the grid, the radius, and the cell of the position.
+pub struct Patch {
+    pub size: Size,
+    pub angle: f32,
     pub cos: f32,
     pub sin: f32,
     pub radius: usize,
@@ -68,13 +73,13 @@ fn reach_of(scale: f32) -> usize
 }
 
 // The reach, but at most the picture's diagonal, cut to a whole number. A diagonal of 1024 and more is beyond every reach.
-fn radius_of(w: usize, h: usize, scale: f32) -> usize
-    requires { ⌜ Sides w h × (within scaleLow scaleHigh scale ≡ true) ⌝ }
-    ensures { λ r. ⌜ (r ≡ radiusOf w h scale) × (r ≤ maxRadius) ⌝ }
+fn radius_of(s: Size, scale: f32) -> usize
+    requires { ⌜ Sides s × (within scaleLow scaleHigh scale ≡ true) ⌝ }
+    ensures { λ r. ⌜ (r ≡ radiusOf s scale) × (r ≤ maxRadius) ⌝ }
 {
     let reach = reach_of(scale);
-    let x = float(w);
-    let y = float(h);
+    let x = float(s.width);
+    let y = float(s.height);
     let d = ieee::sqrt(x * x + y * y);
     if d < 1024.0 {
         let k = std::num::truncating_f32_to_u64(d) as usize;
@@ -85,15 +90,17 @@ fn radius_of(w: usize, h: usize, scale: f32) -> usize
 }
 
 // How the patch about the cell (py, px) lies.
-pub fn turn_of(w: usize, h: usize, px: usize, py: usize, scale: f32, angle: f32) -> Turn
-    requires { ⌜ Sides w h × ((px < w) × ((py < h) × (within scaleLow scaleHigh scale ≡ true))) ⌝ }
-    ensures { λ t. ⌜ (t ≡ turnOf w h px py scale angle) × Lies w h t ⌝ }
+pub fn patch_of(s: Size, px: usize, py: usize, scale: f32, angle: f32) -> Patch
+    requires { ⌜ Sides s × ((px < s .width) × ((py < s .height) × (within scaleLow scaleHigh scale ≡ true))) ⌝ }
+    ensures { λ t. ⌜ (t ≡ patchOf s px py scale angle) × Lies t ⌝ }
 {
     let width = 3.0 * scale;
-    Turn {
+    Patch {
+        size: s,
+        angle: angle,
         cos: hal::cos(angle) / width,
         sin: hal::sin(angle) / width,
-        radius: radius_of(w, h, scale),
+        radius: radius_of(s, scale),
         px: px,
         py: py,
     }
@@ -130,7 +137,7 @@ fn apart(a: usize, b: usize) -> f32
     (a as i32 - b as i32) as f32
 }
 
-fn ends_of(t: Turn, r: usize) -> Ends
+fn ends_of(t: Patch, r: usize) -> Ends
     requires { ⌜ (r ≤ maxSide) × ((t .py ≤ maxSide) × (t .radius ≤ maxSide)) ⌝ }
     ensures { λ e. ⌜ e ≡ endsOf t r ⌝ }
 {
@@ -171,21 +178,6 @@ fn less_one(a: usize) -> usize
     if a > 0 { a - 1 } else { 0 }
 }
 
-// The first place within the radius that is not on the edge.
-pub fn first_of(at: usize, radius: usize) -> usize
-    ensures { λ r. ⌜ r ≡ firstOf at radius ⌝ }
-{
-    if radius < at { at - radius } else { 1 }
-}
-
-// The one after the last, of a side of `side`.
-pub fn past_of(at: usize, radius: usize, side: usize) -> usize
-    requires { ⌜ (at < side) × ((side ≤ maxSide) × (radius ≤ maxSide)) ⌝ }
-    ensures { λ r. ⌜ r ≡ pastOf at radius side ⌝ }
-{
-    smaller(at + radius + 1, side - 1)
-}
-
 // The run's columns among those from a to below b.
 fn columns(a: usize, b: usize, px: usize, e: Ends) -> Run
     requires { ⌜ px ≤ maxSide ⌝ }
@@ -204,18 +196,18 @@ fn columns(a: usize, b: usize, px: usize, e: Ends) -> Run
 }
 
 // The columns of the window and of the run of row r.
-pub fn run_of(t: Turn, w: usize, r: usize) -> Run
-    requires { ⌜ (r ≤ maxSide) × ((w ≤ maxSide) × ((t .px < w) × ((t .py ≤ maxSide) × (t .radius ≤ maxSide)))) ⌝ }
-    ensures { λ e. ⌜ e ≡ runOf t w r ⌝ }
+pub fn run_of(t: Patch, r: usize) -> Run
+    requires { ⌜ (r ≤ maxSide) × ((t .size .width ≤ maxSide) × ((t .px < t .size .width) × ((t .py ≤ maxSide) × (t .radius ≤ maxSide)))) ⌝ }
+    ensures { λ e. ⌜ e ≡ runOf t r ⌝ }
 {
-    let a = first_of(t.px, t.radius);
-    let b = past_of(t.px, t.radius, w);
+    let a = picture::first_in(t.px, t.radius);
+    let b = picture::past_in(t.px, t.radius, t.size.width);
     columns(a, b, t.px, ends_of(t, r))
 }
 
 // ---- a cell
 
-fn rots_of(t: Turn, r: usize, c: usize) -> Rots
+fn rots_of(t: Patch, r: usize, c: usize) -> Rots
     requires { ⌜ (r ≤ maxSide) × ((c ≤ maxSide) × ((t .py ≤ maxSide) × (t .px ≤ maxSide))) ⌝ }
     ensures { λ p. ⌜ p ≡ rotsOf t r c ⌝ }
 {
@@ -234,7 +226,7 @@ fn in_grid(bin: f32) -> bool
 }
 
 // Whether the cell (r, c) lies in the grid.
-pub fn grid_at(t: Turn, r: usize, c: usize) -> bool
+pub fn grid_at(t: Patch, r: usize, c: usize) -> bool
     requires { ⌜ (r ≤ maxSide) × ((c ≤ maxSide) × ((t .py ≤ maxSide) × (t .px ≤ maxSide))) ⌝ }
     ensures { λ b. ⌜ b ≡ gridAt t r c ⌝ }
 {
@@ -243,14 +235,15 @@ pub fn grid_at(t: Turn, r: usize, c: usize) -> bool
 }
 
 // The cell (r, c) as a sample.
-pub fn sample_at(img: &[f32], w: usize, h: usize, t: Turn, r: usize, c: usize) -> Sample
-    requires { ⌜ Around (length (now img)) w h r c × Lies w h t ⌝ }
-    ensures { λ s. ⌜ s ≡ sampleAt (now (img .entry)) w h t r c ⌝ }
+pub fn sample_at(img: &[f32], t: Patch, r: usize, c: usize) -> Sample
+    requires { ⌜ Around (length (now img)) (t .size) r c × Lies t ⌝ }
+    ensures { λ s. ⌜ s ≡ sampleAt (now (img .entry)) t r c ⌝ }
 {
     let p = rots_of(t, r, c);
+    let g = picture::slope_at(img, t.size, r, c);
     Sample {
-        dx: picture::at(img, w, h, 1, 0, r, c + 1) - picture::at(img, w, h, 1, 0, r, c - 1),
-        dy: picture::at(img, w, h, 1, 0, r - 1, c) - picture::at(img, w, h, 1, 0, r + 1, c),
+        dx: g.dx,
+        dy: g.dy,
         rbin: p.row + 2.0 - 0.5,
         cbin: p.col + 2.0 - 0.5,
         fall: (p.col * p.col + p.row * p.row) * -0.125,
@@ -259,50 +252,39 @@ pub fn sample_at(img: &[f32], w: usize, h: usize, t: Turn, r: usize, c: usize) -
 
 // ---- the test of what is read
 
-fn four_good(img: &[f32], w: usize, h: usize, r: usize, c: usize) -> bool
-    requires { ⌜ Around (length (now img)) w h r c ⌝ }
-    ensures { λ b. ⌜ b ≡ allGood (fourAt (now (img .entry)) w h r c) ⌝ }
-{
-    let right = picture::good_sample(picture::at(img, w, h, 1, 0, r, c + 1));
-    let left = picture::good_sample(picture::at(img, w, h, 1, 0, r, c - 1));
-    let up = picture::good_sample(picture::at(img, w, h, 1, 0, r - 1, c));
-    let down = picture::good_sample(picture::at(img, w, h, 1, 0, r + 1, c));
-    right & (left & (up & down))
-}
-
 // The neighbours of one cell, where it is used.
-fn cell_good(img: &[f32], w: usize, h: usize, t: Turn, r: usize, c: usize) -> bool
-    requires { ⌜ Around (length (now img)) w h r c × Lies w h t ⌝ }
-    ensures { λ b. ⌜ b ≡ allGood (cond (gridAt t r c) (fourAt (now (img .entry)) w h r c) []) ⌝ }
+fn cell_good(img: &[f32], t: Patch, r: usize, c: usize) -> bool
+    requires { ⌜ Around (length (now img)) (t .size) r c × Lies t ⌝ }
+    ensures { λ b. ⌜ b ≡ allGood (cond (gridAt t r c) (fourAt (now (img .entry)) (t .size .width) r c) []) ⌝ }
 {
-    !grid_at(t, r, c) | four_good(img, w, h, r, c)
+    !grid_at(t, r, c) | picture::four_good(img, t.size, r, c)
 }
 
-// Those of a row's columns from a to below b.
-fn row_good(img: &[f32], w: usize, h: usize, t: Turn, r: usize, a: usize, b: usize) -> bool
-    requires { ⌜ (length (now img) ≡ 1 * h * w) × (Lies w h t × ((1 ≤ r) × ((r + 1 < h) × ((1 ≤ a) × (b + 1 ≤ w))))) ⌝ }
-    ensures { λ ok. ⌜ ok ≡ allGood (overRun t r (fourAt (now (img .entry)) w h) a b) ⌝ }
+// Those of a run of row r.
+fn row_good(img: &[f32], t: Patch, r: usize, e: Run) -> bool
+    requires { ⌜ (length (now img) ≡ t .size .height * t .size .width) × (Lies t × Inner t r e) ⌝ }
+    ensures { λ ok. ⌜ ok ≡ allGood (overRun t r (fourAt (now (img .entry)) (t .size .width)) e) ⌝ }
 {
+    let end = e.past;
     let mut ok = true;
-    let mut c = a;
-    while c < b {
-        ok = ok & cell_good(img, w, h, t, r, c);
+    let mut c = e.first;
+    while c < end {
+        ok = ok & cell_good(img, t, r, c);
         c += 1;
     }
     ok
 }
 
 // Whether all that is read is in range.
-pub fn patch_good(img: &[f32], w: usize, h: usize, t: Turn) -> bool
-    requires { ⌜ (length (now img) ≡ 1 * h * w) × Lies w h t ⌝ }
-    ensures { λ ok. ⌜ ok ≡ allGood (readsOf (now (img .entry)) w h t) ⌝ }
+pub fn patch_good(img: &[f32], t: Patch) -> bool
+    requires { ⌜ (length (now img) ≡ t .size .height * t .size .width) × Lies t ⌝ }
+    ensures { λ ok. ⌜ ok ≡ allGood (readsOf (now (img .entry)) t) ⌝ }
 {
-    let end = past_of(t.py, t.radius, h);
+    let end = picture::past_in(t.py, t.radius, t.size.height);
     let mut ok = true;
-    let mut r = first_of(t.py, t.radius);
+    let mut r = picture::first_in(t.py, t.radius);
     while r < end {
-        let run = run_of(t, w, r);
-        ok = ok & row_good(img, w, h, t, r, run.first, run.past);
+        ok = ok & row_good(img, t, r, run_of(t, r));
         r += 1;
     }
     ok

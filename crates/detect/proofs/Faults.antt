@@ -1,6 +1,6 @@
 -- The first check that fails, and what is known where none does. Assumes nothing.
 use Prim.Native.Nat.{ℕ, zero, suc, _+_, _-_, _*_, _<_, _≤_}
-use mathlib.Core.Path.{_≡_, refl, sym, ap, _∙_}
+use mathlib.Core.Path.{_≡_, refl, sym}
 use mathlib.Core.Bool.{Bool, true, false, _&&_, _||_, not, true≢false}
 use mathlib.Core.List.{List, _∷_}
 use native.Mathlib.Nat.{mul-le-mul}
@@ -9,17 +9,16 @@ use borrow.Author.Tests.{eqb-true, eq-eqb, ne-eqb, ltb-false, leb-true}
 use lib.Dec.{eqb, leb, ltb, T}
 use lib.ListN.{length}
 use lib.Ieee.{Float}
+use Rattle.lists.proofs.Bools.{and-both}
 use Rattle.params.specs.Limits.{maxSide, maxLayers, maxPlanes}
 use Rattle.params.specs.Table.{Line, line, firstFault, sideWrong, shapeWrong, layersWrong, lengthWrong, contrastWrong, settingsWrong, allGood}
 use Rattle.params.specs.declared.Settings.{Settings}
 use Rattle.params.proofs.Bools.{or-neither, in-range}
 use Rattle.params.proofs.Accepted.{accepted}
 use Rattle.detect.specs.Entry.{faultOf}
-use Rattle.detect_extrema.specs.Places.{Stack}
-
-and-both : (a b : Bool) → (a && b) ≡ true → (a ≡ true) × (b ≡ true)
-and-both true b e = (refl, e)
-and-both false b e = absurd (true≢false (sym e))
+use Rattle.picture.specs.declared.Shape.{Shape}
+use Rattle.detect_refine.specs.Place.{Searched}
+use Rattle.detect_refine.specs.Search.{searchOf}
 
 not-is : (a : Bool) → not a ≡ false → a ≡ true
 not-is true e = refl
@@ -59,37 +58,37 @@ products n h w a b c =
     let p : n * h ≤ maxPlanes * maxSide = mul-le-mul {n₁ = n} {m₁ = h} {n₂ = maxPlanes} {m₂ = maxSide} a b in
     (p, mul-le-mul {n₁ = n * h} {m₁ = w} {n₂ = maxPlanes * maxSide} {m₂ = maxSide} p c)
 
-module _ (d : List Float) (w h planes layer octave : ℕ) (s : Settings) where
+module _ (d : List Float) (t : Shape) (layer octave : ℕ) (s : Settings) where
   abbrev fault : ℕ
-  fault = faultOf d w h planes layer octave s
+  fault = faultOf d t layer octave s
 
-  pub fault-shape : shapeWrong w h ≡ true → 1 ≡ fault
+  pub fault-shape : shapeWrong (t .width) (t .height) ≡ true → 1 ≡ fault
   unfolding faultOf firstFault
   fault-shape a = rw a
 
-  module _ (shape : shapeWrong w h ≡ false) where
-    pub fault-layers : layersWrong planes layer (s .layers) ≡ true → 2 ≡ fault
+  module _ (shape : shapeWrong (t .width) (t .height) ≡ false) where
+    pub fault-layers : layersWrong (t .planes) layer (s .layers) ≡ true → 2 ≡ fault
     unfolding faultOf firstFault
     fault-layers a = rw (shape, a)
 
-    module _ (layers : layersWrong planes layer (s .layers) ≡ false) where
-      pub fits : (planes * h ≤ maxPlanes * maxSide) × (planes * h * w ≤ maxPlanes * maxSide * maxSide)
-      fits = let a = shape-right w h shape in products planes h w (layers-right planes layer (s .layers) layers .most) (a .1) (a .0)
+    module _ (layers : layersWrong (t .planes) layer (s .layers) ≡ false) where
+      pub fits : (t .planes * t .height ≤ maxPlanes * maxSide) × (t .planes * t .height * t .width ≤ maxPlanes * maxSide * maxSide)
+      fits = let a = shape-right (t .width) (t .height) shape in products (t .planes) (t .height) (t .width) (layers-right (t .planes) layer (s .layers) layers .most) (a .1) (a .0)
 
-      pub fault-length : (length d ≡ planes * h * w → ⊥) → 3 ≡ fault
+      pub fault-length : (length d ≡ t .planes * t .height * t .width → ⊥) → 3 ≡ fault
       unfolding faultOf firstFault lengthWrong
-      fault-length a = rw (shape, layers, ne-eqb (length d) (planes * h * w) a)
+      fault-length a = rw (shape, layers, ne-eqb (length d) (t .planes * t .height * t .width) a)
 
-      module _ (whole : length d ≡ planes * h * w) where
+      module _ (whole : length d ≡ t .planes * t .height * t .width) where
         pub fault-settings : settingsWrong s octave ≡ true → 4 ≡ fault
         unfolding faultOf firstFault lengthWrong
-        fault-settings a = rw (shape, layers, eq-eqb (length d) (planes * h * w) whole, a)
+        fault-settings a = rw (shape, layers, eq-eqb (length d) (t .planes * t .height * t .width) whole, a)
 
         module _ (settings : settingsWrong s octave ≡ false) where
-          pub stack : Stack (length d) w h planes (s .layers) octave layer
-          stack =
-              let a = shape-right w h shape in
-              let b = layers-right planes layer (s .layers) layers in
+          pub searched : Searched (length d) t (searchOf layer octave s)
+          searched =
+              let a = shape-right (t .width) (t .height) shape in
+              let b = layers-right (t .planes) layer (s .layers) layers in
               record { whole = whole; wide = a .0; high = a .1; planes = b .room; many = b .few; low = accepted s octave settings .octave; first = b .first; last = omega arith }
 
           pub contrast-right : contrastWrong (s .contrast) ≡ false
@@ -98,11 +97,11 @@ module _ (d : List Float) (w h planes layer octave : ℕ) (s : Settings) where
 
           pub fault-sample : allGood d ≡ false → 6 ≡ fault
           unfolding faultOf firstFault lengthWrong
-          fault-sample a = rw (shape, layers, eq-eqb (length d) (planes * h * w) whole, settings, a)
+          fault-sample a = rw (shape, layers, eq-eqb (length d) (t .planes * t .height * t .width) whole, settings, a)
 
           pub fault-none : allGood d ≡ true → 0 ≡ fault
           unfolding faultOf firstFault lengthWrong
-          fault-none a = rw (shape, layers, eq-eqb (length d) (planes * h * w) whole, settings, a)
+          fault-none a = rw (shape, layers, eq-eqb (length d) (t .planes * t .height * t .width) whole, settings, a)
 
 -- ---- what is known of a stack that no check refuses
 
@@ -111,24 +110,24 @@ unfolding firstFault
 first-none n true ls h = absurd (omega arith)
 first-none n false ls h = (refl, h)
 
-pub record Right (d : List Float) (w h planes layer octave : ℕ) (s : Settings) : Type 0 where
-  pub stack : Stack (length d) w h planes (s .layers) octave layer
+pub record Right (d : List Float) (t : Shape) (layer octave : ℕ) (s : Settings) : Type 0 where
+  pub searched : Searched (length d) t (searchOf layer octave s)
   pub settings : settingsWrong s octave ≡ false
   pub contrast : contrastWrong (s .contrast) ≡ false
   pub good : allGood d ≡ true
 
-pub right : (d : List Float) (w h planes layer octave : ℕ) (s : Settings) → faultOf d w h planes layer octave s ≡ 0 → Right d w h planes layer octave s
+pub right : (d : List Float) (t : Shape) (layer octave : ℕ) (s : Settings) → faultOf d t layer octave s ≡ 0 → Right d t layer octave s
 unfolding faultOf lengthWrong
-right d w h planes layer octave s z =
-    let a = first-none 0 (shapeWrong w h) _ z in
-    let b = first-none 1 (layersWrong planes layer (s .layers)) _ (a .1) in
-    let c = first-none 2 (not (eqb (length d) (planes * h * w))) _ (b .1) in
+right d t layer octave s z =
+    let a = first-none 0 (shapeWrong (t .width) (t .height)) _ z in
+    let b = first-none 1 (layersWrong (t .planes) layer (s .layers)) _ (a .1) in
+    let c = first-none 2 (not (eqb (length d) (t .planes * t .height * t .width))) _ (b .1) in
     let e = first-none 3 (settingsWrong s octave) _ (c .1) in
     let g = first-none 5 (not (allGood d)) _ (e .1) in
-    let whole : length d ≡ planes * h * w = eqb-true (length d) (planes * h * w) (not-is _ (c .0)) in
+    let whole : length d ≡ t .planes * t .height * t .width = eqb-true (length d) (t .planes * t .height * t .width) (not-is _ (c .0)) in
     record {
-      stack = stack d w h planes layer octave s (a .0) (b .0) whole (e .0);
+      searched = searched d t layer octave s (a .0) (b .0) whole (e .0);
       settings = e .0;
-      contrast = contrast-right d w h planes layer octave s (a .0) (b .0) whole (e .0);
+      contrast = contrast-right d t layer octave s (a .0) (b .0) whole (e .0);
       good = not-is _ (g .0);
     }

@@ -21,7 +21,8 @@ use Rattle.params.specs.Answers.{answerOf, landed}
 use Rattle.params.specs.declared.Settings.{Settings}
 use Rattle.params.specs.declared.Answer.the-variants.{Done, Short}
 use Rattle.params.proofs.Accepted.{threshold-bounds}
-use Rattle.picture.specs.Stack.{sample}
+use Rattle.picture.specs.declared.Shape.{Shape}
+use Rattle.detect_refine.specs.Search.{searchOf}
 use Rattle.detect_refine.specs.declared.RawKeypoint.{RawKeypoint}
 use Rattle.detect_extrema.specs.Neighbours.{tied}
 use Rattle.detect_extrema.specs.Scan.{keypoints, keypointWords, words}
@@ -58,9 +59,9 @@ unfolding allGood
 all-good-same [] = refl
 all-good-same (x ∷ xs) = rw (good-same x, all-good-same xs)
 
-fault-same : (d : List Float) (w h planes layer octave : ℕ) (s : Settings) → faultOf (negative d) w h planes layer octave s ≡ faultOf d w h planes layer octave s
+fault-same : (d : List Float) (t : Shape) (layer octave : ℕ) (s : Settings) → faultOf (negative d) t layer octave s ≡ faultOf d t layer octave s
 unfolding faultOf
-fault-same d w h planes layer octave s = rw (length-map d neg, all-good-same d)
+fault-same d t layer octave s = rw (length-map d neg, all-good-same d)
 
 -- ---- what the table accepts
 
@@ -68,10 +69,10 @@ record Taken (layer : ℕ) (s : Settings) : Type 0 where
   first : 1 ≤ layer
   floor : le nought (thresholdOf (s .contrast) (s .layers)) ≡ true
 
-taken : (d : List Float) (w h planes layer octave : ℕ) (s : Settings) → faultOf d w h planes layer octave s ≡ 0 → Taken layer s
-taken d w h planes layer octave s z =
-    let a = right d w h planes layer octave s z in
-    let k = a .stack in
+taken : (d : List Float) (t : Shape) (layer octave : ℕ) (s : Settings) → faultOf d t layer octave s ≡ 0 → Taken layer s
+taken d t layer octave s z =
+    let a = right d t layer octave s z in
+    let k = a .searched in
     record { first = k .first; floor = threshold-bounds (s .contrast) (a .contrast) (s .layers) (omega arith) (k .many) .low }
 
 -- ---- the law
@@ -80,10 +81,10 @@ negated-at : (d : List Float) (i : ℕ) → Opp (getD d i nan) (getD (negative d
 unfolding neg
 negated-at d i = rw (List·getD-map neg d i nan) (neg-opp (getD d i nan))
 
-list-same : (d : List Float) (w h planes layer octave : ℕ) (s : Settings) → faultOf d w h planes layer octave s ≡ 0 → SameList (listOf d w h layer octave s) (listOf (negative d) w h layer octave s)
-list-same d w h planes layer octave s z =
-    let t = taken d w h planes layer octave s z in
-    keypoints-same tied d (negative d) w h s octave layer (negated-at d) (t .floor) (t .first)
+list-same : (d : List Float) (t : Shape) (layer octave : ℕ) (s : Settings) → faultOf d t layer octave s ≡ 0 → SameList (listOf d t layer octave s) (listOf (negative d) t layer octave s)
+list-same d t layer octave s z =
+    let a = taken d t layer octave s z in
+    keypoints-same tied d (negative d) t (searchOf layer octave s) (negated-at d) (a .floor) (a .first)
 
 -- an answer turns on the fault, and on the list only where there is none
 answers-same : (fault count count' room : ℕ) → (fault ≡ 0 → count' ≡ count) → answerOf fault count' (keypointWords * count') room ≡ answerOf fault count (keypointWords * count) room
@@ -91,15 +92,15 @@ unfolding answerOf
 answers-same zero count count' room h = rw (h refl)
 answers-same (suc n) count count' room h = refl
 
-answer-same : (d : List Float) (w h planes layer octave : ℕ) (s : Settings) (room : ℕ) → extremaAnswer (negative d) w h planes layer octave s room ≡ extremaAnswer d w h planes layer octave s room
+answer-same : (d : List Float) (t : Shape) (layer octave : ℕ) (s : Settings) (room : ℕ) → extremaAnswer (negative d) t layer octave s room ≡ extremaAnswer d t layer octave s room
 unfolding extremaAnswer
-answer-same d w h planes layer octave s room =
-    rw (fault-same d w h planes layer octave s)
-    (answers-same (faultOf d w h planes layer octave s) (length (listOf d w h layer octave s)) (length (listOf (negative d) w h layer octave s)) room (λ z. same-length (list-same d w h planes layer octave s z)))
+answer-same d t layer octave s room =
+    rw (fault-same d t layer octave s)
+    (answers-same (faultOf d t layer octave s) (length (listOf d t layer octave s)) (length (listOf (negative d) t layer octave s)) room (λ z. same-length (list-same d t layer octave s z)))
 
 pub sign-law : NegativesAgree
-sign-law d w h planes layer octave s room z =
-    record { accepted = fault-same d w h planes layer octave s ∙ z; answer = answer-same d w h planes layer octave s room; list = list-same d w h planes layer octave s z }
+sign-law d t layer octave s room z =
+    record { accepted = fault-same d t layer octave s ∙ z; answer = answer-same d t layer octave s room; list = list-same d t layer octave s z }
 
 -- ---- two runs of the entry
 
@@ -128,12 +129,12 @@ landed-same zero count need room {a} {b} s out = go (leb need room)
     go false = rest
 landed-same (suc n) count need room s out = rest
 
-out-same : (d : List Float) (w h planes layer octave : ℕ) (s : Settings) (out : List ℕ) → SameWords (extremaOut d w h planes layer octave s out) (extremaOut (negative d) w h planes layer octave s out)
+out-same : (d : List Float) (t : Shape) (layer octave : ℕ) (s : Settings) (out : List ℕ) → SameWords (extremaOut d t layer octave s out) (extremaOut (negative d) t layer octave s out)
 unfolding extremaOut
-out-same d w h planes layer octave s out =
-    rw (answer-same d w h planes layer octave s (length out))
+out-same d t layer octave s out =
+    rw (answer-same d t layer octave s (length out))
     (unfold extremaAnswer in
-    landed-same (faultOf d w h planes layer octave s) (length (listOf d w h layer octave s)) (keypointWords * length (listOf d w h layer octave s)) (length out) (list-same d w h planes layer octave s) out)
+    landed-same (faultOf d t layer octave s) (length (listOf d t layer octave s)) (keypointWords * length (listOf d t layer octave s)) (length out) (list-same d t layer octave s) out)
 
 pub two-runs : RunsAgree
-two-runs d w h planes layer octave s out = record { answer = answer-same d w h planes layer octave s (length out); words = out-same d w h planes layer octave s out }
+two-runs d t layer octave s out = record { answer = answer-same d t layer octave s (length out); words = out-same d t layer octave s out }

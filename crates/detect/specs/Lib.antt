@@ -1,4 +1,4 @@
 pub mod Entry
-pub mod Places
+pub mod Room
 pub mod SignLaw
 pub mod Rules

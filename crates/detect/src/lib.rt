@@ -2,216 +2,104 @@
 
 ghost use mathlib.Core.Path.{_≡_};
 ghost use mathlib.Core.Bool.{false};
-ghost use Prim.Native.Nat.{_+_, _-_, _*_, _^_, _<_, _≤_, min};
-ghost use lib.ListN.{length};
+ghost use Prim.Native.Nat.{_*_, _<_, _≤_};
+ghost use lib.ListN.{length, take};
 ghost use lib.Seq.{sets};
-ghost use Rattle.lists.specs.Ranges.{joined};
-ghost use Rattle.params.specs.Limits.{border};
+ghost use Rattle.params.specs.Limits.{border, maxSide, maxLayers};
 ghost use Rattle.params.specs.Table.{contrastWrong};
-ghost use Rattle.params.specs.Answers.{landed};
-ghost use Rattle.params.specs.Threshold.{thresholdOf};
+ghost use Rattle.params.specs.Answers.{answerOf, landed};
+ghost use Rattle.detect_refine.specs.Search.{searchOf};
+ghost use Rattle.detect_refine.specs.Place.{Searched};
 ghost use Rattle.detect_extrema.specs.Neighbours.{tied};
-ghost use Rattle.detect_extrema.specs.Scan.{rowOf, keypoints, words};
-ghost use Rattle.detect_extrema.specs.Places.{Stack};
-ghost use Rattle.detect_extrema.specs.Hints.{leftOf};
+ghost use Rattle.detect_extrema.specs.Scan.{keypoints, keypointWords, words};
 ghost use Rattle.detect.specs.Entry.{faultOf, extremaAnswer, extremaOut};
-ghost use Rattle.detect.specs.Places.{Wide, Rows, maxHeld, scanned, ScannedOf, lacking, roomAnswer};
+ghost use Rattle.detect.specs.Room.{roomAnswer};
+use detect_extrema::BORDER;
+use detect_refine::Search;
+use detect_rows::WORDS;
 use params::Answer;
 use params::Settings;
+use picture::Shape;
 
-// How many keypoints a scan holds back, until it is known that all fit in what is lent: 80 KB on the stack, and more than most layers of a frame have.
-// Beyond so many the rest is searched again. Any number would do.
+// How many keypoints are held back until it is known that all fit in what is lent: 80 KB on the stack, and more than most layers of a frame have. Where there are more,
+// the layer is searched twice: once to count them, and once to write them. Any number would do.
 const HELD: usize = 2048;
 
-// What a scan holds: so many keypoints, those of the rows before `row`.
-pub struct Scanned {
-    pub held: usize,
-    pub row: usize,
-}
+// A picture with a side no longer than its two borders has no cell to search.
+const BORDERS: usize = 2 * BORDER;
 
-// Holds the words of the first keypoints, up to the row whose keypoints would be too many. That row's words stand behind them, as far as there is room, and are not counted.
-fn scan(
-    dog: &[f32],
-    w: usize,
-    h: usize,
-    n: usize,
-    s: Settings,
-    octave: u32,
-    threshold: f32,
-    p: usize,
-    hold: &mut [u32],
-) -> Scanned
-    requires { ⌜ Stack (length (now dog)) w h n (s .layers) octave p ⌝ }
-    requires { ⌜ threshold ≡ thresholdOf (s .contrast) (s .layers) ⌝ }
-    requires { ⌜ Wide w h ⌝ }
-    requires { ⌜ 10 * maxHeld ≤ length (now hold) ⌝ }
-    ensures { λ t. ⌜ t ≡ scanned h (λ r. rowOf tied (now (dog .entry)) w h s octave p r) ⌝ }
-    ensures { λ t. ⌜ now (hold .exit) ≡ sets (now (hold .entry)) 0 (words (joined border (min (t .row + 1) (h - border)) (λ r. rowOf tied (now (dog .entry)) w h s octave p r))) ⌝ }
-    ensures { λ t. ⌜ ScannedOf h (λ r. rowOf tied (now (dog .entry)) w h s octave p r) t ⌝ }
-{
-    let mut held: usize = 0;
-    for r in 5..h - 5 {
-        let k = detect_rows::row_words(dog, w, h, n, s, octave, threshold, p, r, hold, 10 * held);
-        if held + k > HELD {
-            return Scanned { held: held, row: r };
-        }
-        held += k;
-    }
-    Scanned {
-        held: held,
-        row: h - 5,
-    }
-}
-
-// Writes the keypoints of the rows from `row` on, as far as there is room, and counts them. `from` is at most 10 words for each one held; what it has to stay below
-// is said in `rows`.
-fn fill(
-    dog: &[f32],
-    w: usize,
-    h: usize,
-    n: usize,
-    s: Settings,
-    octave: u32,
-    threshold: f32,
-    p: usize,
-    row: usize,
-    out: &mut [u32],
-    from: usize,
-) -> usize
-    requires { ⌜ Stack (length (now dog)) w h n (s .layers) octave p ⌝ }
-    requires { ⌜ threshold ≡ thresholdOf (s .contrast) (s .layers) ⌝ }
-    requires { ⌜ Wide w h ⌝ }
-    requires { ⌜ (border ≤ row) × (row ≤ h - border) × (from < 2 ^ 38) ⌝ }
-    ensures { λ k. ⌜ k ≡ length (joined row (h - border) (λ r. rowOf tied (now (dog .entry)) w h s octave p r)) ⌝ }
-    ensures { λ k. ⌜ now (out .exit) ≡ sets (now (out .entry)) from (words (joined row (h - border) (λ r. rowOf tied (now (dog .entry)) w h s octave p r))) ⌝ }
+// Writes the layer's keypoints, as far as there is room, and counts them all.
+fn layer_words(dog: &[f32], t: Shape, s: Search, out: &mut [u32]) -> usize
+    requires { ⌜ Searched (length (now dog)) t s ⌝ }
+    requires { ⌜ (2 * border < t .width) × (2 * border < t .height) ⌝ }
+    ensures { λ k. ⌜ k ≡ length (keypoints tied (now (dog .entry)) t s) ⌝ }
+    ensures { λ k. ⌜ now (out .exit) ≡ sets (now (out .entry)) 0 (words (keypoints tied (now (dog .entry)) t s)) ⌝ }
+    ensures { λ k. ⌜ k ≤ maxSide * maxSide ⌝ }
 {
     let mut k: usize = 0;
-    for r in row..h - 5 {
-        k += detect_rows::row_words(dog, w, h, n, s, octave, threshold, p, r, out, from + 10 * k);
+    for r in BORDER..t.height - BORDER {
+        k += detect_rows::row_words(dog, t, s, r, out, WORDS * k);
     }
     k
 }
 
-// How many cells of the rows from `row` on the first look leaves: no fewer than there are keypoints.
-fn most(dog: &[f32], w: usize, h: usize, n: usize, threshold: f32, p: usize, row: usize) -> usize
-    requires { ⌜ Rows (length (now dog)) w h n p row ⌝ }
-    ensures { λ k. ⌜ k ≡ length (joined row (h - border) (λ r. leftOf threshold (now (dog .entry)) w h p r)) ⌝ }
+// Writes the layer's k keypoints where all of them fit, and else nothing. Where they are few enough to be held, `hold` has them; else they are searched for again.
+fn land(dog: &[f32], t: Shape, s: Search, k: usize, hold: &[u32], out: &mut [u32])
+    requires { ⌜ Searched (length (now dog)) t s ⌝ }
+    requires { ⌜ (2 * border < t .width) × (2 * border < t .height) ⌝ }
+    requires { ⌜ (k ≡ length (keypoints tied (now dog) t s)) × (k ≤ maxSide * maxSide) ⌝ }
+    requires { ⌜ (keypointWords * k ≤ length (now hold) → take (keypointWords * k) (now hold) ≡ words (keypoints tied (now dog) t s)) ⌝ }
+    ensures { λ _. ⌜ now (out .exit) ≡ landed (roomAnswer (keypoints tied (now (dog .entry)) t s) (length (now (out .entry)))) (words (keypoints tied (now (dog .entry)) t s)) (now (out .entry)) ⌝ }
 {
-    let mut k: usize = 0;
-    for r in row..h - 5 {
-        k += detect_extrema::row_most(dog, w, h, n, threshold, p, r);
+    if WORDS * k > out.len() {
+        return;
     }
-    k
+    if WORDS * k <= hold.len() {
+        detect_rows::copy(hold, WORDS * k, out, 0);
+        return;
+    }
+    layer_words(dog, t, s, out);
 }
 
-// The number of all keypoints where they do not fit in `room` words, else 0. `held` is the number of those in the rows before `row`.
-// Where even as many keypoints fit as the first look leaves cells, nothing is searched for it.
-fn too_many(
-    dog: &[f32],
-    w: usize,
-    h: usize,
-    n: usize,
-    s: Settings,
-    octave: u32,
-    threshold: f32,
-    p: usize,
-    held: usize,
-    row: usize,
-    room: usize,
-) -> usize
-    requires { ⌜ Stack (length (now dog)) w h n (s .layers) octave p ⌝ }
-    requires { ⌜ threshold ≡ thresholdOf (s .contrast) (s .layers) ⌝ }
-    requires { ⌜ Wide w h ⌝ }
-    requires { ⌜ (border ≤ row) × (row ≤ h - border) × (held ≤ maxHeld) ⌝ }
-    requires { ⌜ held ≡ length (joined border row (λ r. rowOf tied (now dog) w h s octave p r)) ⌝ }
-    ensures { λ k. ⌜ k ≡ lacking (length (keypoints tied (now (dog .entry)) w h s octave p)) room ⌝ }
+// The answer where so many keypoints are found, by the room for their words.
+fn room_answer(k: usize, room: usize) -> Answer
+    requires { ⌜ k ≤ maxSide * maxSide ⌝ }
+    ensures { λ a. ⌜ a ≡ answerOf 0 k (keypointWords * k) room ⌝ }
 {
-    let bound = held + most(dog, w, h, n, threshold, p, row);
-    if 10 * bound <= room {
-        return 0;
+    if WORDS * k > room {
+        Answer::Short(k)
+    } else {
+        Answer::Done(k)
     }
-    let mut none = [0u32; 1];
-    let all = held + fill(dog, w, h, n, s, octave, threshold, p, row, &mut none, 0);
-    if 10 * all <= room {
-        return 0;
-    }
-    all
 }
 
 // The answer for a stack that no check before that of room refuses, where there are cells to search.
-fn search(
-    dog: &[f32],
-    w: usize,
-    h: usize,
-    n: usize,
-    s: Settings,
-    octave: u32,
-    p: usize,
-    out: &mut [u32],
-) -> Answer
-    requires { ⌜ Stack (length (now dog)) w h n (s .layers) octave p ⌝ }
-    requires { ⌜ contrastWrong (s .contrast) ≡ false ⌝ }
-    requires { ⌜ Wide w h ⌝ }
-    ensures { λ a. ⌜ a ≡ roomAnswer (keypoints tied (now (dog .entry)) w h s octave p) (length (now (out .entry))) ⌝ }
-    ensures { λ a. ⌜ now (out .exit) ≡ landed (roomAnswer (keypoints tied (now (dog .entry)) w h s octave p) (length (now (out .entry)))) (words (keypoints tied (now (dog .entry)) w h s octave p)) (now (out .entry)) ⌝ }
+fn search(dog: &[f32], t: Shape, s: Search, out: &mut [u32]) -> Answer
+    requires { ⌜ Searched (length (now dog)) t s ⌝ }
+    requires { ⌜ (2 * border < t .width) × (2 * border < t .height) ⌝ }
+    ensures { λ a. ⌜ a ≡ roomAnswer (keypoints tied (now (dog .entry)) t s) (length (now (out .entry))) ⌝ }
+    ensures { λ a. ⌜ now (out .exit) ≡ landed (roomAnswer (keypoints tied (now (dog .entry)) t s) (length (now (out .entry)))) (words (keypoints tied (now (dog .entry)) t s)) (now (out .entry)) ⌝ }
 {
-    let threshold = params::threshold_of(s.contrast, s.layers);
-    let mut hold = [0; HELD * 10];
-    let t = scan(dog, w, h, n, s, octave, threshold, p, &mut hold);
-    let lacking = too_many(
-        dog,
-        w,
-        h,
-        n,
-        s,
-        octave,
-        threshold,
-        p,
-        t.held,
-        t.row,
-        out.len(),
-    );
-    if lacking > 0 {
-        return Answer::Short(lacking);
-    }
-    detect_rows::copy(&hold, 10 * t.held, out, 0);
-    let k = fill(
-        dog,
-        w,
-        h,
-        n,
-        s,
-        octave,
-        threshold,
-        p,
-        t.row,
-        out,
-        10 * t.held,
-    );
-    Answer::Done(t.held + k)
+    let mut hold = [0; HELD * WORDS];
+    let k = layer_words(dog, t, s, &mut hold);
+    let room = out.len();
+    land(dog, t, s, k, &hold, out);
+    room_answer(k, room)
 }
 
 // The number of the first check that fails, or 0.
-fn fault(
-    dog: &[f32],
-    w: usize,
-    h: usize,
-    planes: usize,
-    layer: usize,
-    octave: u32,
-    s: Settings,
-) -> u32
-    ensures { λ b. ⌜ b ≡ faultOf (now (dog .entry)) w h planes layer octave s ⌝ }
-    ensures { λ b. ⌜ (b ≡ 0 → Stack (length (now (dog .entry))) w h planes (s .layers) octave layer) ⌝ }
+fn fault(dog: &[f32], t: Shape, layer: usize, octave: u32, s: Settings) -> u32
+    ensures { λ b. ⌜ b ≡ faultOf (now (dog .entry)) t layer octave s ⌝ }
+    ensures { λ b. ⌜ (b ≡ 0 → Searched (length (now (dog .entry))) t (searchOf layer octave s)) ⌝ }
     ensures { λ b. ⌜ (b ≡ 0 → contrastWrong (s .contrast) ≡ false) ⌝ }
 {
-    if params::shape_wrong(w, h) {
+    if params::shape_wrong(t.width, t.height) {
         return 1;
     }
-    if params::layers_wrong(planes, layer, s.layers) {
+    if params::layers_wrong(t.planes, layer, s.layers) {
         return 2;
     }
-    if dog.len() != planes * h * w {
+    if dog.len() != t.planes * t.height * t.width {
         return 3;
     }
     if params::settings_wrong(s, octave) {
@@ -220,29 +108,40 @@ fn fault(
     if picture::all_good(dog) { 0 } else { 6 }
 }
 
-// The keypoints of one layer of a stack of `planes` difference planes, each `h` rows of `w`, as words.
+// The search of a layer, with the threshold of the settings.
+fn search_of(layer: usize, octave: u32, s: Settings) -> Search
+    requires { ⌜ (contrastWrong (s .contrast) ≡ false) × (1 ≤ s .layers) × (s .layers ≤ maxLayers) ⌝ }
+    ensures { λ f. ⌜ f ≡ searchOf layer octave s ⌝ }
+{
+    Search {
+        layer: layer,
+        octave: octave,
+        threshold: params::threshold_of(s.contrast, s.layers),
+        settings: s,
+    }
+}
+
+// The keypoints of one layer of a stack of difference planes, as words.
 pub fn find_extrema(
     dog: &[f32],
-    w: usize,
-    h: usize,
-    planes: usize,
+    t: Shape,
     layer: usize,
     octave: u32,
     s: Settings,
     out: &mut [u32],
 ) -> Answer
-    ensures { λ a. ⌜ a ≡ extremaAnswer (now (dog .entry)) w h planes layer octave s (length (now (out .entry))) ⌝ }
-    ensures { λ a. ⌜ now (out .exit) ≡ extremaOut (now (dog .entry)) w h planes layer octave s (now (out .entry)) ⌝ }
+    ensures { λ a. ⌜ a ≡ extremaAnswer (now (dog .entry)) t layer octave s (length (now (out .entry))) ⌝ }
+    ensures { λ a. ⌜ now (out .exit) ≡ extremaOut (now (dog .entry)) t layer octave s (now (out .entry)) ⌝ }
 {
-    let f = fault(dog, w, h, planes, layer, octave, s);
+    let f = fault(dog, t, layer, octave, s);
     if f != 0 {
         return Answer::Refused(f);
     }
-    if w <= 10 {
+    if t.width <= BORDERS {
         return Answer::Done(0);
     }
-    if h <= 10 {
+    if t.height <= BORDERS {
         return Answer::Done(0);
     }
-    search(dog, w, h, planes, s, octave, layer, out)
+    search(dog, t, search_of(layer, octave, s), out)
 }

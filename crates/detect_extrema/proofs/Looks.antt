@@ -10,17 +10,19 @@ use native.Mathlib.Omega.{arith}
 use lib.ListN.{length, getD, set, length-append, List·getD-append}
 use lib.Seq.{sets, getD-append-seam}
 use lib.Ieee.{Float}
+use Rattle.lists.proofs.Naturals.{le-or-lt}
 use Rattle.lists.specs.Ranges.{every, joined}
 use Rattle.lists.proofs.Every.{every-none, every-all}
 use Rattle.lists.proofs.Ranges.{joined-none, joined-start, joined-more, sets-append, sets-front}
-use Rattle.params.specs.Threshold.{thresholdOf}
-use Rattle.params.specs.declared.Settings.{Settings}
 use Rattle.picture.specs.Stack.{sample}
+use Rattle.picture.specs.declared.Shape.{Shape}
+use Rattle.detect_refine.specs.declared.Search.{Search}
 use Rattle.detect_extrema.specs.Neighbours.{tied, loud}
 use Rattle.detect_extrema.specs.Scan.{cellsOf}
 use Rattle.detect_extrema.specs.Hints.{hintAt, anyLoud, looks, Marked}
+use Rattle.detect_extrema.specs.declared.Run.{Run}
 use Rattle.detect_extrema.proofs.Cells.{found-quiet}
-use Rattle.detect_extrema.proofs.Hints.{le-or-lt, blank, not-yes}
+use Rattle.detect_extrema.proofs.Hints.{blank, not-yes}
 
 or-not : (a b : Bool) → (not a || b) ≡ not (a && not b)
 or-not true true = refl
@@ -55,72 +57,55 @@ module _ {A : Type 0} (f : ℕ → A) (lo : ℕ) where
       (λ l. List·getD-append (ones hi) (f hi ∷ []) z (c - lo) (omega (arith, ones-length hi)) ∙ ones-at hi c z a l)
       (eq-or-lt-of-le (le-of-suc-le-suc b)))
 
-  -- a range counted up from its start to the end or beyond
-  ones-end : (c hi : ℕ) → lo ≤ c → c - lo ≡ hi - lo → ones c ≡ ones hi
-  ones-end c hi a e =
-      ⊎-elim
-      (λ g. let q : c ≡ hi = omega arith in rw q)
-      (λ g. joined-none lo c (λ c. f c ∷ []) (omega arith) ∙ sym (joined-none lo hi (λ c. f c ∷ []) (omega arith)))
-      (le-or-lt lo hi)
-
 -- ---- whether a cell of the run is loud
 
-module _ (threshold : Float) (d : List Float) (w h p r lo : ℕ) where
+module _ (d : List Float) (t : Shape) (s : Search) (r lo : ℕ) where
   abbrev quiet : ℕ → Bool
-  quiet i = not (loud threshold (sample d w h p r (lo + i)))
+  quiet i = not (loud (s .threshold) (sample d t (s .layer) r (lo + i)))
 
-  pub any-none : false ≡ anyLoud threshold d w h p r lo lo
+  pub any-none : false ≡ anyLoud d t s r lo lo
   unfolding anyLoud
   any-none = let z : lo - lo ≡ 0 = omega arith in rw (z, every-none)
 
-  pub any-more : (c : ℕ) (any b : Bool) → lo ≤ c → any ≡ anyLoud threshold d w h p r lo c → b ≡ loud threshold (sample d w h p r c) → (any || b) ≡ anyLoud threshold d w h p r lo (c + 1)
+  pub any-more : (c : ℕ) (any b : Bool) → lo ≤ c → any ≡ anyLoud d t s r lo c → b ≡ loud (s .threshold) (sample d t (s .layer) r c) → (any || b) ≡ anyLoud d t s r lo (c + 1)
   unfolding anyLoud every
   any-more c any b o e f =
       let z : c + 1 - lo ≡ suc (c - lo) = omega arith in
       let n : lo + (c - lo) ≡ c = omega arith in
-      rw (z, n, e, f) (or-not (every (c - lo) quiet) (loud threshold (sample d w h p r c)))
-
-  pub any-end : (c hi : ℕ) → c - lo ≡ hi - lo → anyLoud threshold d w h p r lo c ≡ anyLoud threshold d w h p r lo hi
-  unfolding anyLoud
-  any-end c hi e = rw e
+      rw (z, n, e, f) (or-not (every (c - lo) quiet) (loud (s .threshold) (sample d t (s .layer) r c)))
 
   -- where none is, each is quiet
-  none-loud : (hi : ℕ) → anyLoud threshold d w h p r lo hi ≡ false → (c : ℕ) → lo ≤ c → c < hi → loud threshold (sample d w h p r c) ≡ false
+  none-loud : (hi : ℕ) → anyLoud d t s r lo hi ≡ false → (c : ℕ) → lo ≤ c → c < hi → loud (s .threshold) (sample d t (s .layer) r c) ≡ false
   unfolding anyLoud
   none-loud hi e c a b =
       let n : lo + (c - lo) ≡ c = omega arith in
-      let q : loud threshold (sample d w h p r (lo + (c - lo))) ≡ false = not-yes _ (every-all (hi - lo) quiet (not-no (every (hi - lo) quiet) e) (c - lo) (omega arith)) in
+      let q : loud (s .threshold) (sample d t (s .layer) r (lo + (c - lo))) ≡ false = not-yes _ (every-all (hi - lo) quiet (not-no (every (hi - lo) quiet) e) (c - lo) (omega arith)) in
       rw n at q
 
 -- and they give nothing
-pub quiet-cells : (d : List Float) (w h : ℕ) (s : Settings) (octave p r lo hi : ℕ) (threshold : Float) → threshold ≡ thresholdOf (s .contrast) (s .layers)
-    → anyLoud threshold d w h p r lo hi ≡ false → cellsOf tied d w h s octave p r lo hi ≡ []
-quiet-cells d w h s octave p r lo hi threshold t e =
-    blank lo hi _ (λ c a b. found-quiet d w h s octave p r c (rw t at (none-loud threshold d w h p r lo hi e c a b)))
+pub quiet-cells : (d : List Float) (t : Shape) (s : Search) (r lo hi : ℕ) → anyLoud d t s r lo hi ≡ false → cellsOf tied d t s r lo hi ≡ []
+quiet-cells d t s r lo hi e = blank lo hi _ (λ c a b. found-quiet d t s r c (none-loud d t s r lo hi e c a b))
 
 -- ---- the marks
 
-module _ (threshold : Float) (d : List Float) (w h p r lo : ℕ) where
-  pub marks-none : (old : List Bool) → old ≡ sets old 0 (looks threshold d w h p r lo lo)
+module _ (d : List Float) (t : Shape) (s : Search) (r lo : ℕ) where
+  pub marks-none : (old : List Bool) → old ≡ sets old 0 (looks d t s r lo lo)
   unfolding looks
   marks-none old = rw joined-start
 
-  pub marks-more : (c : ℕ) (old marks : List Bool) (b : Bool) → lo ≤ c → marks ≡ sets old 0 (looks threshold d w h p r lo c) → b ≡ hintAt threshold d w h p r c
-      → set marks (c - lo) b ≡ sets old 0 (looks threshold d w h p r lo (c + 1))
+  pub marks-more : (c : ℕ) (old marks : List Bool) (b : Bool) → lo ≤ c → marks ≡ sets old 0 (looks d t s r lo c) → b ≡ hintAt (s .threshold) d t (s .layer) r c
+      → set marks (c - lo) b ≡ sets old 0 (looks d t s r lo (c + 1))
   unfolding looks
   marks-more c old marks b o e f =
-      let n : c - lo ≡ 0 + length (joined lo c (λ c. hintAt threshold d w h p r c ∷ [])) = omega (arith, ones-length (hintAt threshold d w h p r) lo c) in
-      rw (joined-more lo c (λ c. hintAt threshold d w h p r c ∷ []) o, e, f, n)
-      (sets-append (joined lo c (λ c. hintAt threshold d w h p r c ∷ [])) (hintAt threshold d w h p r c ∷ []) old 0)
+      let n : c - lo ≡ 0 + length (joined lo c (λ c. hintAt (s .threshold) d t (s .layer) r c ∷ [])) = omega (arith, ones-length (hintAt (s .threshold) d t (s .layer) r) lo c) in
+      rw (joined-more lo c (λ c. hintAt (s .threshold) d t (s .layer) r c ∷ []) o, e, f, n)
+      (sets-append (joined lo c (λ c. hintAt (s .threshold) d t (s .layer) r c ∷ [])) (hintAt (s .threshold) d t (s .layer) r c ∷ []) old 0)
 
-  pub marks-end : (c hi : ℕ) → lo ≤ c → c - lo ≡ hi - lo → looks threshold d w h p r lo c ≡ looks threshold d w h p r lo hi
-  unfolding looks
-  marks-end c hi a e = ones-end (hintAt threshold d w h p r) lo c hi a e
-
-  -- what is read of them
-  pub marks-read : (hi : ℕ) (old marks : List Bool) → hi - lo ≤ length old → marks ≡ sets old 0 (looks threshold d w h p r lo hi) → Marked threshold d w h p r lo hi marks
-  unfolding looks
-  marks-read hi old marks room e c a b =
-      let m = ones-length (hintAt threshold d w h p r) lo hi in
-      rw (e, sets-front old (joined lo hi (λ c. hintAt threshold d w h p r c ∷ [])) (omega (arith, m)))
-      (List·getD-append (joined lo hi (λ c. hintAt threshold d w h p r c ∷ [])) _ false (c - lo) (omega (arith, m)) ∙ ones-at (hintAt threshold d w h p r) lo hi c false a b)
+-- what is read of them
+pub marks-read : (d : List Float) (t : Shape) (s : Search) (u : Run) (old marks : List Bool) → u .hi - u .lo ≤ length old → marks ≡ sets old 0 (looks d t s (u .row) (u .lo) (u .hi)) → Marked d t s u marks
+unfolding looks
+marks-read d t s u old marks room e c a b =
+    let look = hintAt (s .threshold) d t (s .layer) (u .row) in
+    let m = ones-length look (u .lo) (u .hi) in
+    rw (e, sets-front old (joined (u .lo) (u .hi) (λ c. look c ∷ [])) (omega (arith, m)))
+    (List·getD-append (joined (u .lo) (u .hi) (λ c. look c ∷ [])) _ false (c - u .lo) (omega (arith, m)) ∙ ones-at look (u .lo) (u .hi) c false a b)

@@ -10,13 +10,13 @@ use lib.Ieee.{Float}
 use Rattle.lists.specs.Ranges.{joined}
 use Rattle.lists.proofs.Ranges.{joined-none, joined-empty, joined-bound}
 use Rattle.params.specs.Limits.{border, maxSide}
-use Rattle.params.specs.declared.Settings.{Settings}
+use Rattle.picture.specs.declared.Shape.{Shape}
 use Rattle.detect_refine.specs.Keypoint.{refineOf}
+use Rattle.detect_refine.specs.declared.Search.{Search}
 use Rattle.detect_refine.specs.declared.Refined.{Refined}
 use Rattle.detect_refine.specs.declared.Refined.the-variants.{Dropped, At}
 use Rattle.detect_extrema.specs.Neighbours.{Rule, candidate}
-use Rattle.detect_extrema.specs.Scan.{kept, found, rowOf, keypoints}
-use Rattle.params.specs.Threshold.{thresholdOf}
+use Rattle.detect_extrema.specs.Scan.{kept, cellOf, found, rowOf, keypoints}
 
 kept-one : (x : Refined) → length (kept x) ≤ 1
 kept-one Dropped = omega arith
@@ -26,36 +26,36 @@ chosen-one : (b : Bool) (x : Refined) → length (cond b (kept x) []) ≤ 1
 chosen-one true x = kept-one x
 chosen-one false x = omega arith
 
-module _ (rule : Rule) (d : List Float) (w h : ℕ) (s : Settings) (octave p : ℕ) where
-  pub found-one : (r c : ℕ) → length (found rule d w h s octave p r c) ≤ 1
+module _ (rule : Rule) (d : List Float) (t : Shape) (s : Search) where
+  pub found-one : (r c : ℕ) → length (found rule d t s r c) ≤ 1
   unfolding found
-  found-one r c = chosen-one (candidate rule (thresholdOf (s .contrast) (s .layers)) d w h p r c) (refineOf d w h s octave p r c)
+  found-one r c = chosen-one (candidate rule (s .threshold) d t (s .layer) r c) (refineOf d t s (cellOf s r c))
 
   -- the cells of a row up to a column
-  pub cells-bound : (r lo hi : ℕ) → length (joined lo hi (λ c. found rule d w h s octave p r c)) ≤ hi - lo
+  pub cells-bound : (r lo hi : ℕ) → length (joined lo hi (λ c. found rule d t s r c)) ≤ hi - lo
   cells-bound r lo hi =
       let e : (hi - lo) * 1 ≡ hi - lo = mul-one (hi - lo) in
-      omega (arith, joined-bound 1 lo hi (λ c. found rule d w h s octave p r c) (λ c. found-one r c))
+      omega (arith, joined-bound 1 lo hi (λ c. found rule d t s r c) (λ c. found-one r c))
 
-  pub row-bound : (r : ℕ) → length (rowOf rule d w h s octave p r) ≤ w - border - border
+  pub row-bound : (r : ℕ) → length (rowOf rule d t s r) ≤ t .width - border - border
   unfolding rowOf
-  row-bound r = cells-bound r border (w - border)
+  row-bound r = cells-bound r border (t .width - border)
 
   -- the rows up to one
-  pub rows-bound : (lo hi : ℕ) → length (joined lo hi (λ r. rowOf rule d w h s octave p r)) ≤ (hi - lo) * (w - border - border)
-  rows-bound lo hi = joined-bound (w - border - border) lo hi (λ r. rowOf rule d w h s octave p r) (λ r. row-bound r)
+  pub rows-bound : (lo hi : ℕ) → length (joined lo hi (λ r. rowOf rule d t s r)) ≤ (hi - lo) * (t .width - border - border)
+  rows-bound lo hi = joined-bound (t .width - border - border) lo hi (λ r. rowOf rule d t s r) (λ r. row-bound r)
 
   -- that is few enough to number their words
-  pub rows-few : (lo hi : ℕ) → hi ≤ maxSide → w ≤ maxSide → length (joined lo hi (λ r. rowOf rule d w h s octave p r)) ≤ maxSide * maxSide
+  pub rows-few : (lo hi : ℕ) → hi ≤ maxSide → t .width ≤ maxSide → length (joined lo hi (λ r. rowOf rule d t s r)) ≤ maxSide * maxSide
   rows-few lo hi a b =
       le-trans (rows-bound lo hi)
-      (mul-le-mul {n₁ = hi - lo} {m₁ = w - border - border} {n₂ = maxSide} {m₂ = maxSide} (omega arith) (omega arith))
+      (mul-le-mul {n₁ = hi - lo} {m₁ = t .width - border - border} {n₂ = maxSide} {m₂ = maxSide} (omega arith) (omega arith))
 
   -- a picture too small for the border
-  pub few-rows : h ≤ 2 * border → keypoints rule d w h s octave p ≡ []
+  pub few-rows : t .height ≤ 2 * border → keypoints rule d t s ≡ []
   unfolding keypoints
-  few-rows e = joined-none border (h - border) _ (omega arith)
+  few-rows e = joined-none border (t .height - border) _ (omega arith)
 
-  pub few-columns : w ≤ 2 * border → keypoints rule d w h s octave p ≡ []
+  pub few-columns : t .width ≤ 2 * border → keypoints rule d t s ≡ []
   unfolding keypoints rowOf
-  few-columns e = joined-empty border (h - border) _ (λ r. joined-none border (w - border) _ (omega arith))
+  few-columns e = joined-empty border (t .height - border) _ (λ r. joined-none border (t .width - border) _ (omega arith))

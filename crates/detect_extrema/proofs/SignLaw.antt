@@ -16,15 +16,16 @@ use Rattle.ieee_laws.proofs.TurnedOps.{zero-any, abs-turned, Signed, above, und
 use Rattle.ieee_laws.proofs.Order.{le-lt-trans}
 use Rattle.lists.specs.Ranges.{every, joined}
 use Rattle.params.specs.Limits.{border}
-use Rattle.params.specs.Threshold.{thresholdOf}
-use Rattle.params.specs.declared.Settings.{Settings}
 use Rattle.picture.specs.Stack.{sample}
+use Rattle.picture.specs.declared.Shape.{Shape}
 use Rattle.detect_refine.specs.Sign.{SameRefined, both-dropped, both-at}
+use Rattle.detect_refine.specs.declared.Search.{Search}
 use Rattle.detect_refine.specs.declared.RawKeypoint.{RawKeypoint}
 use Rattle.detect_refine.specs.declared.Refined.{Refined}
-use Rattle.detect_refine.proofs.SignLaw.{at-opp, refine-same}
+use Rattle.detect_fit.proofs.SignLaw.{at-opp}
+use Rattle.detect_refine.proofs.SignLaw.{refine-same}
 use Rattle.detect_extrema.specs.Neighbours.{Rule, tied, larger, keepsOver, centre, passes, isExtremum, loud, candidate}
-use Rattle.detect_extrema.specs.Scan.{kept, found, rowOf, keypoints}
+use Rattle.detect_extrema.specs.Scan.{kept, cellOf, found, rowOf, keypoints}
 use Rattle.detect_extrema.specs.SameList.{SameList, none, more}
 
 -- ---- a candidate
@@ -77,33 +78,36 @@ same-length (more k s) = ap suc (same-length s)
 
 -- ---- a stack and its negative, at a threshold that is not negative
 
-module _ (rule : Rule) (d e : List Float) (w h : ℕ) (s : Settings) (octave p : ℕ) (o : (i : ℕ) → Opp (getD d i nan) (getD e i nan))
-    (floor : le nought (thresholdOf (s .contrast) (s .layers)) ≡ true) (first : 1 ≤ p) where
+module _ (rule : Rule) (d e : List Float) (t : Shape) (s : Search) (o : (i : ℕ) → Opp (getD d i nan) (getD e i nan))
+    (floor : le nought (s .threshold) ≡ true) (first : 1 ≤ s .layer) where
   abbrev threshold : Float
-  threshold = thresholdOf (s .contrast) (s .layers)
+  threshold = s .threshold
 
-  cells : (p r c : ℕ) → Opp (sample d w h p r c) (sample e w h p r c)
-  cells = at-opp d e w h s octave o
+  abbrev p : ℕ
+  p = s .layer
 
-  extremum-same : (r c : ℕ) → loud threshold (sample d w h p r c) ≡ true → isExtremum rule e w h p r c ≡ isExtremum rule d w h p r c
+  cells : (p r c : ℕ) → Opp (sample d t p r c) (sample e t p r c)
+  cells = at-opp d e t o
+
+  extremum-same : (r c : ℕ) → loud threshold (sample d t p r c) ≡ true → isExtremum rule e t p r c ≡ isExtremum rule d t p r c
   unfolding isExtremum passes
   extremum-same r c l =
-      let v = loud-signed threshold (sample d w h p r c) floor l in
+      let v = loud-signed threshold (sample d t p r c) floor l in
       every-same 3 _ _ (λ i. every-same 3 _ _ (λ j. every-same 3 _ _ (λ k. ap (λ (b : Bool). centre i j k || b) (keeps-same rule (cells _ _ _) (cells _ _ _) v))))
 
-  candidate-same : (r c : ℕ) → candidate rule threshold e w h p r c ≡ candidate rule threshold d w h p r c
+  candidate-same : (r c : ℕ) → candidate rule threshold e t p r c ≡ candidate rule threshold d t p r c
   unfolding candidate
-  candidate-same r c = go (loud threshold (sample d w h p r c)) refl
+  candidate-same r c = go (loud threshold (sample d t p r c)) refl
     where
-      go : (b : Bool) → loud threshold (sample d w h p r c) ≡ b
-          → (loud threshold (sample e w h p r c) && isExtremum rule e w h p r c) ≡ (loud threshold (sample d w h p r c) && isExtremum rule d w h p r c)
+      go : (b : Bool) → loud threshold (sample d t p r c) ≡ b
+          → (loud threshold (sample e t p r c) && isExtremum rule e t p r c) ≡ (loud threshold (sample d t p r c) && isExtremum rule d t p r c)
       go true q = rw (loud-same threshold (cells p r c), q) (extremum-same r c q)
       go false q = rw (loud-same threshold (cells p r c), q)
 
-  found-same : (r c : ℕ) → border ≤ r → border ≤ c → SameList (found rule d w h s octave p r c) (found rule e w h s octave p r c)
+  found-same : (r c : ℕ) → border ≤ r → border ≤ c → SameList (found rule d t s r c) (found rule e t s r c)
   unfolding found
-  found-same r c R C = rw (candidate-same r c) (pick-same (candidate rule threshold d w h p r c) (λ _. kept-same (refine-same d e w h s octave o p r c first R C)))
+  found-same r c R C = rw (candidate-same r c) (pick-same (candidate rule threshold d t p r c) (λ _. kept-same (refine-same d e t s o (cellOf s r c) first R C)))
 
-  pub keypoints-same : SameList (keypoints rule d w h s octave p) (keypoints rule e w h s octave p)
+  pub keypoints-same : SameList (keypoints rule d t s) (keypoints rule e t s)
   unfolding keypoints rowOf
-  keypoints-same = joined-same border (h - border) _ _ (λ r R. joined-same border (w - border) _ _ (λ c C. found-same r c R C))
+  keypoints-same = joined-same border (t .height - border) _ _ (λ r R. joined-same border (t .width - border) _ _ (λ c C. found-same r c R C))

@@ -1,5 +1,5 @@
 pub mod Neighbours
 pub mod Scan
-pub mod Places
+pub mod Place
 pub mod SameList
 pub mod Hints

@@ -1,4 +1,4 @@
--- Two lists of keypoints, of a stack and of its negative. Definitions only.
+-- Law: two lists of keypoints, of a stack and of its negative. Definitions only.
 use mathlib.Core.List.{List, [], _∷_}
 use Rattle.detect_refine.specs.Sign.{SameKeypoint}
 use Rattle.detect_refine.specs.declared.RawKeypoint.{RawKeypoint}

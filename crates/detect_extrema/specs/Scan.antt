@@ -6,9 +6,10 @@ use lib.Ieee.{Float}
 use Rattle.ieee.specs.F32.{bitsOf}
 use Rattle.lists.specs.Ranges.{joined}
 use Rattle.params.specs.Limits.{border}
-use Rattle.params.specs.Threshold.{thresholdOf}
-use Rattle.params.specs.declared.Settings.{Settings}
+use Rattle.picture.specs.declared.Shape.{Shape}
 use Rattle.detect_refine.specs.Keypoint.{refineOf}
+use Rattle.detect_refine.specs.declared.Cell.{Cell}
+use Rattle.detect_refine.specs.declared.Search.{Search}
 use Rattle.detect_refine.specs.declared.RawKeypoint.{RawKeypoint}
 use Rattle.detect_refine.specs.declared.Refined.{Refined}
 use Rattle.detect_refine.specs.declared.Refined.the-variants.{Dropped, At}
@@ -18,22 +19,25 @@ abbrev pub kept : Refined → List RawKeypoint
 kept Dropped = []
 kept (At k) = k ∷ []
 
--- what the cell (p, r, c) gives: nothing, or the keypoint that it is refined to
-unfoldable pub found : Rule → List Float → ℕ → ℕ → Settings → ℕ → ℕ → ℕ → ℕ → List RawKeypoint
-found rule d w h s octave p r c =
-    cond (candidate rule (thresholdOf (s .contrast) (s .layers)) d w h p r c) (kept (refineOf d w h s octave p r c)) []
+-- the cell of the layer that is searched, at row r, column c
+abbrev pub cellOf : Search → ℕ → ℕ → Cell
+cellOf s r c = record { p = s .layer; r = r; c = c }
+
+-- what it gives: nothing, or the keypoint that it is refined to
+unfoldable pub found : Rule → List Float → Shape → Search → ℕ → ℕ → List RawKeypoint
+found rule d t s r c = cond (candidate rule (s .threshold) d t (s .layer) r c) (kept (refineOf d t s (cellOf s r c))) []
 
 -- the cells of a row from column lo to below hi, from left to right
-abbrev pub cellsOf : Rule → List Float → ℕ → ℕ → Settings → ℕ → ℕ → ℕ → ℕ → ℕ → List RawKeypoint
-cellsOf rule d w h s octave p r lo hi = joined lo hi (λ c. found rule d w h s octave p r c)
+abbrev pub cellsOf : Rule → List Float → Shape → Search → ℕ → ℕ → ℕ → List RawKeypoint
+cellsOf rule d t s r lo hi = joined lo hi (λ c. found rule d t s r c)
 
 -- those that are at least the border from both edges
-unfoldable pub rowOf : Rule → List Float → ℕ → ℕ → Settings → ℕ → ℕ → ℕ → List RawKeypoint
-rowOf rule d w h s octave p r = cellsOf rule d w h s octave p r border (w - border)
+unfoldable pub rowOf : Rule → List Float → Shape → Search → ℕ → List RawKeypoint
+rowOf rule d t s r = cellsOf rule d t s r border (t .width - border)
 
 -- the rows that are at least the border from both edges, from top to bottom
-unfoldable pub keypoints : Rule → List Float → ℕ → ℕ → Settings → ℕ → ℕ → List RawKeypoint
-keypoints rule d w h s octave p = joined border (h - border) (λ r. rowOf rule d w h s octave p r)
+unfoldable pub keypoints : Rule → List Float → Shape → Search → List RawKeypoint
+keypoints rule d t s = joined border (t .height - border) (λ r. rowOf rule d t s r)
 
 -- a keypoint goes out as so many words
 abbrev pub keypointWords : ℕ

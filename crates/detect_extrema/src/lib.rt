@@ -1,22 +1,34 @@
 // The cells of one layer of a stack of difference planes: a first look at them, the search among a cell's neighbours, and what a cell gives.
 
 ghost use mathlib.Core.Path.{_≡_};
-ghost use mathlib.Core.Bool.{cond};
-ghost use Prim.Native.Nat.{_+_, _-_, _<_, _≤_};
 ghost use lib.ListN.{length};
-ghost use lib.Seq.{sets};
 ghost use Rattle.ieee.specs.F32.{_<ᶠ_};
 ghost use Rattle.ieee.specs.Numbers.{nought};
-ghost use Rattle.params.specs.Limits.{maxOctave};
-ghost use Rattle.params.specs.Threshold.{thresholdOf};
 ghost use Rattle.picture.specs.Stack.{sample};
-ghost use Rattle.detect_refine.specs.Keypoint.{Place};
+ghost use Rattle.detect_fit.specs.Place.{Around};
+ghost use Rattle.detect_refine.specs.Place.{Searched, Placed};
 ghost use Rattle.detect_extrema.specs.Neighbours.{tied, keepsAs, centre, isExtremum, loud};
-ghost use Rattle.detect_extrema.specs.Scan.{kept, found};
-ghost use Rattle.detect_extrema.specs.Places.{Around, Run};
-ghost use Rattle.detect_extrema.specs.Hints.{hint, hintAt, anyLoud, looks, leftOf};
+ghost use Rattle.detect_extrema.specs.Scan.{kept, cellOf, found};
+ghost use Rattle.detect_extrema.specs.Hints.{hintAt, anyLoud, Marked};
+ghost use Rattle.detect_extrema.specs.Place.{Along};
+use detect_refine::Cell;
 use detect_refine::Refined;
-use params::Settings;
+use detect_refine::Search;
+use picture::Shape;
+
+// Cells this near to an edge are not searched.
+pub const BORDER: usize = 5;
+
+// So many cells of a row are looked at before the first of them is searched. Their samples and marks stay in the processor's nearest memory, and where none of so many
+// is loud, which is the rule in a calm frame, no mark is made. Any number above 0 would do.
+pub const BLOCK: usize = 64;
+
+// Cells of one row, from column lo to below hi.
+pub struct Run {
+    pub row: usize,
+    pub lo: usize,
+    pub hi: usize,
+}
 
 // The middle one of the 27 places about a cell is the cell itself.
 fn is_centre(i: usize, j: usize, k: usize) -> bool
@@ -33,23 +45,14 @@ fn keeps(up: bool, val: f32, other: f32) -> bool
 }
 
 // Whether none of its 26 neighbours beats the cell (p, r, c). The search stops at the first that does: rule D4.
-fn stands(
-    dog: &[f32],
-    w: usize,
-    h: usize,
-    n: usize,
-    p: usize,
-    r: usize,
-    c: usize,
-    val: f32,
-    up: bool,
-) -> bool
-    requires { ⌜ Around (length (now dog)) w h n p r c ⌝ }
-    requires { ⌜ (val ≡ sample (now dog) w h p r c) × (up ≡ (nought <ᶠ val)) ⌝ }
-    ensures { λ b. ⌜ b ≡ isExtremum tied (now (dog .entry)) w h p r c ⌝ }
+fn stands(dog: &[f32], t: Shape, p: usize, r: usize, c: usize, up: bool) -> bool
+    requires { ⌜ Around (length (now dog)) t p r c ⌝ }
+    requires { ⌜ up ≡ (nought <ᶠ sample (now dog) t p r c) ⌝ }
+    ensures { λ b. ⌜ b ≡ isExtremum tied (now (dog .entry)) t p r c ⌝ }
 {
-    let plane = h * w;
-    let first = ((p - 1) * h + (r - 1)) * w + (c - 1);
+    let plane = t.height * t.width;
+    let first = ((p - 1) * t.height + (r - 1)) * t.width + (c - 1);
+    let val = picture::at(dog, t, p, r, c);
     let mut ok = true;
     'nb: for i in 0..3 {
         for j in 0..3 {
@@ -57,7 +60,7 @@ fn stands(
                 if is_centre(i, j, k) {
                     continue;
                 }
-                let other = dog[first + i * plane + j * w + k];
+                let other = dog[first + i * plane + j * t.width + k];
                 if !keeps(up, val, other) {
                     ok = false;
                     break 'nb;
@@ -69,15 +72,14 @@ fn stands(
 }
 
 // Whether a cell is an extremum among its neighbours. A positive one has to be the larger, any other the smaller.
-pub fn is_extremum(dog: &[f32], w: usize, h: usize, n: usize, p: usize, r: usize, c: usize) -> bool
-    requires { ⌜ Around (length (now dog)) w h n p r c ⌝ }
-    ensures { λ b. ⌜ b ≡ isExtremum tied (now (dog .entry)) w h p r c ⌝ }
+pub fn is_extremum(dog: &[f32], t: Shape, p: usize, r: usize, c: usize) -> bool
+    requires { ⌜ Around (length (now dog)) t p r c ⌝ }
+    ensures { λ b. ⌜ b ≡ isExtremum tied (now (dog .entry)) t p r c ⌝ }
 {
-    let val = picture::at(dog, w, h, n, p, r, c);
-    if val > 0.0 {
-        stands(dog, w, h, n, p, r, c, val, true)
+    if picture::at(dog, t, p, r, c) > 0.0 {
+        stands(dog, t, p, r, c, true)
     } else {
-        stands(dog, w, h, n, p, r, c, val, false)
+        stands(dog, t, p, r, c, false)
     }
 }
 
@@ -89,164 +91,82 @@ pub fn is_loud(threshold: f32, val: f32) -> bool
 }
 
 // What a cell gives: nothing where it is no candidate, else what it is refined to. `kept` tells the two cases apart, so that its value names the answer; so in `seen`.
-fn cell(
-    dog: &[f32],
-    w: usize,
-    h: usize,
-    n: usize,
-    s: Settings,
-    octave: u32,
-    threshold: f32,
-    p: usize,
-    r: usize,
-    c: usize,
-) -> Refined
-    requires { ⌜ Place (length (now dog)) w h n (s .layers) p r c ⌝ }
-    requires { ⌜ octave ≤ maxOctave ⌝ }
-    requires { ⌜ threshold ≡ thresholdOf (s .contrast) (s .layers) ⌝ }
-    ensures { λ x. ⌜ kept x ≡ found tied (now (dog .entry)) w h s octave p r c ⌝ }
+fn cell(dog: &[f32], t: Shape, s: Search, r: usize, c: usize) -> Refined
+    requires { ⌜ Searched (length (now dog)) t s ⌝ }
+    requires { ⌜ Placed t (s .settings .layers) (cellOf s r c) ⌝ }
+    ensures { λ x. ⌜ kept x ≡ found tied (now (dog .entry)) t s r c ⌝ }
 {
-    if !is_loud(threshold, picture::at(dog, w, h, n, p, r, c)) {
+    if !is_loud(s.threshold, picture::at(dog, t, s.layer, r, c)) {
         return Refined::Dropped;
     }
-    if is_extremum(dog, w, h, n, p, r, c) {
-        detect_refine::refine(dog, w, h, n, s, octave, p, r, c)
+    if is_extremum(dog, t, s.layer, r, c) {
+        detect_refine::refine(
+            dog,
+            t,
+            s,
+            Cell {
+                p: s.layer,
+                r: r,
+                c: c,
+            },
+        )
     } else {
         Refined::Dropped
     }
 }
 
-// A first look: whether v is loud and not beaten by its six nearest neighbours.
-fn may_be(threshold: f32, v: f32, a: f32, b: f32, c: f32, d: f32, e: f32, f: f32) -> bool
-    ensures { λ x. ⌜ x ≡ hint threshold v a b c d e f ⌝ }
+// A first look: whether the cell (p, r, c) is loud and not beaten by its six nearest neighbours.
+fn may_be(dog: &[f32], t: Shape, threshold: f32, p: usize, r: usize, c: usize) -> bool
+    requires { ⌜ Around (length (now dog)) t p r c ⌝ }
+    ensures { λ x. ⌜ x ≡ hintAt threshold (now (dog .entry)) t p r c ⌝ }
 {
+    let v = picture::at(dog, t, p, r, c);
     let up = v > 0.0;
-    let row = keeps(up, v, a) & keeps(up, v, b);
-    let column = keeps(up, v, c) & keeps(up, v, d);
-    let planes = keeps(up, v, e) & keeps(up, v, f);
-    is_loud(threshold, v) & (row & (column & planes))
+    let left = keeps(up, v, picture::at(dog, t, p, r, c - 1));
+    let right = keeps(up, v, picture::at(dog, t, p, r, c + 1));
+    let above = keeps(up, v, picture::at(dog, t, p, r - 1, c));
+    let below = keeps(up, v, picture::at(dog, t, p, r + 1, c));
+    let before = keeps(up, v, picture::at(dog, t, p - 1, r, c));
+    let after = keeps(up, v, picture::at(dog, t, p + 1, r, c));
+    is_loud(threshold, v) & ((left & right) & ((above & below) & (before & after)))
 }
 
-// The first look at the cell (p, r, c).
-fn may_be_at(
-    dog: &[f32],
-    w: usize,
-    h: usize,
-    n: usize,
-    threshold: f32,
-    p: usize,
-    r: usize,
-    c: usize,
-) -> bool
-    requires { ⌜ Around (length (now dog)) w h n p r c ⌝ }
-    ensures { λ x. ⌜ x ≡ hintAt threshold (now (dog .entry)) w h p r c ⌝ }
-{
-    may_be(
-        threshold,
-        picture::at(dog, w, h, n, p, r, c),
-        picture::at(dog, w, h, n, p, r, c - 1),
-        picture::at(dog, w, h, n, p, r, c + 1),
-        picture::at(dog, w, h, n, p, r - 1, c),
-        picture::at(dog, w, h, n, p, r + 1, c),
-        picture::at(dog, w, h, n, p - 1, r, c),
-        picture::at(dog, w, h, n, p + 1, r, c),
-    )
-}
-
-// Whether one of the cells from column lo to below hi is loud. No branch depends on a sample, so that the machine looks at several at once; so in `mark` and `row_most`.
-pub fn any_loud(
-    dog: &[f32],
-    w: usize,
-    h: usize,
-    n: usize,
-    threshold: f32,
-    p: usize,
-    r: usize,
-    lo: usize,
-    hi: usize,
-) -> bool
-    requires { ⌜ Run (length (now dog)) w h n p r lo hi ⌝ }
-    ensures { λ x. ⌜ x ≡ anyLoud threshold (now (dog .entry)) w h p r lo hi ⌝ }
+// Whether one of a run's cells is loud. No branch depends on a sample, so that the machine looks at several at once; so in `mark`.
+pub fn any_loud(dog: &[f32], t: Shape, s: Search, u: Run) -> bool
+    requires { ⌜ Searched (length (now dog)) t s ⌝ }
+    requires { ⌜ Along t u ⌝ }
+    ensures { λ x. ⌜ x ≡ anyLoud (now (dog .entry)) t s (u .row) (u .lo) (u .hi) ⌝ }
 {
     let mut any = false;
-    for c in lo..hi {
-        any = any | is_loud(threshold, picture::at(dog, w, h, n, p, r, c));
+    for c in u.lo..u.hi {
+        any = any | is_loud(s.threshold, picture::at(dog, t, s.layer, u.row, c));
     }
     any
 }
 
-// Takes the first look at the cells from column lo to below hi. The marks from hi - lo on stay as they were.
-pub fn mark(
-    dog: &[f32],
-    w: usize,
-    h: usize,
-    n: usize,
-    threshold: f32,
-    p: usize,
-    r: usize,
-    lo: usize,
-    hi: usize,
-    marks: &mut [bool; 64],
-)
-    requires { ⌜ Run (length (now dog)) w h n p r lo hi ⌝ }
-    requires { ⌜ (hi ≤ lo + 64) × (length (now marks) ≡ 64) ⌝ }
-    ensures { λ _. ⌜ now (marks .exit) ≡ sets (now (marks .entry)) 0 (looks threshold (now (dog .entry)) w h p r lo hi) ⌝ }
+// Takes the first look at a run's cells.
+pub fn mark(dog: &[f32], t: Shape, s: Search, u: Run) -> [bool; BLOCK]
+    requires { ⌜ Searched (length (now dog)) t s ⌝ }
+    requires { ⌜ Along t u ⌝ }
+    ensures { λ marks. ⌜ Marked (now (dog .entry)) t s u marks ⌝ }
 {
-    for c in lo..hi {
-        marks[c - lo] = may_be_at(dog, w, h, n, threshold, p, r, c);
+    let mut marks = [false; BLOCK];
+    for c in u.lo..u.hi {
+        marks[c - u.lo] = may_be(dog, t, s.threshold, s.layer, u.row, c);
     }
+    marks
 }
 
 // What a cell gives after the first look at it, whose result is `mark`.
-pub fn seen(
-    mark: bool,
-    dog: &[f32],
-    w: usize,
-    h: usize,
-    n: usize,
-    s: Settings,
-    octave: u32,
-    threshold: f32,
-    p: usize,
-    r: usize,
-    c: usize,
-) -> Refined
-    requires { ⌜ Place (length (now dog)) w h n (s .layers) p r c ⌝ }
-    requires { ⌜ octave ≤ maxOctave ⌝ }
-    requires { ⌜ threshold ≡ thresholdOf (s .contrast) (s .layers) ⌝ }
-    requires { ⌜ mark ≡ hintAt threshold (now dog) w h p r c ⌝ }
-    ensures { λ x. ⌜ kept x ≡ found tied (now (dog .entry)) w h s octave p r c ⌝ }
+pub fn seen(mark: bool, dog: &[f32], t: Shape, s: Search, r: usize, c: usize) -> Refined
+    requires { ⌜ Searched (length (now dog)) t s ⌝ }
+    requires { ⌜ Placed t (s .settings .layers) (cellOf s r c) ⌝ }
+    requires { ⌜ mark ≡ hintAt (s .threshold) (now dog) t (s .layer) r c ⌝ }
+    ensures { λ x. ⌜ kept x ≡ found tied (now (dog .entry)) t s r c ⌝ }
 {
     if mark {
-        cell(dog, w, h, n, s, octave, threshold, p, r, c)
+        cell(dog, t, s, r, c)
     } else {
         Refined::Dropped
     }
-}
-
-fn one_if(b: bool) -> usize
-    ensures { λ x. ⌜ (x ≡ cond b 1 0) × (x ≤ 1) ⌝ }
-{
-    if b { 1 } else { 0 }
-}
-
-// How many of a row's cells the first look leaves: no fewer than the row has keypoints.
-pub fn row_most(
-    dog: &[f32],
-    w: usize,
-    h: usize,
-    n: usize,
-    threshold: f32,
-    p: usize,
-    r: usize,
-) -> usize
-    requires { ⌜ Run (length (now dog)) w h n p r 5 (w - 5) ⌝ }
-    requires { ⌜ 10 < w ⌝ }
-    ensures { λ k. ⌜ k ≡ length (leftOf threshold (now (dog .entry)) w h p r) ⌝ }
-{
-    let mut k: usize = 0;
-    for c in 5..w - 5 {
-        k += one_if(may_be_at(dog, w, h, n, threshold, p, r, c));
-    }
-    k
 }

@@ -7,6 +7,7 @@ use lib.Dec.{T}
 use lib.IntN.{pos}
 use lib.Ieee.{Float, fin, binary32, ofBits, ofInt, neg, add, div, lt, le}
 use lib.Ieee.Scale.{finite}
+use Rattle.lists.proofs.Bools.{and-left, and-right, both-and}
 use Rattle.ieee.specs.F32.{_⊕_, _⊘_, _<ᶠ_, f32, absOf, float}
 use Rattle.ieee.specs.Numbers.{half}
 use Rattle.ieee_laws.proofs.Order.{le-trans-float}
@@ -16,7 +17,8 @@ use Rattle.hal.specs.Exp.{inUp, exp2Of}
 use Rattle.hal.proofs.Range.{ge-of, le-of}
 use Rattle.hal.proofs.ExpLaws.{exp2-within}
 use Rattle.lists.specs.Ranges.{every}
-use Rattle.detect_refine.proofs.Counts.{each, and-first, and-second}
+use Rattle.params.specs.Limits.{maxLayers}
+use Rattle.detect_refine.proofs.Counts.{each}
 
 -- 1.5
 abbrev pub most : Float
@@ -29,7 +31,7 @@ layerTest i =
     let n = float (suc i) in
     (finite (half ⊘ n) && le nil (half ⊘ n)) && (finite ((n ⊕ half) ⊘ n) && le ((n ⊕ half) ⊘ n) most)
 
-layers-pass : every 15 layerTest ≡ true
+layers-pass : every maxLayers layerTest ≡ true
 unfolding layerTest every ofBits ofInt add div le
 layers-pass = refl
 
@@ -43,19 +45,19 @@ passed : (i : ℕ) → layerTest i ≡ true → Layers (suc i)
 unfolding layerTest
 passed i t =
     let n = float (suc i) in
-    let p = and-first (finite (half ⊘ n) && le nil (half ⊘ n)) _ t in
-    let q = and-second (finite (half ⊘ n) && le nil (half ⊘ n)) _ t in
+    let p = and-left (finite (half ⊘ n) && le nil (half ⊘ n)) _ t in
+    let q = and-right (finite (half ⊘ n) && le nil (half ⊘ n)) _ t in
     record {
-      low-finite = and-first (finite (half ⊘ n)) _ p;
-      low = and-second (finite (half ⊘ n)) _ p;
-      high-finite = and-first (finite ((n ⊕ half) ⊘ n)) _ q;
-      high = and-second (finite ((n ⊕ half) ⊘ n)) _ q;
+      low-finite = and-left (finite (half ⊘ n)) _ p;
+      low = and-right (finite (half ⊘ n)) _ p;
+      high-finite = and-left (finite ((n ⊕ half) ⊘ n)) _ q;
+      high = and-right (finite ((n ⊕ half) ⊘ n)) _ q;
     }
 
-layers-at : (n i : ℕ) → n ≡ suc i → i < 15 → Layers n
-layers-at n i e h = rw e (passed i (each 15 layerTest layers-pass i h))
+layers-at : (n i : ℕ) → n ≡ suc i → i < maxLayers → Layers n
+layers-at n i e h = rw e (passed i (each maxLayers layerTest layers-pass i h))
 
-layers-each : (n : ℕ) → 1 ≤ n → n ≤ 15 → Layers n
+layers-each : (n : ℕ) → 1 ≤ n → n ≤ maxLayers → Layers n
 layers-each n a b = layers-at n (n - 1) (omega arith) (omega arith)
 
 -- ---- what exp2 answers from 0 to 1.5
@@ -64,11 +66,9 @@ most-two : le most (fin false 1 (pos 1)) ≡ true
 unfolding ofBits le
 most-two = refl
 
-both : (a b : Bool) → a ≡ true → b ≡ true → (a && b) ≡ true
-both a b p q = rw (p, q)
-
 in-up : {x : Float} → Bounds nil most x → inUp x ≡ true
-in-up {x} b = both (le nil x) (le x (fin false 1 (pos 1))) (b .low) (le-trans-float x most (fin false 1 (pos 1)) (b .high) most-two)
+unfolding ofBits
+in-up {x} b = both-and (le nil x) (le x (fin false 1 (pos 1))) (b .low) (le-trans-float x most (fin false 1 (pos 1)) (b .high) most-two)
 
 is : {b : Bool} → T b → b ≡ true
 is {b} t = go b t
@@ -92,19 +92,19 @@ power-bounds x b =
 
 -- ---- what is asked
 
-module _ (layers p : ℕ) (xi : Float) (first : 1 ≤ p) (last : p ≤ layers) (few : layers ≤ 15) (small : (absOf xi <ᶠ half) ≡ true) where
+module _ (layers p : ℕ) (xi : Float) (first : 1 ≤ p) (last : p ≤ layers) (few : layers ≤ maxLayers) (small : (absOf xi <ᶠ half) ≡ true) where
   abbrev asked : Float
   asked = (float p ⊕ xi) ⊘ float layers
 
-  layers-bounds : Bounds (float 1) (float 15) (float layers)
+  layers-bounds : Bounds (float 1) (float maxLayers) (float layers)
   unfolding ofInt
-  layers-bounds = ofInt-bounds binary32 1 15 layers refl refl (omega arith) few
+  layers-bounds = ofInt-bounds binary32 1 maxLayers layers refl refl (omega arith) few
 
   sum-bounds : Bounds half (float layers ⊕ half) (float p ⊕ xi)
   unfolding ofInt ofBits add neg
   sum-bounds =
       add-bounds binary32 {a = float 1} {b = float layers} {c = neg half} {d = half} refl
-      (bounds-finite (add-bounds binary32 {a = float 1} {b = float 15} {c = half} {d = half} refl refl layers-bounds (bounds-point half refl)))
+      (bounds-finite (add-bounds binary32 {a = float 1} {b = float maxLayers} {c = half} {d = half} refl refl layers-bounds (bounds-point half refl)))
       (ofInt-bounds binary32 1 layers p refl (bounds-finite layers-bounds) first last)
       (abs-bounds xi half refl small)
 

@@ -14,6 +14,7 @@ use Rattle.ieee.specs.Numbers.{half, topByte}
 use Rattle.ieee_laws.proofs.Order.{le-fin, le-lt-trans, lt-le-trans}
 use Rattle.ieee_laws.proofs.Monotone.{nil, toUnsigned-le}
 use Rattle.ieee_laws.proofs.Bounds.{Bounds, bounds-finite, bounds-point, add-bounds, mul-bounds-by, roundEven-bounds, abs-bounds}
+use Rattle.params.specs.Limits.{maxLayers, maxOctave}
 use Rattle.detect_refine.specs.Keypoint.{codeOf, octaveWord}
 
 -- ---- a float that is not negative and small: `as i32` gives what a cast to a whole number without a sign gives
@@ -68,6 +69,6 @@ module _ (xi : Float) (small : (absOf xi <ᶠ half) ≡ true) where
 
 -- ---- the octave word of such a code
 
-pub word-is : (octave p k : ℕ) → octave ≤ 15 → p ≤ 15 → k ≤ 255 → octaveWord octave p (pos k) ≡ octave + p * 2 ^ 8 + k * 2 ^ 16
+pub word-is : (octave p k : ℕ) → octave ≤ maxOctave → p ≤ maxLayers → k ≤ 255 → octaveWord octave p (pos k) ≡ octave + p * 2 ^ 8 + k * 2 ^ 16
 unfolding octaveWord
 word-is octave p k a b e = omega arith

@@ -1,19 +1,20 @@
 -- Position and size of a keypoint: finite and above zero, for each octave. Assumes nothing.
-use Prim.Native.Nat.{ℕ, suc, _+_, _*_, _^_, _<_, _≤_}
-use mathlib.Core.Path.{_≡_, refl, sym, ap, _∙_}
+use Prim.Native.Nat.{ℕ, _+_, _*_, _^_, _<_, _≤_}
+use mathlib.Core.Path.{_≡_, refl}
 use mathlib.Core.Bool.{Bool, true, false, _&&_}
 use native.Mathlib.Omega.{arith}
 use lib.IntN.{pos}
 use lib.Ieee.{Float, fin, binary32, ofBits, ofInt, neg, add, mul, lt, le}
 use lib.Ieee.Scale.{finite}
+use Rattle.lists.proofs.Bools.{and-left, and-right}
 use Rattle.ieee.specs.F32.{_⊕_, _⊗_, _<ᶠ_, _≤ᶠ_, f32, absOf, float}
 use Rattle.ieee.specs.Numbers.{two, nought, half}
 use Rattle.ieee_laws.proofs.Order.{lt-le-trans, le-trans-float, lt-le}
 use Rattle.ieee_laws.proofs.Monotone.{nil}
-use Rattle.ieee_laws.proofs.Bounds.{Bounds, bounds-finite, bounds-point, bounds-above, add-bounds, mul-bounds, mul-bounds-by, ofInt-bounds, abs-bounds}
+use Rattle.ieee_laws.proofs.Bounds.{Bounds, bounds-finite, bounds-above, add-bounds, mul-bounds, mul-bounds-by, ofInt-bounds, abs-bounds}
 use Rattle.lists.specs.Ranges.{every}
 use Rattle.params.specs.Limits.{border, maxSide, maxOctave}
-use Rattle.detect_refine.proofs.Counts.{each, and-first, and-second}
+use Rattle.detect_refine.proofs.Counts.{each}
 
 -- the least and the largest position in the octave's own cells, 4.5 and 8192.5; and the least and the largest half size there, 0.5 and 64
 abbrev nearest : Float
@@ -32,7 +33,7 @@ octaveTest i =
     && ((finite (nearest ⊗ n) && (lt nil (nearest ⊗ n) && finite (farthest ⊗ n)))
     && ((finite (half ⊗ n) && finite (largest ⊗ n)) && ((finite (half ⊗ n ⊗ two) && finite (largest ⊗ n ⊗ two)) && (le n (half ⊗ n ⊗ two) && le (largest ⊗ n ⊗ two) (float (2 ^ 7 * 2 ^ i))))))
 
-octaves-pass : every 16 octaveTest ≡ true
+octaves-pass : every (maxOctave + 1) octaveTest ≡ true
 unfolding octaveTest every ofBits ofInt mul lt le
 octaves-pass = refl
 
@@ -53,31 +54,31 @@ passed : (o : ℕ) → octaveTest o ≡ true → Octave o
 unfolding octaveTest
 passed o t =
     let n = float (2 ^ o) in
-    let a = and-first (finite n && lt nil n) _ t in
-    let b = and-second (finite n && lt nil n) _ t in
-    let c = and-first (finite (nearest ⊗ n) && (lt nil (nearest ⊗ n) && finite (farthest ⊗ n))) _ b in
-    let c' = and-second (finite (nearest ⊗ n)) _ c in
-    let d = and-second (finite (nearest ⊗ n) && (lt nil (nearest ⊗ n) && finite (farthest ⊗ n))) _ b in
-    let e = and-first (finite (half ⊗ n) && finite (largest ⊗ n)) _ d in
-    let f = and-second (finite (half ⊗ n) && finite (largest ⊗ n)) _ d in
-    let g = and-first (finite (half ⊗ n ⊗ two) && finite (largest ⊗ n ⊗ two)) _ f in
-    let h = and-second (finite (half ⊗ n ⊗ two) && finite (largest ⊗ n ⊗ two)) _ f in
+    let a = and-left (finite n && lt nil n) _ t in
+    let b = and-right (finite n && lt nil n) _ t in
+    let c = and-left (finite (nearest ⊗ n) && (lt nil (nearest ⊗ n) && finite (farthest ⊗ n))) _ b in
+    let c' = and-right (finite (nearest ⊗ n)) _ c in
+    let d = and-right (finite (nearest ⊗ n) && (lt nil (nearest ⊗ n) && finite (farthest ⊗ n))) _ b in
+    let e = and-left (finite (half ⊗ n) && finite (largest ⊗ n)) _ d in
+    let f = and-right (finite (half ⊗ n) && finite (largest ⊗ n)) _ d in
+    let g = and-left (finite (half ⊗ n ⊗ two) && finite (largest ⊗ n ⊗ two)) _ f in
+    let h = and-right (finite (half ⊗ n ⊗ two) && finite (largest ⊗ n ⊗ two)) _ f in
     record {
-      held = and-first (finite n) _ a;
-      above = and-second (finite n) _ a;
-      near = and-first (finite (nearest ⊗ n)) _ c;
-      near-above = and-first (lt nil (nearest ⊗ n)) _ c';
-      far = and-second (lt nil (nearest ⊗ n)) _ c';
-      small = and-first (finite (half ⊗ n)) _ e;
-      large = and-second (finite (half ⊗ n)) _ e;
-      least = and-first (finite (half ⊗ n ⊗ two)) _ g;
-      most = and-second (finite (half ⊗ n ⊗ two)) _ g;
-      from = and-first (le n (half ⊗ n ⊗ two)) _ h;
-      to = and-second (le n (half ⊗ n ⊗ two)) _ h;
+      held = and-left (finite n) _ a;
+      above = and-right (finite n) _ a;
+      near = and-left (finite (nearest ⊗ n)) _ c;
+      near-above = and-left (lt nil (nearest ⊗ n)) _ c';
+      far = and-right (lt nil (nearest ⊗ n)) _ c';
+      small = and-left (finite (half ⊗ n)) _ e;
+      large = and-right (finite (half ⊗ n)) _ e;
+      least = and-left (finite (half ⊗ n ⊗ two)) _ g;
+      most = and-right (finite (half ⊗ n ⊗ two)) _ g;
+      from = and-left (le n (half ⊗ n ⊗ two)) _ h;
+      to = and-right (le n (half ⊗ n ⊗ two)) _ h;
     }
 
 octave : (o : ℕ) → o ≤ maxOctave → Octave o
-octave o h = passed o (each 16 octaveTest octaves-pass o (omega arith))
+octave o h = passed o (each (maxOctave + 1) octaveTest octaves-pass o (omega arith))
 
 nought-is : nought ≡ nil
 unfolding ofBits

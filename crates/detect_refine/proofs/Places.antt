@@ -1,14 +1,14 @@
 -- Where a moved place lies: the signed tests of the code are those of `placed`. Assumes nothing.
-use Prim.Native.Nat.{ℕ, zero, suc, _+_, _-_, _^_, _<_, _≤_}
-use mathlib.Core.Path.{_≡_, refl, sym, ap, _∙_}
-use mathlib.Core.Bool.{Bool, true, false, _&&_, cond, true≢false, false≢true}
+use Prim.Native.Nat.{ℕ, suc, _+_, _-_, _^_, _<_, _≤_}
+use mathlib.Core.Path.{_≡_, refl}
+use mathlib.Core.Bool.{Bool, true, false, _&&_, cond, true≢false}
 use native.Mathlib.Omega.{arith}
 use borrow.Author.Tests.{lt-ltb, le-ltb, le-leb, lt-leb, leb-true, ltb-true}
 use lib.Dec.{T, leb, ltb}
-use lib.IntN.{ℤ, pos, negsuc, natAbs, _+ℤ_, subℕ}
+use lib.IntN.{ℤ, pos, negsuc, natAbs, _+ℤ_}
 use lib.Signed.{ltZ, mag, nonNeg}
+use Rattle.params.specs.Limits.{maxSide}
 use Rattle.detect_refine.specs.Moves.{placed}
-use Rattle.detect_refine.specs.declared.Moved.{Moved}
 use Rattle.detect_refine.specs.declared.Moved.the-variants.{Out, In}
 
 -- ---- z tested
@@ -59,6 +59,6 @@ mag-sub : (b : Bool) (x y c : ℕ) → x < c → y < c → mag (cond b (negsuc x
 mag-sub true x y c h k = h
 mag-sub false x y c h k = k
 
-pub mag-sum : (v : ℕ) (z : ℤ) → v ≤ 8192 → mag z < 2 ^ 31 → mag (pos v +ℤ z) < 2 ^ 63
+pub mag-sum : (v : ℕ) (z : ℤ) → v ≤ maxSide → mag z < 2 ^ 31 → mag (pos v +ℤ z) < 2 ^ 63
 mag-sum v (pos n) h k = omega arith
 mag-sum v (negsuc n) h k = mag-sub (ltb v (suc n)) (suc n - suc v) (v - suc n) (2 ^ 63) (omega arith) (omega arith)

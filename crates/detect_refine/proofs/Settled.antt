@@ -6,13 +6,14 @@ use mathlib.Core.List.{List}
 use native.Mathlib.Omega.{arith}
 use lib.Ieee.{Float}
 use Rattle.params.specs.Limits.{maxMoves}
-use Rattle.params.specs.declared.Settings.{Settings}
-use Rattle.detect_refine.specs.Fit.{patchOf}
+use Rattle.picture.specs.declared.Shape.{Shape}
+use Rattle.detect_fit.specs.declared.Patch.{Patch}
+use Rattle.detect_fit.specs.declared.Offset.{Offset}
 use Rattle.detect_refine.specs.Moves.{stepOf}
-use Rattle.detect_refine.specs.Keypoint.{contrastOf, dim, edgy, keypointWith, keypointOf, ended, onStep, settleFrom, refineOf}
+use Rattle.detect_refine.specs.Keypoint.{contrastOf, dim, edgy, keypointWith, keypointOf, ended, onStep, patchAt, settleFrom, refineOf}
 use Rattle.detect_refine.specs.Sound.{FewMoves}
-use Rattle.detect_refine.specs.declared.Patch.{Patch}
-use Rattle.detect_refine.specs.declared.Offset.{Offset}
+use Rattle.detect_refine.specs.declared.Cell.{Cell}
+use Rattle.detect_refine.specs.declared.Search.{Search}
 use Rattle.detect_refine.specs.declared.Step.{Step}
 use Rattle.detect_refine.specs.declared.Step.the-variants.{Lost, Stay, Go}
 use Rattle.detect_refine.specs.declared.RawKeypoint.{RawKeypoint}
@@ -21,64 +22,65 @@ use Rattle.detect_refine.specs.declared.Refined.the-variants.{Dropped, A
 one-less : (m : ℕ) → m < maxMoves → maxMoves - m ≡ suc (maxMoves - (m + 1))
 one-less m h = omega arith
 
--- `step` is the code's step on its patch t, after m moves
-module _ (d : List Float) (w h : ℕ) (s : Settings) (octave m p r c : ℕ) (more : m < maxMoves) (step : Step) (t : Patch)
-    (is : step ≡ stepOf w h (s .layers) p r c t) (at : t ≡ patchOf d w h p r c) where
-  step-is : (e : Step) → step ≡ e → stepOf w h (s .layers) p r c (patchOf d w h p r c) ≡ e
+-- `step` is the code's step on its patch, after m moves
+module _ (d : List Float) (t : Shape) (s : Search) (m : ℕ) (k : Cell) (more : m < maxMoves) (step : Step) (patch : Patch)
+    (is : step ≡ stepOf t (s .settings .layers) k patch) (at : patch ≡ patchAt d t k) where
+  step-is : (e : Step) → step ≡ e → stepOf t (s .settings .layers) k (patchAt d t k) ≡ e
   step-is e q = cc
 
-  pub settle-lost : step ≡ Lost → settleFrom d w h s octave (maxMoves - m) m p r c ≡ Dropped
+  pub settle-lost : step ≡ Lost → settleFrom d t s (maxMoves - m) m k ≡ Dropped
   unfolding settleFrom
   settle-lost e = rw (one-less m more, step-is Lost e)
 
-  pub settle-stay : (o : Offset) → step ≡ Stay o → settleFrom d w h s octave (maxMoves - m) m p r c ≡ ended s octave m p r c t o
+  pub settle-stay : (o : Offset) → step ≡ Stay o → settleFrom d t s (maxMoves - m) m k ≡ ended s m k patch o
   unfolding settleFrom
   settle-stay o e = rw (one-less m more, step-is (Stay o) e, at)
 
-  pub settle-go : (p' r' c' : ℕ) → step ≡ Go p' r' c' → settleFrom d w h s octave (maxMoves - m) m p r c ≡ settleFrom d w h s octave (maxMoves - (m + 1)) (m + 1) p' r' c'
+  pub settle-go : (k' : Cell) → step ≡ Go k' → settleFrom d t s (maxMoves - m) m k ≡ settleFrom d t s (maxMoves - (m + 1)) (m + 1) k'
   unfolding settleFrom
-  settle-go p' r' c' e = rw (one-less m more, step-is (Go p' r' c') e)
+  settle-go k' e = rw (one-less m more, step-is (Go k') e)
 
-pub settle-none : (d : List Float) (w h : ℕ) (s : Settings) (octave m p r c : ℕ) → maxMoves ≤ m → settleFrom d w h s octave (maxMoves - m) m p r c ≡ Dropped
+pub settle-none : (d : List Float) (t : Shape) (s : Search) (m : ℕ) (k : Cell) → maxMoves ≤ m → settleFrom d t s (maxMoves - m) m k ≡ Dropped
 unfolding settleFrom
-settle-none d w h s octave m p r c e = let z : maxMoves - m ≡ 0 = omega arith in rw z
+settle-none d t s m k e = let z : maxMoves - m ≡ 0 = omega arith in rw z
 
 -- ---- a keypoint that refinement gives
 
-pub dropped-not : {A : Type 0} (k : RawKeypoint) → Dropped ≡ At k → A
-dropped-not k e = let z : _≡_ {A = ℕ} 0 1 = cc in absurd (omega arith)
+pub dropped-not : {A : Type 0} (found : RawKeypoint) → Dropped ≡ At found → A
+dropped-not found e = let z : _≡_ {A = ℕ} 0 1 = cc in absurd (omega arith)
 
-at-same : (k l : RawKeypoint) → At k ≡ At l → k ≡ l
-at-same k l e = cc
+at-same : (x y : RawKeypoint) → At x ≡ At y → x ≡ y
+at-same x y e = cc
 
-pub ended-at : (s : Settings) (octave m p r c : ℕ) (t : Patch) (o : Offset) (k : RawKeypoint) → ended s octave m p r c t o ≡ At k → keypointOf s octave m p r c t o ≡ k
-unfolding ended
-ended-at s octave m p r c t o k e = go (dim s (contrastOf t o) || edgy s t) e
-  where
-    go : (b : Bool) → cond b Dropped (At (keypointOf s octave m p r c t o)) ≡ At k → keypointOf s octave m p r c t o ≡ k
-    go true e = dropped-not k e
-    go false e = at-same (keypointOf s octave m p r c t o) k e
-
--- the moves that it tells are those that were made
-pub ended-moves : (s : Settings) (octave m p r c : ℕ) (t : Patch) (o : Offset) (k : RawKeypoint) → ended s octave m p r c t o ≡ At k → k .moves ≡ m
-unfolding keypointOf keypointWith
-ended-moves s octave m p r c t o k e = sym (ap (λ (j : RawKeypoint). j .moves) (ended-at s octave m p r c t o k e))
-
--- and fewer than five: no premise on the samples, the place or the settings
-module _ (d : List Float) (w h : ℕ) (s : Settings) (octave : ℕ) (k : RawKeypoint) where
-  settle-few : (left m p r c : ℕ) → settleFrom d w h s octave left m p r c ≡ At k → k .moves < m + left
-  unfolding settleFrom
-  settle-few zero m p r c e = dropped-not k e
-  settle-few (suc left) m p r c e = go (λ p' r' c' f. let l = settle-few left (m + 1) p' r' c' f in omega arith) (stepOf w h (s .layers) p r c (patchOf d w h p r c)) e
+module _ (s : Search) (m : ℕ) (k : Cell) (patch : Patch) (o : Offset) (found : RawKeypoint) (e : ended s m k patch o ≡ At found) where
+  pub ended-at : keypointOf s m k patch o ≡ found
+  unfolding ended
+  ended-at = go (dim (s .settings) (contrastOf patch o) || edgy (s .settings) patch) e
     where
-      go : ((p' r' c' : ℕ) → settleFrom d w h s octave left (m + 1) p' r' c' ≡ At k → k .moves < m + suc left)
+      go : (b : Bool) → cond b Dropped (At (keypointOf s m k patch o)) ≡ At found → keypointOf s m k patch o ≡ found
+      go true f = dropped-not found f
+      go false f = at-same (keypointOf s m k patch o) found f
+
+  -- the moves that it tells are those that were made
+  pub ended-moves : found .moves ≡ m
+  unfolding keypointOf keypointWith
+  ended-moves = sym (ap (λ (x : RawKeypoint). x .moves) ended-at)
+
+-- and fewer than the most: no premise on the samples, the cell or the settings
+module _ (d : List Float) (t : Shape) (s : Search) (found : RawKeypoint) where
+  settle-few : (left m : ℕ) (k : Cell) → settleFrom d t s left m k ≡ At found → found .moves < m + left
+  unfolding settleFrom
+  settle-few zero m k e = dropped-not found e
+  settle-few (suc left) m k e = go (λ k' f. let l = settle-few left (m + 1) k' f in omega arith) (stepOf t (s .settings .layers) k (patchAt d t k)) e
+    where
+      go : ((k' : Cell) → settleFrom d t s left (m + 1) k' ≡ At found → found .moves < m + suc left)
           → (step : Step)
-          → onStep step Dropped (λ o. ended s octave m p r c (patchOf d w h p r c) o) (λ p' r' c'. settleFrom d w h s octave left (m + 1) p' r' c') ≡ At k
-          → k .moves < m + suc left
-      go later Lost f = dropped-not k f
-      go later (Stay o) f = let i = ended-moves s octave m p r c (patchOf d w h p r c) o k f in omega arith
-      go later (Go p' r' c') f = later p' r' c' f
+          → onStep step Dropped (λ o. ended s m k (patchAt d t k) o) (λ k'. settleFrom d t s left (m + 1) k') ≡ At found
+          → found .moves < m + suc left
+      go later Lost f = dropped-not found f
+      go later (Stay o) f = let i = ended-moves s m k (patchAt d t k) o found f in omega arith
+      go later (Go k') f = later k' f
 
 pub few-moves : FewMoves
 unfolding refineOf
-few-moves d w h s octave p r c k e = settle-few d w h s octave k maxMoves 0 p r c e
+few-moves d t s k found e = settle-few d t s found maxMoves 0 k e

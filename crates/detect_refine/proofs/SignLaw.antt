@@ -10,23 +10,23 @@ use borrow.Author.Tests.{leb-true}
 use lib.Dec.{leb, ltb}
 use lib.IntN.{ℤ, pos, negsuc, _+ℤ_}
 use lib.ListN.{getD}
-use lib.Ieee.{Float, nan, binary32, eq, ofBits}
+use lib.Ieee.{Float, nan, binary32, ofBits}
 use Rattle.ieee.specs.F32.{_⊕_, _⊗_, rounded, toI32, narrowed, float}
-use Rattle.ieee.specs.Numbers.{one, two, nought, half}
+use Rattle.ieee.specs.Numbers.{one, half}
 use Rattle.ieee_laws.specs.Sign.{Opp, Same}
-use Rattle.ieee_laws.proofs.Turned.{neg-turned, add-turned, sub-turned, mul-turned, div-turned, le-turned, eq-turned, nonzero}
-use Rattle.ieee_laws.proofs.TurnedOps.{same, zero-any, fma-turned, abs-turned, roundEven-turned, toSigned-same, nonzero-of, add-nonzero, add-beside}
+use Rattle.ieee_laws.proofs.Turned.{add-turned, mul-turned, le-turned, eq-turned, nonzero}
+use Rattle.ieee_laws.proofs.TurnedOps.{same, zero-any, fma-turned, abs-turned, roundEven-turned, toSigned-same, add-nonzero, add-beside}
 use Rattle.ieee_laws.proofs.Bounds.{above-nonzero, ofInt-above}
 use Rattle.params.specs.Limits.{border, maxMoves}
-use Rattle.params.specs.declared.Settings.{Settings}
-use Rattle.picture.specs.Stack.{sample}
-use Rattle.detect_refine.specs.Fit.{imgScale, deriv, second, cross, patchOf, diff, curve, twist, slopeOf, bendOf, mulSub, outer, detOf, offsetOf}
+use Rattle.picture.specs.declared.Shape.{Shape}
+use Rattle.detect_fit.specs.Fit.{imgScale, patchOf}
+use Rattle.detect_fit.specs.declared.Patch.{Patch}
+use Rattle.detect_fit.specs.declared.Offset.{Offset}
+use Rattle.detect_fit.proofs.SignLaw.{SameOffset, mulSub-same, det-opp, offset-same, at-opp, gradient-opp, bend-opp}
 use Rattle.detect_refine.specs.Moves.{small, huge, placed, moved, three, walk, stepOf}
-use Rattle.detect_refine.specs.Keypoint.{contrastOf, dim, edgy, codeOf, keypointWith, keypointOf, ended, onStep, settleFrom, refineOf}
-use Rattle.detect_refine.specs.declared.Patch.{Patch}
-use Rattle.detect_refine.specs.declared.Slope.{Slope}
-use Rattle.detect_refine.specs.declared.Bend.{Bend}
-use Rattle.detect_refine.specs.declared.Offset.{Offset}
+use Rattle.detect_refine.specs.Keypoint.{contrastOf, dim, edgy, codeOf, keypointWith, keypointOf, ended, onStep, patchAt, settleFrom, refineOf}
+use Rattle.detect_refine.specs.declared.Cell.{Cell}
+use Rattle.detect_refine.specs.declared.Search.{Search}
 use Rattle.detect_refine.specs.declared.Moved.{Moved}
 use Rattle.detect_refine.specs.declared.Moved.the-variants.{Out, In}
 use Rattle.detect_refine.specs.declared.Step.{Step}
@@ -35,74 +35,15 @@ use Rattle.detect_refine.specs.declared.Refined.{Refined}
 use Rattle.detect_refine.specs.declared.Refined.the-variants.{Dropped}
 use Rattle.detect_refine.specs.Sign.{SameKeypoint, SameRefined, both-dropped, both-at}
 
--- ---- arithmetic, by the turn of each part
-
--- both products are turned alike
-mulSub-same : {a b c d a' b' c' d' : Float} → Opp a a' → Opp b b' → Opp c c' → Opp d d' → Same (mulSub a b c d) (mulSub a' b' c' d')
-unfolding mulSub
-mulSub-same p q r s = fma-turned binary32 p q (neg-turned (mul-turned binary32 r s))
-
--- an entry times a cofactor
-outer-opp : {a b c d e f a' b' c' d' e' f' : Float} → Opp a a' → Same b b' → Opp c c' → Same d d' → Opp e e' → Same f f' → Opp (outer a b c d e f) (outer a' b' c' d' e' f')
-unfolding outer
-outer-opp p q r s t u = fma-turned binary32 t u (fma-turned binary32 p q (neg-turned (mul-turned binary32 r s)))
-
-record OppSlope (g k : Slope) : Type 0 where
-  dx : Opp (g .dx) (k .dx)
-  dy : Opp (g .dy) (k .dy)
-  ds : Opp (g .ds) (k .ds)
-
-record OppBend (h k : Bend) : Type 0 where
-  xx : Opp (h .xx) (k .xx)
-  yy : Opp (h .yy) (k .yy)
-  ss : Opp (h .ss) (k .ss)
-  xy : Opp (h .xy) (k .xy)
-  xs : Opp (h .xs) (k .xs)
-  ys : Opp (h .ys) (k .ys)
-
-record SameOffset (o q : Offset) : Type 0 where
-  xi : Same (o .xi) (q .xi)
-  xr : Same (o .xr) (q .xr)
-  xc : Same (o .xc) (q .xc)
-
-det-opp : {h k : Bend} → OppBend h k → Opp (detOf h) (detOf k)
-unfolding detOf
-det-opp b =
-    outer-opp (b .xx) (mulSub-same (b .yy) (b .ss) (b .ys) (b .ys)) (b .xy) (mulSub-same (b .xy) (b .ss) (b .xs) (b .ys))
-    (b .xs) (mulSub-same (b .xy) (b .ys) (b .xs) (b .yy))
-
--- the reciprocal of the determinant is turned too, and may be infinite; at a zero determinant its sign would show
-offset-same : {g k : Slope} {h l : Bend} {x y : Float} → OppSlope g k → OppBend h l → Opp x y → eq x nought ≡ false → SameOffset (offsetOf g h x) (offsetOf k l y)
-unfolding offsetOf
-offset-same {x = x} g h o n =
-    let d = div-turned binary32 (same one) o (nonzero-of x n) in
-    let a = mulSub-same (g .dy) (h .ss) (h .ys) (g .ds) in
-    let b = mulSub-same (g .dy) (h .ys) (h .yy) (g .ds) in
-    let e = mulSub-same (h .xy) (g .ds) (g .dy) (h .xs) in
-    record {
-      xi = neg-turned (mul-turned binary32 d (outer-opp (h .xx) (neg-turned b) (h .xy) e (g .dx) (mulSub-same (h .xy) (h .ys) (h .yy) (h .xs))));
-      xr = neg-turned (mul-turned binary32 d (outer-opp (h .xx) a (g .dx) (mulSub-same (h .xy) (h .ss) (h .ys) (h .xs)) (h .xs) e));
-      xc = neg-turned (mul-turned binary32 d (outer-opp (g .dx) (mulSub-same (h .yy) (h .ss) (h .ys) (h .ys)) (h .xy) a (h .xs) b));
-    }
-
-diff-opp : {a b a' b' : Float} → Opp a a' → Opp b b' → Opp (diff a b) (diff a' b')
-diff-opp p q = mul-turned binary32 (sub-turned binary32 p q) (same deriv)
-
-curve-opp : {a b m a' b' m' : Float} → Opp a a' → Opp b b' → Opp m m' → Opp (curve a b m) (curve a' b' m')
-curve-opp p q r = mul-turned binary32 (sub-turned binary32 (add-turned binary32 p q) (mul-turned binary32 r (same two))) (same second)
-
-twist-opp : {a b c d a' b' c' d' : Float} → Opp a a' → Opp b b' → Opp c c' → Opp d d' → Opp (twist a b c d) (twist a' b' c' d')
-twist-opp p q r s = mul-turned binary32 (add-turned binary32 (sub-turned binary32 (sub-turned binary32 p q) r) s) (same cross)
-
 -- ---- one step. A move never leaves the layers from 1 on or the border: so beside the place a zero offset's sign leaves no trace
 
-abbrev Deep : ℕ → ℕ → ℕ → Type 0
-Deep p r c = (1 ≤ p) × (border ≤ r) × (border ≤ c)
+abbrev Deep : Cell → Type 0
+Deep k = (1 ≤ k .p) × (border ≤ k .r) × (border ≤ k .c)
 
 data SameStep : Step → Step → Type 0 where
   both-lost : SameStep Lost Lost
   both-stay : {o q : Offset} → SameOffset o q → SameStep (Stay o) (Stay q)
-  both-go : {p r c : ℕ} → Deep p r c → SameStep (Go p r c) (Go p r c)
+  both-go : {k : Cell} → Deep k → SameStep (Go k) (Go k)
 
 data AtLeast (lo : ℕ) : Moved → Type 0 where
   left-out : AtLeast lo Out
@@ -144,13 +85,13 @@ cond-step : (b : Bool) {s t u v : Step} → SameStep s u → SameStep t v → Sa
 cond-step true p q = p
 cond-step false p q = q
 
-walk-same : (w h layers p r c : ℕ) {o q : Offset} → SameOffset o q → SameStep (walk w h layers p r c o) (walk w h layers p r c q)
+walk-same : (t : Shape) (layers : ℕ) (k : Cell) {o q : Offset} → SameOffset o q → SameStep (walk t layers k o) (walk t layers k q)
 unfolding walk
-walk-same w h layers p r c {o} s =
-    rw (small-same s, huge-same s, moved-same 1 (layers + 1) p (s .xi), moved-same border (h - border) r (s .xr), moved-same border (w - border) c (s .xc))
+walk-same t layers k {o} s =
+    rw (small-same s, huge-same s, moved-same 1 (layers + 1) (k .p) (s .xi), moved-same border (t .height - border) (k .r) (s .xr), moved-same border (t .width - border) (k .c) (s .xc))
     (cond-step (small o) (both-stay s)
     (cond-step (huge o) both-lost
-    (three-same (moved-at-least 1 (layers + 1) p (o .xi)) (moved-at-least border (h - border) r (o .xr)) (moved-at-least border (w - border) c (o .xc)))))
+    (three-same (moved-at-least 1 (layers + 1) (k .p) (o .xi)) (moved-at-least border (t .height - border) (k .r) (o .xr)) (moved-at-least border (t .width - border) (k .c) (o .xc)))))
 
 -- a choice whose test is the same, and whose second case is the same where the test fails
 pick-step : (z z' : Bool) {s t : Step} → z' ≡ z → (z ≡ false → SameStep s t) → SameStep (cond z Lost s) (cond z' Lost t)
@@ -179,68 +120,49 @@ code-same s = rw (add-beside binary32 half half-nonzero s)
 
 -- ---- a stack and its negative
 
-module _ (d e : List Float) (w h : ℕ) (s : Settings) (octave : ℕ) (o : (i : ℕ) → Opp (getD d i nan) (getD e i nan)) where
-  pub at-opp : (p r c : ℕ) → Opp (sample d w h p r c) (sample e w h p r c)
-  unfolding sample
-  at-opp p r c = o _
-
-  module _ (p r c : ℕ) where
+module _ (d e : List Float) (t : Shape) (s : Search) (o : (i : ℕ) → Opp (getD d i nan) (getD e i nan)) where
+  module _ (k : Cell) where
     abbrev here : Patch
-    here = patchOf d w h p r c
+    here = patchAt d t k
 
     abbrev there : Patch
-    there = patchOf e w h p r c
+    there = patchAt e t k
 
-    slope-opp : OppSlope (slopeOf here) (slopeOf there)
-    unfolding slopeOf patchOf
-    slope-opp =
-        record { dx = diff-opp (at-opp _ _ _) (at-opp _ _ _); dy = diff-opp (at-opp _ _ _) (at-opp _ _ _); ds = diff-opp (at-opp _ _ _) (at-opp _ _ _) }
-
-    bend-opp : OppBend (bendOf here) (bendOf there)
-    unfolding bendOf patchOf
-    bend-opp =
-        record {
-          xx = curve-opp (at-opp _ _ _) (at-opp _ _ _) (at-opp _ _ _);
-          yy = curve-opp (at-opp _ _ _) (at-opp _ _ _) (at-opp _ _ _);
-          ss = curve-opp (at-opp _ _ _) (at-opp _ _ _) (at-opp _ _ _);
-          xy = twist-opp (at-opp _ _ _) (at-opp _ _ _) (at-opp _ _ _) (at-opp _ _ _);
-          xs = twist-opp (at-opp _ _ _) (at-opp _ _ _) (at-opp _ _ _) (at-opp _ _ _);
-          ys = twist-opp (at-opp _ _ _) (at-opp _ _ _) (at-opp _ _ _) (at-opp _ _ _);
-        }
-
-    step-same : SameStep (stepOf w h (s .layers) p r c here) (stepOf w h (s .layers) p r c there)
+    step-same : SameStep (stepOf t (s .settings .layers) k here) (stepOf t (s .settings .layers) k there)
     unfolding stepOf
     step-same =
-        let x = det-opp bend-opp in
-        pick-step _ _ (eq-turned x (zero-any true)) (λ n. walk-same w h (s .layers) p r c (offset-same slope-opp bend-opp x n))
+        let g = gradient-opp d e t o (k .p) (k .r) (k .c) in
+        let b = bend-opp d e t o (k .p) (k .r) (k .c) in
+        let x = det-opp b in
+        pick-step _ _ (eq-turned x (zero-any true)) (λ n. walk-same t (s .settings .layers) k (offset-same g b x n))
 
     contrast-opp : {u v : Offset} → SameOffset u v → Opp (contrastOf here u) (contrastOf there v)
     unfolding contrastOf patchOf
     contrast-opp q =
-        let g = slope-opp in
-        fma-turned binary32 (at-opp _ _ _) (same imgScale)
+        let g = gradient-opp d e t o (k .p) (k .r) (k .c) in
+        fma-turned binary32 (at-opp d e t o (k .p) (k .r) (k .c)) (same imgScale)
         (mul-turned binary32 (fma-turned binary32 (g .ds) (q .xi) (fma-turned binary32 (g .dy) (q .xr) (mul-turned binary32 (g .dx) (q .xc)))) (same half))
 
-    dim-same : {u v : Offset} → SameOffset u v → dim s (contrastOf there v) ≡ dim s (contrastOf here u)
+    dim-same : {u v : Offset} → SameOffset u v → dim (s .settings) (contrastOf there v) ≡ dim (s .settings) (contrastOf here u)
     unfolding dim
     dim-same q = rw (abs-turned (contrast-opp q))
 
-    edgy-same : edgy s there ≡ edgy s here
+    edgy-same : edgy (s .settings) there ≡ edgy (s .settings) here
     unfolding edgy
     edgy-same =
-        let b = bend-opp in
+        let b = bend-opp d e t o (k .p) (k .r) (k .c) in
         let det = mulSub-same (b .xx) (b .yy) (b .xy) (b .xy) in
         let tr = add-turned binary32 (b .xx) (b .yy) in
-        let et = narrowed (s .edge) in
+        let et = narrowed (s .settings .edge) in
         rw (le-turned det (zero-any false), le-turned (mul-turned binary32 (same ((et ⊕ one) ⊗ (et ⊕ one))) det) (mul-turned binary32 (mul-turned binary32 tr tr) (same et)))
 
-    keypoint-same : (moves : ℕ) {u v : Offset} → Deep p r c → SameOffset u v → SameKeypoint (keypointOf s octave moves p r c here u) (keypointOf s octave moves p r c there v)
+    keypoint-same : (moves : ℕ) {u v : Offset} → Deep k → SameOffset u v → SameKeypoint (keypointOf s moves k here u) (keypointOf s moves k there v)
     unfolding keypointOf keypointWith
     keypoint-same moves {u} {v} deep q =
         record {
-          x = ap (λ (z : Float). z ⊗ float (2 ^ octave)) (place-same c (le-trans (omega arith) (deep .2)) (q .xc));
-          y = ap (λ (z : Float). z ⊗ float (2 ^ octave)) (place-same r (le-trans (omega arith) (deep .1)) (q .xr));
-          size = rw (place-same p (deep .0) (q .xi));
+          x = ap (λ (z : Float). z ⊗ float (2 ^ s .octave)) (place-same (k .c) (le-trans (omega arith) (deep .2)) (q .xc));
+          y = ap (λ (z : Float). z ⊗ float (2 ^ s .octave)) (place-same (k .r) (le-trans (omega arith) (deep .1)) (q .xr));
+          size = rw (place-same (k .p) (deep .0) (q .xi));
           response = abs-turned (contrast-opp q);
           octave = rw (code-same (q .xi));
           layer = refl;
@@ -250,25 +172,25 @@ module _ (d e : List Float) (w h : ℕ) (s : Settings) (octave : ℕ) (o : (i : 
           moves = refl;
         }
 
-    ended-same : (moves : ℕ) {u v : Offset} → Deep p r c → SameOffset u v → SameRefined (ended s octave moves p r c here u) (ended s octave moves p r c there v)
+    ended-same : (moves : ℕ) {u v : Offset} → Deep k → SameOffset u v → SameRefined (ended s moves k here u) (ended s moves k there v)
     unfolding ended
     ended-same moves {u} deep q =
-        rw (dim-same q, edgy-same) (cond-refined (dim s (contrastOf here u) || edgy s here) (both-at (keypoint-same moves deep q)))
+        rw (dim-same q, edgy-same) (cond-refined (dim (s .settings) (contrastOf here u) || edgy (s .settings) here) (both-at (keypoint-same moves deep q)))
 
-  settle-same : (left moves p r c : ℕ) → Deep p r c → SameRefined (settleFrom d w h s octave left moves p r c) (settleFrom e w h s octave left moves p r c)
+  settle-same : (left moves : ℕ) (k : Cell) → Deep k → SameRefined (settleFrom d t s left moves k) (settleFrom e t s left moves k)
   unfolding settleFrom
-  settle-same zero moves p r c deep = both-dropped
-  settle-same (suc left) moves p r c deep = follow (λ p' r' c' in'. settle-same left (moves + 1) p' r' c' in') (step-same p r c)
+  settle-same zero moves k deep = both-dropped
+  settle-same (suc left) moves k deep = follow (λ k' in'. settle-same left (moves + 1) k' in') (step-same k)
     where
       follow : {a b : Step}
-          → ((p' r' c' : ℕ) → Deep p' r' c' → SameRefined (settleFrom d w h s octave left (moves + 1) p' r' c') (settleFrom e w h s octave left (moves + 1) p' r' c'))
+          → ((k' : Cell) → Deep k' → SameRefined (settleFrom d t s left (moves + 1) k') (settleFrom e t s left (moves + 1) k'))
           → SameStep a b
-          → SameRefined (onStep a Dropped (λ u. ended s octave moves p r c (here p r c) u) (λ p' r' c'. settleFrom d w h s octave left (moves + 1) p' r' c'))
-          (onStep b Dropped (λ u. ended s octave moves p r c (there p r c) u) (λ p' r' c'. settleFrom e w h s octave left (moves + 1) p' r' c'))
+          → SameRefined (onStep a Dropped (λ u. ended s moves k (here k) u) (λ k'. settleFrom d t s left (moves + 1) k'))
+          (onStep b Dropped (λ u. ended s moves k (there k) u) (λ k'. settleFrom e t s left (moves + 1) k'))
       follow rest both-lost = both-dropped
-      follow rest (both-stay q) = ended-same p r c moves deep q
-      follow rest (both-go {p = p'} {r = r'} {c = c'} k) = rest p' r' c' k
+      follow rest (both-stay q) = ended-same k moves deep q
+      follow rest (both-go {k = k'} in') = rest k' in'
 
-  pub refine-same : (p r c : ℕ) → 1 ≤ p → border ≤ r → border ≤ c → SameRefined (refineOf d w h s octave p r c) (refineOf e w h s octave p r c)
+  pub refine-same : (k : Cell) → 1 ≤ k .p → border ≤ k .r → border ≤ k .c → SameRefined (refineOf d t s k) (refineOf e t s k)
   unfolding refineOf
-  refine-same p r c P R C = settle-same maxMoves 0 p r c (P, R, C)
+  refine-same k p r c = settle-same maxMoves 0 k (p, r, c)

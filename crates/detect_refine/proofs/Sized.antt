@@ -1,13 +1,13 @@
 -- How large a float is, its sign left aside, and what the operations make of that: products and fused sums of numbers of any sign. Assumes nothing.
-use Prim.Native.Nat.{ℕ, zero, suc, _+_, _-_, _*_, _^_, _<_, _≤_}
-use mathlib.Core.Path.{_≡_, refl, sym, ap, _∙_, subst}
-use mathlib.Core.Bool.{Bool, true, false, not, _&&_, _||_, Bool·beq, cond, true≢false, false≢true}
-use native.Mathlib.Nat.{mul-one, zero-mul, one-mul, mul-assoc, mul-comm, mul-left-comm, mul-right-comm, add-mul, mul-mul-mul-comm, mul-le-mul, mul-le-mul-right, le-trans, le-of-eq, mul-pos}
+use Prim.Native.Nat.{ℕ, _+_, _-_, _*_, _^_, _<_, _≤_}
+use mathlib.Core.Path.{_≡_, refl}
+use mathlib.Core.Bool.{Bool, true, false, _&&_, Bool·beq, cond, true≢false, false≢true}
+use native.Mathlib.Nat.{mul-one, zero-mul, one-mul, mul-assoc, mul-comm, add-mul, mul-mul-mul-comm, mul-le-mul, mul-le-mul-right, le-trans, le-of-eq, mul-pos}
 use native.Mathlib.Omega.{arith}
 use borrow.Author.Tests.{ltb-true}
-use lib.Dec.{T, ltb}
-use lib.IntN.{ℤ, pos, negsuc}
-use lib.Ieee.{Float, nan, inf, fin, Format, binary32, up, down, unlike, round, sum, neg, add, sub, mul, lt, le}
+use lib.Dec.{ltb}
+use lib.IntN.{pos, negsuc}
+use lib.Ieee.{Float, nan, inf, fin, binary32, up, down, unlike, round, sum, neg, add, sub, mul, lt, le}
 use lib.Ieee.Exact.{HasValue}
 use lib.Ieee.Fits.{down-pos}
 use lib.Ieee.Scale.{finite}
@@ -15,7 +15,7 @@ use lib.Ieee.Back.{round-whole}
 use lib.Ieee.Positive.{through}
 use Rattle.ieee.specs.Fused.{fma}
 use Rattle.ieee.specs.F32.{absOf}
-use Rattle.ieee_laws.specs.Sign.{turn, Signs, turned, nought, Turned, of-nan, of-inf, of-fin}
+use Rattle.ieee_laws.specs.Sign.{turned, Turned, of-nan, of-inf, of-fin}
 use Rattle.ieee_laws.proofs.Order.{Leq, le-fin, Marked, endless, ended, round-marked, round-le}
 use Rattle.ieee_laws.proofs.Turned.{round-turned}
 

@@ -1,5 +1,6 @@
-pub mod Fit
+pub mod Search
 pub mod Moves
 pub mod Keypoint
+pub mod Place
 pub mod Sign
 pub mod Sound

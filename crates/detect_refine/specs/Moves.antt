@@ -1,15 +1,17 @@
 -- One step of the refinement, rules D8 to D11: the cell is lost, stays, or moves by the rounded offsets. Definitions only.
-use Prim.Native.Nat.{ℕ, _+_, _-_, _<_, _≤_}
+use Prim.Native.Nat.{ℕ, _+_, _-_}
 use mathlib.Core.Bool.{Bool, _&&_, _||_, cond}
 use lib.Dec.{leb, ltb}
 use lib.IntN.{ℤ, pos, negsuc, _+ℤ_}
 use lib.Ieee.{Float}
 use Rattle.ieee.specs.F32.{f32, _<ᶠ_, _=ᶠ_, absOf, rounded, toI32}
 use Rattle.ieee.specs.Numbers.{nought, half}
-use Rattle.params.specs.Limits.{border, maxSide, maxLayers}
-use Rattle.detect_refine.specs.Fit.{slopeOf, bendOf, detOf, offsetOf}
-use Rattle.detect_refine.specs.declared.Patch.{Patch}
-use Rattle.detect_refine.specs.declared.Offset.{Offset}
+use Rattle.params.specs.Limits.{border}
+use Rattle.picture.specs.declared.Shape.{Shape}
+use Rattle.detect_fit.specs.Fit.{gradientOf, bendOf, detOf, offsetOf}
+use Rattle.detect_fit.specs.declared.Patch.{Patch}
+use Rattle.detect_fit.specs.declared.Offset.{Offset}
+use Rattle.detect_refine.specs.declared.Cell.{Cell}
 use Rattle.detect_refine.specs.declared.Moved.{Moved}
 use Rattle.detect_refine.specs.declared.Moved.the-variants.{Out, In}
 use Rattle.detect_refine.specs.declared.Step.{Step}
@@ -41,33 +43,24 @@ unfoldable pub moved : ℕ → ℕ → ℕ → Float → Moved
 moved lo hi v x = placed lo hi (pos v +ℤ cvRound x)
 
 abbrev pub three : Moved → Moved → Moved → Step
-three (In p) (In r) (In c) = Go p r c
+three (In p) (In r) (In c) = Go (record { p = p; r = r; c = c })
 three (In p) (In r) Out = Lost
 three (In p) Out m = Lost
 three Out l m = Lost
 
 -- with the offset o: all small, it stays; one huge, it is lost; else it moves, and outside the layers 1 to `layers` or the border it is lost
-unfoldable pub walk : ℕ → ℕ → ℕ → ℕ → ℕ → ℕ → Offset → Step
-walk w h layers p r c o =
+unfoldable pub walk : Shape → ℕ → Cell → Offset → Step
+walk t layers k o =
     cond (small o) (Stay o)
     (cond (huge o) Lost
-    (three (moved 1 (layers + 1) p (o .xi)) (moved border (h - border) r (o .xr)) (moved border (w - border) c (o .xc))))
+    (three (moved 1 (layers + 1) (k .p) (o .xi)) (moved border (t .height - border) (k .r) (o .xr)) (moved border (t .width - border) (k .c) (o .xc))))
 
 -- a fit with this determinant has no offset: it is 0
 abbrev pub singular : Float → Bool
 singular det = det =ᶠ nought
 
 -- such a cell is lost
-unfoldable pub stepOf : ℕ → ℕ → ℕ → ℕ → ℕ → ℕ → Patch → Step
-stepOf w h layers p r c t =
-    let det = detOf (bendOf t) in
-    cond (singular det) Lost (walk w h layers p r c (offsetOf (slopeOf t) (bendOf t) det))
-
--- (p, r, c) is a layer and a cell of a frame within the limits, at least the border from the edges
-pub record Spot (w h layers p r c : ℕ) : Type 0 where
-  pub wide : w ≤ maxSide
-  pub high : h ≤ maxSide
-  pub many : layers ≤ maxLayers
-  pub last : p < layers + 1
-  pub bottom : r < h - border
-  pub end : c < w - border
+unfoldable pub stepOf : Shape → ℕ → Cell → Patch → Step
+stepOf t layers k patch =
+    let det = detOf (bendOf patch) in
+    cond (singular det) Lost (walk t layers k (offsetOf (gradientOf patch) (bendOf patch) det))

@@ -1,4 +1,4 @@
--- Two keypoints of a stack and of its negative. Definitions only.
+-- Law: two keypoints of a stack and of its negative. Definitions only.
 use mathlib.Core.Path.{_≡_}
 use Rattle.ieee_laws.specs.Sign.{Same}
 use Rattle.detect_refine.specs.declared.RawKeypoint.{RawKeypoint}

@@ -1,5 +1,5 @@
--- What holds of every keypoint that refinement gives: of all of them, and of those for a place, settings and samples that the table accepts. Definitions only.
-use Prim.Native.Nat.{ℕ, _+_, _-_, _*_, _/_, _%_, _^_, _<_, _≤_}
+-- Law: what holds of every keypoint that refinement gives: of all of them, and of those for a place, settings and samples that the table accepts. Definitions only.
+use Prim.Native.Nat.{ℕ, _-_, _*_, _/_, _%_, _^_, _<_, _≤_}
 use mathlib.Core.Path.{_≡_}
 use mathlib.Core.Bool.{true}
 use mathlib.Core.List.{List}
@@ -11,13 +11,16 @@ use Rattle.ieee.specs.Numbers.{nought, half}
 use Rattle.hal.specs.Exp.{inUp}
 use Rattle.params.specs.Limits.{border, maxMoves}
 use Rattle.params.specs.declared.Settings.{Settings}
+use Rattle.picture.specs.declared.Shape.{Shape}
 use Rattle.detect_refine.specs.Keypoint.{refineOf}
+use Rattle.detect_refine.specs.declared.Cell.{Cell}
+use Rattle.detect_refine.specs.declared.Search.{Search}
 use Rattle.detect_refine.specs.declared.RawKeypoint.{RawKeypoint}
 use Rattle.detect_refine.specs.declared.Refined.the-variants.{At}
 
--- Rule D12, whatever the samples, the shape, the settings and the place: a keypoint settled after fewer moves than five, 0 to 4.
+-- Rule D12, whatever the samples, the shape, the search and the cell: a keypoint settled after fewer moves than five, 0 to 4.
 abbrev pub FewMoves : Type 0
-FewMoves = (d : List Float) (w h : ℕ) (s : Settings) (octave p r c : ℕ) (k : RawKeypoint) → refineOf d w h s octave p r c ≡ At k → k .moves < maxMoves
+FewMoves = (d : List Float) (t : Shape) (s : Search) (k : Cell) (found : RawKeypoint) → refineOf d t s k ≡ At found → found .moves < maxMoves
 
 -- a finite value of an f32
 pub record Number (x : Float) : Type 0 where

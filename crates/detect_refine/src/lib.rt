@@ -1,64 +1,34 @@
-// The refinement of a candidate: the quadratic fit about a cell, the moves, the tests of contrast and edge, and the keypoint's fields.
+// The refinement of a candidate: the moves by the offsets of the fit, the tests of contrast and edge, and the keypoint's fields.
 
+use detect_fit::Offset;
+use detect_fit::Patch;
 use params::Settings;
+use picture::Shape;
 ghost use mathlib.Core.Path.{_≡_};
 ghost use mathlib.Core.Bool.{true};
-ghost use Prim.Native.Nat.{ℕ, _+_, _-_, _*_, _^_, _<_, _≤_};
+ghost use Prim.Native.Nat.{_^_, _≤_};
 ghost use lib.IntN.{pos};
 ghost use lib.ListN.{length};
 ghost use Rattle.ieee.specs.F32.{absOf, _<ᶠ_, float};
 ghost use Rattle.ieee.specs.Numbers.{half};
-ghost use Rattle.params.specs.Limits.{border, maxSide, maxLayers, maxOctave, maxMoves};
-ghost use Rattle.picture.specs.Stack.{Inside};
-ghost use Rattle.detect_refine.specs.Fit.{patchOf, slopeOf, bendOf, mulSub, outer, detOf, offsetOf};
-ghost use Rattle.detect_refine.specs.Moves.{small, huge, placed, moved, walk, stepOf, Spot};
-ghost use Rattle.detect_refine.specs.Keypoint.{contrastOf, dim, edgy, codeOf, keypointWith, ended, refineOf, Place};
+ghost use Rattle.params.specs.Limits.{maxSide, maxLayers, maxOctave};
+ghost use Rattle.detect_refine.specs.Moves.{small, huge, placed, moved, walk, stepOf};
+ghost use Rattle.detect_refine.specs.Keypoint.{contrastOf, dim, edgy, codeOf, keypointWith, ended, refineOf};
+ghost use Rattle.detect_refine.specs.Place.{Searched, Placed};
 
-// The nineteen samples that the fit reads: the middle plane's nine, and five of the plane before and of the plane after.
-pub struct Patch {
-    pub im: f32,
-    pub il: f32,
-    pub ir: f32,
-    pub iu: f32,
-    pub id: f32,
-    pub iul: f32,
-    pub iur: f32,
-    pub idl: f32,
-    pub idr: f32,
-    pub pm: f32,
-    pub pl: f32,
-    pub pr: f32,
-    pub pu: f32,
-    pub pd: f32,
-    pub nm: f32,
-    pub nl: f32,
-    pub nr: f32,
-    pub nu: f32,
-    pub nd: f32,
+// A cell of a stack: plane, row and column.
+pub struct Cell {
+    pub p: usize,
+    pub r: usize,
+    pub c: usize,
 }
 
-// The first derivatives along columns, rows and planes.
-pub struct Slope {
-    pub dx: f32,
-    pub dy: f32,
-    pub ds: f32,
-}
-
-// The second derivatives.
-pub struct Bend {
-    pub xx: f32,
-    pub yy: f32,
-    pub ss: f32,
-    pub xy: f32,
-    pub xs: f32,
-    pub ys: f32,
-}
-
-// How far the extremum of the fit lies from the cell, in planes, rows and columns.
-pub struct Offset {
-    pub xi: f32,
-    pub xr: f32,
-    pub xc: f32,
+// What is searched, and with what: one layer of a stack, whose octave it is, and the threshold that follows from the settings.
+pub struct Search {
+    pub layer: usize,
+    pub octave: u32,
+    pub threshold: f32,
+    pub settings: Settings,
 }
 
 pub enum Moved {
@@ -69,7 +39,7 @@ pub enum Moved {
 pub enum Step {
     Lost,
     Stay(Offset),
-    Go(usize, usize, usize),
+    Go(Cell),
 }
 
 // A refined keypoint. Its whole numbers are never negative, so they stand as the words that they go out as.
@@ -97,109 +67,8 @@ const BORDER: usize = 5;
 // A candidate that is not settled after so many moves is dropped.
 const MAX_MOVES: u32 = 5;
 
-// The f32 nearest to 1 / 255, and half of it and a quarter of it, which are exact.
-const IMG_SCALE: f32 = 0.003921568859368563;
-
-const DERIV: f32 = 0.001960784429684281;
-
-const CROSS: f32 = 0.0009803922148421407;
-
 // The f32 nearest to 715,827,882, a third of the largest i32: 715,827,904. An offset up to it, rounded and added to a place, stays an i32 in the source.
 const LIM: f32 = 715827882.0;
-
-// The samples about (p, r, c).
-pub fn patch_at(dog: &[f32], w: usize, h: usize, n: usize, p: usize, r: usize, c: usize) -> Patch
-    requires { ⌜ Inside (length (now dog)) w h n (p + 1) (r + 1) (c + 1) ⌝ }
-    requires { ⌜ (0 < p) × (0 < r) × (0 < c) ⌝ }
-    ensures { λ t. ⌜ t ≡ patchOf (now (dog .entry)) w h p r c ⌝ }
-{
-    Patch {
-        im: picture::at(dog, w, h, n, p, r, c),
-        il: picture::at(dog, w, h, n, p, r, c - 1),
-        ir: picture::at(dog, w, h, n, p, r, c + 1),
-        iu: picture::at(dog, w, h, n, p, r - 1, c),
-        id: picture::at(dog, w, h, n, p, r + 1, c),
-        iul: picture::at(dog, w, h, n, p, r - 1, c - 1),
-        iur: picture::at(dog, w, h, n, p, r - 1, c + 1),
-        idl: picture::at(dog, w, h, n, p, r + 1, c - 1),
-        idr: picture::at(dog, w, h, n, p, r + 1, c + 1),
-        pm: picture::at(dog, w, h, n, p - 1, r, c),
-        pl: picture::at(dog, w, h, n, p - 1, r, c - 1),
-        pr: picture::at(dog, w, h, n, p - 1, r, c + 1),
-        pu: picture::at(dog, w, h, n, p - 1, r - 1, c),
-        pd: picture::at(dog, w, h, n, p - 1, r + 1, c),
-        nm: picture::at(dog, w, h, n, p + 1, r, c),
-        nl: picture::at(dog, w, h, n, p + 1, r, c - 1),
-        nr: picture::at(dog, w, h, n, p + 1, r, c + 1),
-        nu: picture::at(dog, w, h, n, p + 1, r - 1, c),
-        nd: picture::at(dog, w, h, n, p + 1, r + 1, c),
-    }
-}
-
-fn slope_of(t: Patch) -> Slope
-    ensures { λ g. ⌜ g ≡ slopeOf t ⌝ }
-{
-    Slope {
-        dx: (t.ir - t.il) * DERIV,
-        dy: (t.id - t.iu) * DERIV,
-        ds: (t.nm - t.pm) * DERIV,
-    }
-}
-
-pub fn bend_of(t: Patch) -> Bend
-    ensures { λ b. ⌜ b ≡ bendOf t ⌝ }
-{
-    let v2 = t.im * 2.0;
-    Bend {
-        xx: (t.ir + t.il - v2) * IMG_SCALE,
-        yy: (t.id + t.iu - v2) * IMG_SCALE,
-        ss: (t.nm + t.pm - v2) * IMG_SCALE,
-        xy: (t.idr - t.idl - t.iur + t.iul) * CROSS,
-        xs: (t.nr - t.nl - t.pr + t.pl) * CROSS,
-        ys: (t.nd - t.nu - t.pd + t.pu) * CROSS,
-    }
-}
-
-// a * b - c * d: the second product is rounded, the first fused.
-fn mul_sub(a: f32, b: f32, c: f32, d: f32) -> f32
-    ensures { λ x. ⌜ x ≡ mulSub a b c d ⌝ }
-{
-    ieee::mul_add(a, b, -(c * d))
-}
-
-// p0 * p1 - q0 * q1 + r0 * r1, two fused operations from left to right.
-fn outer3(p0: f32, p1: f32, q0: f32, q1: f32, r0: f32, r1: f32) -> f32
-    ensures { λ x. ⌜ x ≡ outer p0 p1 q0 q1 r0 r1 ⌝ }
-{
-    ieee::mul_add(r0, r1, ieee::mul_add(p0, p1, -(q0 * q1)))
-}
-
-pub fn det_of(h: Bend) -> f32
-    ensures { λ x. ⌜ x ≡ detOf h ⌝ }
-{
-    let m0 = mul_sub(h.yy, h.ss, h.ys, h.ys);
-    let m1 = mul_sub(h.xy, h.ss, h.xs, h.ys);
-    let m2 = mul_sub(h.xy, h.ys, h.xs, h.yy);
-    outer3(h.xx, m0, h.xy, m1, h.xs, m2)
-}
-
-// The offset, where the determinant is det. The last cofactor is the negation of the first one's, as in the source.
-fn offset_of(g: Slope, h: Bend, det: f32) -> Offset
-    ensures { λ o. ⌜ o ≡ offsetOf g h det ⌝ }
-{
-    let d = 1.0 / det;
-    let a = mul_sub(g.dy, h.ss, h.ys, g.ds);
-    let b = mul_sub(g.dy, h.ys, h.yy, g.ds);
-    let e = mul_sub(h.xy, g.ds, g.dy, h.xs);
-    let x0 = d * outer3(g.dx, mul_sub(h.yy, h.ss, h.ys, h.ys), h.xy, a, h.xs, b);
-    let x1 = d * outer3(h.xx, a, g.dx, mul_sub(h.xy, h.ss, h.ys, h.xs), h.xs, e);
-    let x2 = d * outer3(h.xx, -b, h.xy, e, g.dx, mul_sub(h.xy, h.ys, h.yy, h.xs));
-    Offset {
-        xi: -x2,
-        xr: -x1,
-        xc: -x0,
-    }
-}
 
 // All three offsets are below 0.5 in magnitude: no not-a-number is.
 fn is_small(o: Offset) -> bool
@@ -243,10 +112,11 @@ fn move_by(lo: usize, hi: usize, v: usize, x: f32) -> Moved
     place(lo, hi, v as i64 + ieee::round_to_i32(x) as i64)
 }
 
-// One step with the offset o: it stays, is lost, or moves within the layers and the border.
-fn walk_by(w: usize, h: usize, layers: usize, p: usize, r: usize, c: usize, o: Offset) -> Step
-    requires { ⌜ Spot w h layers p r c ⌝ }
-    ensures { λ s. ⌜ s ≡ walk w h layers p r c o ⌝ }
+// One step from the cell k with the offset o: it stays, is lost, or moves within the layers and the border.
+fn walk_by(t: Shape, layers: usize, k: Cell, o: Offset) -> Step
+    requires { ⌜ (t .width ≤ maxSide) × (t .height ≤ maxSide) × (layers ≤ maxLayers) ⌝ }
+    requires { ⌜ Placed t layers k ⌝ }
+    ensures { λ s. ⌜ s ≡ walk t layers k o ⌝ }
 {
     if is_small(o) {
         return Step::Stay(o);
@@ -254,38 +124,48 @@ fn walk_by(w: usize, h: usize, layers: usize, p: usize, r: usize, c: usize, o: O
     if is_huge(o) {
         return Step::Lost;
     }
-    let Moved::In(q) = move_by(1, layers + 1, p, o.xi) else {
+    let Moved::In(plane) = move_by(1, layers + 1, k.p, o.xi) else {
         return Step::Lost;
     };
-    let Moved::In(s) = move_by(BORDER, h - BORDER, r, o.xr) else {
+    let Moved::In(row) = move_by(BORDER, t.height - BORDER, k.r, o.xr) else {
         return Step::Lost;
     };
-    let Moved::In(d) = move_by(BORDER, w - BORDER, c, o.xc) else {
+    let Moved::In(column) = move_by(BORDER, t.width - BORDER, k.c, o.xc) else {
         return Step::Lost;
     };
-    Step::Go(q, s, d)
+    Step::Go(Cell {
+        p: plane,
+        r: row,
+        c: column,
+    })
 }
 
-// One step on the samples t: lost where the determinant is 0.
-pub fn step_of(w: usize, h: usize, layers: usize, p: usize, r: usize, c: usize, t: Patch) -> Step
-    requires { ⌜ Spot w h layers p r c ⌝ }
-    ensures { λ s. ⌜ s ≡ stepOf w h layers p r c t ⌝ }
+// One step on the samples about the cell k: lost where the determinant is 0.
+pub fn step_of(t: Shape, layers: usize, k: Cell, patch: Patch) -> Step
+    requires { ⌜ (t .width ≤ maxSide) × (t .height ≤ maxSide) × (layers ≤ maxLayers) ⌝ }
+    requires { ⌜ Placed t layers k ⌝ }
+    ensures { λ s. ⌜ s ≡ stepOf t layers k patch ⌝ }
 {
-    let b = bend_of(t);
-    let det = det_of(b);
+    let b = detect_fit::bend_of(patch);
+    let det = detect_fit::det_of(b);
     if det == 0.0 {
         return Step::Lost;
     }
-    walk_by(w, h, layers, p, r, c, offset_of(slope_of(t), b, det))
+    walk_by(
+        t,
+        layers,
+        k,
+        detect_fit::offset_of(detect_fit::gradient_of(patch), b, det),
+    )
 }
 
 // The contrast at the offset.
-pub fn contrast_of(t: Patch, o: Offset) -> f32
-    ensures { λ k. ⌜ k ≡ contrastOf t o ⌝ }
+pub fn contrast_of(patch: Patch, o: Offset) -> f32
+    ensures { λ k. ⌜ k ≡ contrastOf patch o ⌝ }
 {
-    let g = slope_of(t);
+    let g = detect_fit::gradient_of(patch);
     let s = ieee::mul_add(g.ds, o.xi, ieee::mul_add(g.dy, o.xr, g.dx * o.xc));
-    ieee::mul_add(t.im, IMG_SCALE, s * 0.5)
+    ieee::mul_add(patch.im, detect_fit::IMG_SCALE, s * 0.5)
 }
 
 // The contrast times the layers is below the setting.
@@ -297,12 +177,12 @@ pub fn is_dim(s: Settings, contrast: f32) -> bool
 }
 
 // The plane's bend about the cell is that of an edge: determinant not above 0, or too small beside the trace.
-pub fn is_edgy(s: Settings, t: Patch) -> bool
-    ensures { λ b. ⌜ b ≡ edgy s t ⌝ }
+pub fn is_edgy(s: Settings, patch: Patch) -> bool
+    ensures { λ b. ⌜ b ≡ edgy s patch ⌝ }
 {
-    let b = bend_of(t);
+    let b = detect_fit::bend_of(patch);
     let tr = b.xx + b.yy;
-    let det = mul_sub(b.xx, b.yy, b.xy, b.xy);
+    let det = detect_fit::mul_sub(b.xx, b.yy, b.xy, b.xy);
     let et = ieee::narrow(s.edge);
     (det <= 0.0) | (tr * tr * et >= (et + 1.0) * (et + 1.0) * det)
 }
@@ -331,92 +211,60 @@ fn code_of(xi: f32) -> u32
     std::num::truncating_f32_to_u64(ieee::round_ties_even((xi + 0.5) * 255.0)) as u32
 }
 
-// The keypoint that settled at (p, r, c) with the offset o after so many moves; `response` is the contrast there, without its sign.
-fn keypoint_of(
-    s: Settings,
-    octave: u32,
-    moves: u32,
-    p: usize,
-    r: usize,
-    c: usize,
-    o: Offset,
-    response: f32,
-) -> RawKeypoint
-    requires { ⌜ (octave ≤ maxOctave) × (s .layers ≤ maxLayers) × (p ≤ maxLayers) × (r ≤ maxSide) × (c ≤ maxSide) ⌝ }
+// The keypoint that settled at the cell k with the offset o after so many moves; `response` is the contrast there, without its sign.
+fn keypoint_of(s: Search, moves: u32, k: Cell, o: Offset, response: f32) -> RawKeypoint
+    requires { ⌜ (s .octave ≤ maxOctave) × (s .settings .layers ≤ maxLayers) × (k .p ≤ maxLayers) × (k .r ≤ maxSide) × (k .c ≤ maxSide) ⌝ }
     requires { ⌜ small o ≡ true ⌝ }
-    ensures { λ k. ⌜ k ≡ keypointWith s octave moves p r c o response ⌝ }
+    ensures { λ x. ⌜ x ≡ keypointWith s moves k o response ⌝ }
 {
-    let scale = scale_of(octave);
-    let power = hal::exp2((float(p) + o.xi) / float(s.layers));
+    let scale = scale_of(s.octave);
+    let power = hal::exp2((float(k.p) + o.xi) / float(s.settings.layers));
     RawKeypoint {
-        x: (float(c) + o.xc) * scale,
-        y: (float(r) + o.xr) * scale,
-        size: ieee::narrow(s.sigma) * power * scale * 2.0,
+        x: (float(k.c) + o.xc) * scale,
+        y: (float(k.r) + o.xr) * scale,
+        size: ieee::narrow(s.settings.sigma) * power * scale * 2.0,
         response: response,
-        octave: octave + p as u32 * 256 + code_of(o.xi) * 65536,
-        layer: p as u32,
+        octave: s.octave + k.p as u32 * 256 + code_of(o.xi) * 65536,
+        layer: k.p as u32,
         xi: o.xi,
-        cc: c as u32,
-        rr: r as u32,
+        cc: k.c as u32,
+        rr: k.r as u32,
         moves: moves,
     }
 }
 
 // What a settled cell gives: dropped by its contrast or its edge, or the keypoint.
-fn end_at(
-    s: Settings,
-    octave: u32,
-    moves: u32,
-    p: usize,
-    r: usize,
-    c: usize,
-    t: Patch,
-    o: Offset,
-) -> Refined
-    requires { ⌜ (octave ≤ maxOctave) × (s .layers ≤ maxLayers) × (p ≤ maxLayers) × (r ≤ maxSide) × (c ≤ maxSide) ⌝ }
+fn end_at(s: Search, moves: u32, k: Cell, patch: Patch, o: Offset) -> Refined
+    requires { ⌜ (s .octave ≤ maxOctave) × (s .settings .layers ≤ maxLayers) × (k .p ≤ maxLayers) × (k .r ≤ maxSide) × (k .c ≤ maxSide) ⌝ }
     requires { ⌜ small o ≡ true ⌝ }
-    ensures { λ k. ⌜ k ≡ ended s octave moves p r c t o ⌝ }
+    ensures { λ x. ⌜ x ≡ ended s moves k patch o ⌝ }
 {
-    let k = contrast_of(t, o);
-    if is_dim(s, k) {
+    let contrast = contrast_of(patch, o);
+    if is_dim(s.settings, contrast) {
         return Refined::Dropped;
     }
-    if is_edgy(s, t) {
+    if is_edgy(s.settings, patch) {
         return Refined::Dropped;
     }
-    Refined::At(keypoint_of(s, octave, moves, p, r, c, o, ieee::abs(k)))
+    Refined::At(keypoint_of(s, moves, k, o, ieee::abs(contrast)))
 }
 
-// The refinement of the candidate at (p0, r0, c0): it moves until it settles, at most five times.
-pub fn refine(
-    dog: &[f32],
-    w: usize,
-    h: usize,
-    n: usize,
-    s: Settings,
-    octave: u32,
-    p0: usize,
-    r0: usize,
-    c0: usize,
-) -> Refined
-    requires { ⌜ Place (length (now dog)) w h n (s .layers) p0 r0 c0 ⌝ }
-    requires { ⌜ octave ≤ maxOctave ⌝ }
-    ensures { λ k. ⌜ k ≡ refineOf (now (dog .entry)) w h s octave p0 r0 c0 ⌝ }
+// The refinement of the candidate at the cell k: it moves until it settles, at most so many times.
+pub fn refine(dog: &[f32], t: Shape, s: Search, k: Cell) -> Refined
+    requires { ⌜ Searched (length (now dog)) t s ⌝ }
+    requires { ⌜ Placed t (s .settings .layers) k ⌝ }
+    ensures { λ x. ⌜ x ≡ refineOf (now (dog .entry)) t s k ⌝ }
 {
-    let layers = s.layers;
-    let mut p = p0;
-    let mut r = r0;
-    let mut c = c0;
+    let layers = s.settings.layers;
+    let mut at = k;
     let mut moves: u32 = 0;
     while moves < MAX_MOVES {
-        let t = patch_at(dog, w, h, n, p, r, c);
-        match step_of(w, h, layers, p, r, c, t) {
+        let patch = detect_fit::patch_at(dog, t, at.p, at.r, at.c);
+        match step_of(t, layers, at, patch) {
             Step::Lost => return Refined::Dropped,
-            Step::Stay(o) => return end_at(s, octave, moves, p, r, c, t, o),
-            Step::Go(p1, r1, c1) => {
-                p = p1;
-                r = r1;
-                c = c1;
+            Step::Stay(o) => return end_at(s, moves, at, patch, o),
+            Step::Go(next) => {
+                at = next;
                 moves += 1;
             }
         }

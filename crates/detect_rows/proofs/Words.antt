@@ -6,14 +6,14 @@ use native.Mathlib.Nat.{zero-add}
 use native.Mathlib.Numerals.{add-one}
 use native.Mathlib.Omega.{arith}
 use lib.ListN.{length, getD, take, set, length-append}
-use lib.Seq.{sets, take-suc, take-at, length-take-le}
+use lib.Seq.{sets, take-suc, take-length, length-take-le, length-sets}
 use Rattle.lists.specs.Ranges.{joined}
 use Rattle.lists.specs.Pasted.{pasted}
 use Rattle.lists.proofs.Ranges.{joined-more, joined-split, sets-append, sets-front}
 use Rattle.detect_refine.specs.declared.RawKeypoint.{RawKeypoint}
-use Rattle.detect_extrema.specs.Scan.{words, wordsOf}
+use Rattle.detect_extrema.specs.Scan.{keypointWords, words, wordsOf}
 
-pub length-words : (ks : List RawKeypoint) → length (words ks) ≡ 10 * length ks
+pub length-words : (ks : List RawKeypoint) → length (words ks) ≡ keypointWords * length ks
 unfolding words
 length-words [] = refl
 length-words (k ∷ ks) = omega (arith, length-words ks)
@@ -61,7 +61,7 @@ pub filled : (lo hi : ℕ) (f : ℕ → List RawKeypoint) (l out out' : List ℕ
     → lo ≤ hi
     → f hi ≡ v
     → k ≡ length (joined lo hi f)
-    → at ≡ from + 10 * k
+    → at ≡ from + keypointWords * k
     → out ≡ sets l from (words (joined lo hi f))
     → out' ≡ sets out at (words v)
     → out' ≡ sets l from (words (joined lo (hi + 1) f))
@@ -72,10 +72,10 @@ filled lo hi f l out out' from at k v h e n a o o' =
 
 module _ (lo hi : ℕ) (f : ℕ → List RawKeypoint) (l out out' : List ℕ) (from k : ℕ) (h : lo ≤ hi) (n : k ≡ length (joined lo hi f)) (o : out ≡ sets l from (words (joined lo hi f))) where
   pub filled-none : f hi ≡ [] → out' ≡ out → out' ≡ sets l from (words (joined lo (hi + 1) f))
-  filled-none e q = filled lo hi f l out out' from (from + 10 * k) k [] h e n refl o (q ∙ rw words-none)
+  filled-none e q = filled lo hi f l out out' from (from + keypointWords * k) k [] h e n refl o (q ∙ rw words-none)
 
-  pub filled-one : (x : RawKeypoint) → f hi ≡ x ∷ [] → out' ≡ sets out (from + 10 * k) (wordsOf x) → out' ≡ sets l from (words (joined lo (hi + 1) f))
-  filled-one x e q = filled lo hi f l out out' from (from + 10 * k) k (x ∷ []) h e n refl o (q ∙ rw words-one)
+  pub filled-one : (x : RawKeypoint) → f hi ≡ x ∷ [] → out' ≡ sets out (from + keypointWords * k) (wordsOf x) → out' ≡ sets l from (words (joined lo (hi + 1) f))
+  filled-one x e q = filled lo hi f l out out' from (from + keypointWords * k) k (x ∷ []) h e n refl o (q ∙ rw words-one)
 
 -- the parts up to one and those from it on: counted, and written behind each other
 pub counted-on : {A : Type 0} (lo mid hi : ℕ) (f : ℕ → List A) (k x : ℕ) → lo ≤ mid → mid ≤ hi → k ≡ length (joined lo mid f) → x ≡ length (joined mid hi f) → k + x ≡ length (joined lo hi f)
@@ -86,40 +86,16 @@ pub filled-on : (lo mid hi : ℕ) (f : ℕ → List RawKeypoint) (l out out' : L
     → mid ≤ hi
     → k ≡ length (joined lo mid f)
     → out ≡ sets l from (words (joined lo mid f))
-    → out' ≡ sets out (from + 10 * k) (words (joined mid hi f))
+    → out' ≡ sets out (from + keypointWords * k) (words (joined mid hi f))
     → out' ≡ sets l from (words (joined lo hi f))
 filled-on lo mid hi f l out out' from k a b n o o' =
     let w : words (joined lo hi f) ≡ words (joined lo mid f) ++ words (joined mid hi f) = rw (← joined-split lo mid hi f a b, words-append) in
-    let z : from + 10 * k ≡ from + length (words (joined lo mid f)) = omega (arith, length-words (joined lo mid f)) in
+    let z : from + keypointWords * k ≡ from + length (words (joined lo mid f)) = omega (arith, length-words (joined lo mid f)) in
     o' ∙ rw (o, z, w, sets-append (words (joined lo mid f)) (words (joined mid hi f)) l from)
 
--- the front of what was written of all parts is the parts up to one
-pub taken : (lo mid hi : ℕ) (f : ℕ → List RawKeypoint) (hold hold' : List ℕ) (k at : ℕ)
-    → lo ≤ mid
-    → mid ≤ hi
-    → k ≡ length (joined lo mid f)
-    → at ≡ 10 * k
-    → at ≤ length hold
-    → hold' ≡ sets hold 0 (words (joined lo hi f))
-    → take at hold' ≡ words (joined lo mid f)
-taken lo mid hi f hold hold' k at a b n q room e =
-    let w : words (joined lo hi f) ≡ words (joined lo mid f) ++ words (joined mid hi f) = rw (← joined-split lo mid hi f a b, words-append) in
-    let z : length (words (joined lo mid f)) ≡ at = omega (arith, length-words (joined lo mid f)) in
-    let m : at ≤ length (words (joined lo hi f)) = rw (w, length-append) (omega arith) in
-    rw e (take-sets at hold (words (joined lo hi f)) room m ∙ ap (take at) w ∙ take-at (words (joined lo mid f)) (words (joined mid hi f)) at z)
-
--- the parts up to one held, and those from it on written behind them, are all parts written
-pub written : (lo mid hi : ℕ) (f : ℕ → List RawKeypoint) (l hold out out' : List ℕ) (k at : ℕ)
-    → lo ≤ mid
-    → mid ≤ hi
-    → k ≡ length (joined lo mid f)
-    → at ≡ 10 * k
-    → take at hold ≡ words (joined lo mid f)
-    → out ≡ sets l 0 (take at hold)
-    → out' ≡ sets out at (words (joined mid hi f))
-    → out' ≡ sets l 0 (words (joined lo hi f))
-written lo mid hi f l hold out out' k at a b n q t o o' =
-    let w : words (joined lo hi f) ≡ words (joined lo mid f) ++ words (joined mid hi f) = rw (← joined-split lo mid hi f a b, words-append) in
-    let z : length (words (joined lo mid f)) ≡ at = omega (arith, length-words (joined lo mid f)) in
-    let s = sets-append (words (joined lo mid f)) (words (joined mid hi f)) l 0 in
-    o' ∙ rw (o, t, w, ← s, zero-add, z)
+-- keypoints written over a list that has room for them are its front
+pub held : (ks : List RawKeypoint) (k : ℕ) (hold hold' : List ℕ) → k ≡ length ks → hold' ≡ sets hold 0 (words ks) → keypointWords * k ≤ length hold' → take (keypointWords * k) hold' ≡ words ks
+held ks k hold hold' n w room =
+    let e : keypointWords * k ≡ length (words ks) = omega (arith, length-words ks) in
+    let r : length hold' ≡ length hold = ap length w ∙ simp length-sets in
+    rw (w, e) (take-sets (length (words ks)) hold (words ks) (omega arith) (omega arith) ∙ take-length (words ks))

@@ -9,13 +9,14 @@ use native.Mathlib.Omega.{arith}
 use lib.IntN.{ℤ, pos, negsuc}
 use lib.Dec.{T, ltb, leb, eqb, ltb→lt, leb→le, nleb→lt, nltb→le, eqb→eq, lit<, lit≤}
 use lib.Pow.{pow-pos, pow-add, pow-lt}
-use lib.Ieee.{Float, nan, inf, fin, binary32, up, down, lt, le, eq, add, div, round, fits}
+use lib.Ieee.{Float, nan, inf, fin, binary32, up, down, lt, le, eq, add, div, round, fits, ofBits}
 use lib.Ieee.Exact.{HasValue, round-exact}
 use lib.Ieee.Fits.{down-pos, and-l, and-r}
 use lib.Ieee.Scale.{round-same}
 use lib.Ieee.Positive.{num, den, den-pos, first-pos}
 use Rattle.ieee.specs.F32.{absOf}
-use Rattle.hal.specs.Numbers.{nought, furthest}
+use Rattle.ieee.specs.Numbers.{nought}
+use Rattle.hal.specs.Numbers.{furthest}
 use Rattle.hal.specs.Angle.{ratioOf, nearOf, directionOf, levelOf, small, inAngle, angleOf}
 use Rattle.hal.specs.Rules.{double}
 use Rattle.hal.proofs.Range.{below-of}
@@ -85,7 +86,7 @@ regroup a d = ap (λ (z : ℕ). z * d) two ∙ mul-assoc (a * 2) d d
     two = let p : a * 2 * d ≡ a * d * 2 = mul-right-comm a 2 d in omega arith
 
 bounded : (s : Bool) (m : ℕ) (e : ℤ) → T (small (absOf (fin s m e))) → m * up e ≤ 2097152 * down e
-unfolding absOf
+unfolding absOf ofBits
 bounded s m e t = below-of (fin false m e) furthest 2097152 (refl, refl) t m e refl
 
 double-value : (s : Bool) (m : ℕ) (e : ℤ) → T (fits binary32 (fin s m e)) → T (small (absOf (fin s m e))) → HasValue (double (fin s m e)) s (m * up e * 2) (down e)

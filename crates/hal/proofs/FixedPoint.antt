@@ -8,14 +8,15 @@ use native.Mathlib.Omega.{arith}
 use lib.IntN.{ℤ, pos, negsuc}
 use lib.Dec.{T, ltb, leb, eqb, ltb→lt, nltb→le, eqb→eq, lit<, lit≤}
 use lib.Pow.{pow-pos, pow-mono}
-use lib.Ieee.{Float, nan, inf, fin, Format, binary32, binary64, prec, emax, low, unlike, up, down, odd, units, size, lt, le, eq, neg, add, sub, mul, round, toUnsigned, toBits, isNan}
+use lib.Ieee.{Float, nan, inf, fin, Format, binary32, binary64, prec, emax, low, unlike, up, down, odd, units, size, lt, le, eq, neg, add, sub, mul, round, toUnsigned, toBits, isNan, ofBits}
 use lib.Ieee.Fits.{and-i, and-l, and-r, down-pos, round-is}
 use lib.Ieee.Digits.{size-lt, size-reaches, size-le}
 use lib.Ieee.Nearest.{div-same}
 use lib.Ieee.Back.{round-whole}
 use lib.Ieee.Positive.{num, den}
 use Rattle.ieee.proofs.SignedParts.{round-zero}
-use Rattle.hal.specs.Numbers.{nought, two, minus32}
+use Rattle.ieee.specs.Numbers.{nought, two}
+use Rattle.hal.specs.Numbers.{minus32}
 use Rattle.hal.specs.Exp.{inFixed, fixedOf, inUp, upStart, upRate, inDown, downStart, downRate}
 use Rattle.hal.proofs.Range.{Within, Exact, round-within, mul-within, add-within, sub-within, or-split, above-of, below-of, ge-of, whole-le, whole-ge, lt-of, wider, cut-ge}
 
@@ -57,7 +58,7 @@ up-nought = refl
 
 -- 0 ≤ -m * 2 ^ e
 pub zero-below : (m : ℕ) (e : ℤ) → T (le nought (fin true m e)) → m * up e ≡ 0
-unfolding le lt eq
+unfolding le lt eq ofBits
 zero-below m e t =
     let p : 0 * 1 * down e ≡ m * up e * 1 = eqb→eq (0 * 1 * down e) (m * up e * 1) (and-l (eqb (0 * 1 * down e) (m * up e * 1)) (false || eqb (0 * 1 * down e) 0) t) in
     omega arith
@@ -72,7 +73,7 @@ none (suc k) d D h = absurd (let p : suc k * d ≡ k * d + d = suc-mul k d in om
 
 pub up-within : (x : Float) (lo hi : ℕ) → lo ≤ 1024 → hi ≤ 1024 → T (inUp x) → lo * den x ≤ num x * 256 → num x * 256 ≤ hi * den x
     → Within (4503599627370496 + lo * 8388608) (4503599627370496 + hi * 8388608) (add binary64 upStart (mul binary64 x upRate))
-unfolding le
+unfolding le ofBits
 up-within nan lo hi L H t p q = absurd t
 up-within (inf true) lo hi L H t p q = absurd t
 up-within (inf false) lo hi L H t p q = absurd t
@@ -84,10 +85,11 @@ up-within (fin true m e) lo hi L H t p q =
 
 -- ---- exp: from 2 ^ 52 up to the start
 below-zero : (m : ℕ) (e : ℤ) → T (le (fin false m e) nought) → m * up e ≡ 0
+unfolding ofBits
 below-zero m e t = let p : m * up e ≤ 0 * down e = below-of (fin false m e) nought 0 (refl, refl) t m e refl in omega arith
 
 lower : (m : ℕ) (e : ℤ) → T (le minus32 (fin true m e)) → m * up e ≤ 32 * down e
-unfolding le lt eq
+unfolding le lt eq ofBits
 lower m e t =
     let p : m * up e * 1 ≤ 1 * 2 ^ 5 * down e = elim (or-split (ltb (m * up e * 1) (1 * 2 ^ 5 * down e)) (eqb (1 * 2 ^ 5 * down e) (m * up e * 1) && (true || eqb (1 * 2 ^ 5 * down e) 0)) t) [
       | inl u ↦ le-of-lt (ltb→lt (m * up e * 1) (1 * 2 ^ 5 * down e) u)
@@ -118,7 +120,7 @@ unfolding add round
 down-nought = refl
 
 pub down-within : (x : Float) → T (inDown x) → Within 4503601417853652 4503700559101952 (add binary64 downStart (mul binary64 x downRate))
-unfolding le
+unfolding le ofBits
 down-within nan t = absurd t
 down-within (inf true) t = absurd t
 down-within (inf false) t = absurd t

@@ -8,7 +8,7 @@ use native.Mathlib.Omega.{arith}
 use lib.IntN.{ℤ, pos, negsuc}
 use lib.Dec.{T, ltb, leb, eqb, leb→le, ltb→lt, nltb→le, eqb→eq, lit<, lit≤}
 use lib.Pow.{pow-pos}
-use lib.Ieee.{Float, nan, inf, fin, binary32, unlike, up, down, size, eq, le, mul, round, sum}
+use lib.Ieee.{Float, nan, inf, fin, binary32, unlike, up, down, size, eq, le, mul, round, sum, ofBits}
 use lib.Ieee.Exact.{HasValue}
 use lib.Ieee.Fits.{down-pos}
 use lib.Ieee.Bits.{is-true}
@@ -17,7 +17,8 @@ use Rattle.ieee.specs.Root.{rootIn, root, halves, sqrt}
 use Rattle.ieee.specs.Fused.{fma}
 use Rattle.ieee.specs.F32.{_⊗_, fused, rootOf, absOf}
 use Rattle.ieee.proofs.SignedParts.{round-zero}
-use Rattle.hal.specs.Numbers.{nought, furthest}
+use Rattle.ieee.specs.Numbers.{nought}
+use Rattle.hal.specs.Numbers.{furthest}
 use Rattle.hal.specs.Angle.{small, inAngle}
 use Rattle.hal.specs.Magnitude.{magnitudeOf}
 use Rattle.hal.proofs.Range.{Within, Exact, round-within, below-of, cut-le}
@@ -115,7 +116,7 @@ fused-within s m e (fin false p g) h w =
     (sum-le (m * up e * (m * up e)) (down e * down e) (p * up g) (down g) (square-le (m * up e) (down e) h) (w .1)))
 
 bounded : (s : Bool) (m : ℕ) (e : ℤ) → T (small (absOf (fin s m e))) → m * up e ≤ 2097152 * down e
-unfolding absOf
+unfolding absOf ofBits
 bounded s m e t = below-of (fin false m e) furthest 2097152 (refl, refl) t m e refl
 
 inner-within : (dx dy : Float) → T (small (absOf dx)) → T (small (absOf dy)) → Within 0 8796093022208 (fused dx dx (dy ⊗ dy))
@@ -137,20 +138,20 @@ zero-digits : (s : Bool) (m : ℕ) (e : ℤ) → T (eq (fin s m e) nought) → m
 zero-digits s m e t = eqb→eq (m * up e) 0 (subst T (zero-of s m e) t)
 
 square-zero : (t : Bool) (n : ℕ) (d : ℤ) → n * up d ≡ 0 → mul binary32 (fin t n d) (fin t n d) ≡ nought
-unfolding mul
+unfolding mul ofBits
 square-zero t n d z =
     ap (λ (s : Bool). round binary32 s (n * up d * (n * up d)) (down d * down d)) (like t)
     ∙ round-zero binary32 false (n * up d * (n * up d)) (down d * down d) (mul-pos (down-pos d) (down-pos d)) (ap (λ (k : ℕ). k * (n * up d)) z ∙ zero-mul (n * up d))
 
 fused-zero : (s : Bool) (m : ℕ) (e : ℤ) → m * up e ≡ 0 → fma binary32 (fin s m e) (fin s m e) nought ≡ nought
-unfolding fma sum
+unfolding fma sum ofBits
 fused-zero s m e z =
     ap (λ (t : Bool). sum binary32 t (m * up e * (m * up e) * 1) false (0 * 1 * (down e * down e)) (down e * down e * 1)) (like s)
     ∙ round-zero binary32 false (m * up e * (m * up e) * 1 + 0 * 1 * (down e * down e)) (down e * down e * 1) (mul-pos (mul-pos (down-pos e) (down-pos e)) (lit< tt))
     (let p : m * up e * (m * up e) ≡ 0 = ap (λ (k : ℕ). k * (m * up e)) z ∙ zero-mul (m * up e) in omega arith)
 
 root-zero : rootOf nought ≡ nought
-unfolding sqrt
+unfolding sqrt ofBits
 root-zero = refl
 
 inner-zero : (dx dy : Float) → T (small (absOf dx)) → T (small (absOf dy)) → T (eq dx nought) → T (eq dy nought) → fused dx dx (dy ⊗ dy) ≡ nought

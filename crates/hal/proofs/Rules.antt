@@ -5,23 +5,24 @@ use Prim.Native.Nat.{ℕ, suc, _+_, _-_, _*_, _^_, _≤_, _<_, zero-le}
 use native.Mathlib.Nat.{le-refl, mul-pos}
 use native.Mathlib.Numerals.{add-one}
 use native.Mathlib.Omega.{arith}
-use lib.IntN.{pos}
+use lib.IntN.{pos, negsuc}
 use lib.ListN.{length}
 use lib.Dec.{T, ltb→lt, lt→ltb}
 use lib.Ieee.{Float, nan, inf, fin, binary32, binary64, up, down, lt, le, eq, neg, mul, add, sub, div, round, toUnsigned, ofInt, ofBits, fits}
 use lib.Ieee.Exact.{HasValue}
 use lib.Ieee.Fits.{cond-fits, nan-fits, neg-fits, mul-fits, sub-fits, up-pos}
 use lib.Ieee.Positive.{positive, between}
-use Rattle.ieee.specs.F32.{f32, _⊗_, fused, absOf}
+use Rattle.ieee.specs.F32.{_⊗_, fused, absOf}
 use Rattle.ieee_laws.specs.Sign.{Same}
 use Rattle.ieee.proofs.Held.{fma-fits, sqrt-fits}
 use Rattle.ieee_laws.proofs.Turned.{le-turned, add-turned, mul-turned}
 use Rattle.ieee_laws.proofs.TurnedOps.{same, toUnsigned-same}
-use Rattle.hal.specs.Numbers.{nought, one, minusOne, two, four, minus32, eighth, quarter, half, threeQuarters, full, last, furthest}
+use Rattle.ieee.specs.Numbers.{nought, one, minusOne, two, four, eighthTurn, quarterTurn, halfTurn, threeQuarterTurn, wholeTurn}
+use Rattle.hal.specs.Numbers.{minus32, lastAngle, furthest}
 use Rattle.hal.specs.Powers.{powers, entryOf}
 use Rattle.hal.specs.Exp.{scaledOf, powerOf, fixedOf, inUp, upStart, upRate, upField, exp2Of, inDown, downStart, downRate, downField, expOf}
-use Rattle.hal.specs.Turn.{holdOf, turnedOf, archOf, inTurn, sinOf, cosOf}
-use Rattle.hal.specs.Angle.{slopeOf, lesserOf, greaterOf, nearOf, mirrorOf, belowOf, foldedOf, directionOf, levelOf, inAngle, angleOf}
+use Rattle.hal.specs.Turn.{holdOf, negatedOf, quarterSineOf, inTurn, sinOf, cosOf}
+use Rattle.hal.specs.Angle.{tangentAngleOf, lesserOf, greaterOf, nearOf, mirrorOf, belowTurnOf, foldedOf, directionOf, levelOf, inAngle, angleOf}
 use Rattle.hal.specs.Magnitude.{magnitudeOf}
 use Rattle.hal.specs.Rules.{In, TableRule, Exp2Rule, ExpRule, TurnRule, SineRule, CosineRule, AngleRule, MagnitudeRule, startOf, endOf}
 use Rattle.hal.proofs.Entries.{entry-rule}
@@ -33,14 +34,14 @@ use Rattle.hal.proofs.AngleValues.{angle-within, angle-below, angle-eas
 use Rattle.hal.proofs.AngleDoubled.{angle-double}
 use Rattle.hal.proofs.MagnitudeLaws.{magnitude-is, magnitude-within, magnitude-none}
 
--- ---- the named numbers have the bits that their page gives
-pub named : (f32 0 ≡ nought) × (f32 0x3f800000 ≡ one) × (f32 0xbf800000 ≡ minusOne) × (f32 0x40000000 ≡ two) × (f32 0x40800000 ≡ four) × (f32 0xc2000000 ≡ minus32) × (f32 0x42340000 ≡ eighth) × (f32 0x42b40000 ≡ quarter) × (f32 0x43340000 ≡ half) × (f32 0x43870000 ≡ threeQuarters) × (f32 0x43b40000 ≡ full) × (f32 0x43b3ffff ≡ last) × (f32 0x4a000000 ≡ furthest)
+-- ---- the named numbers are what their pages say
+pub named : (nought ≡ fin false 0 (pos 0)) × (one ≡ fin false 1 (pos 0)) × (minusOne ≡ fin true 1 (pos 0)) × (two ≡ fin false 1 (pos 1)) × (four ≡ fin false 1 (pos 2)) × (minus32 ≡ fin true 1 (pos 5)) × (eighthTurn ≡ fin false 45 (pos 0)) × (quarterTurn ≡ fin false 45 (pos 1)) × (halfTurn ≡ fin false 45 (pos 2)) × (threeQuarterTurn ≡ fin false 135 (pos 1)) × (wholeTurn ≡ fin false 45 (pos 3)) × (lastAngle ≡ fin false 11796479 (negsuc 14)) × (furthest ≡ fin false 1 (pos 21))
 unfolding ofBits
 named = (refl, refl, refl, refl, refl, refl, refl, refl, refl, refl, refl, refl, refl)
 
 -- ---- where exp's exponent starts and where it ends, as docs/ROUTINES.md says
 pub down-ends : (fixedOf downStart downRate minus32 ≡ 1790483156) × (fixedOf downStart downRate nought ≡ 47 * 2147483648)
-unfolding fixedOf toUnsigned add mul round
+unfolding fixedOf toUnsigned add mul round ofBits
 down-ends = (refl, refl)
 
 in-of : (z lo hi : Float) (a b : ℕ) → HasValue lo false a 1 → HasValue hi false b 1 → Within a b z → In lo hi z
@@ -75,6 +76,7 @@ unfolding exp2Of
 exp2-outside x e = otherwise (inUp x) _ e
 
 pub exp2-rule : Exp2Rule
+unfolding ofBits
 exp2-rule = record {
   between = λ x t. let p = exp2-between x t in record { least = p .0; most = p .1 };
   at = exp2-at;
@@ -98,13 +100,14 @@ unfolding scaledOf mul round ofInt ofBits
 least-above = tt
 
 above-zero : (z : Float) → T (positive z) → T (lt nought z)
-unfolding lt
+unfolding lt ofBits
 above-zero nan t = t
 above-zero (inf s) t = absurd t
 above-zero (fin true m e) t = absurd t
 above-zero (fin false m e) t = lt→ltb (0 * 1 * down e) (m * up e * 1) (let p : 0 < m * up e = mul-pos (ltb→lt 0 m t) (up-pos e) in omega arith)
 
 pub exp-rule : ExpRule
+unfolding ofBits
 exp-rule = record {
   within = λ x t. in-of (expOf x) nought one 0 1 (refl, refl) (refl, refl) (exp-within x t);
   zero = exp-at-zero;
@@ -115,16 +118,16 @@ exp-rule = record {
 
 -- ---- sine and cosine
 hold-fits : (p t : Float) → T (fits binary32 p) → T (fits binary32 t) → T (fits binary32 (holdOf p t))
-unfolding holdOf fits
+unfolding holdOf fits ofBits
 hold-fits p t h k = cond-fits binary32 (lt nought p) (cond (lt p t) p t) nought (cond-fits binary32 (lt p t) p t h k) tt
 
-arch-fits : (a : Float) → T (fits binary32 (archOf a))
-unfolding archOf
-arch-fits a = hold-fits (mul binary32 a _) one (mul-fits binary32 a _) (unfold fits in tt)
+quarter-sine-fits : (a : Float) → T (fits binary32 (quarterSineOf a))
+unfolding quarterSineOf ofBits
+quarter-sine-fits a = hold-fits (mul binary32 a _) one (mul-fits binary32 a _) (unfold fits in tt)
 
-turned-fits : (v : Float) → T (fits binary32 v) → T (fits binary32 (turnedOf v))
-unfolding turnedOf
-turned-fits v h = cond-fits binary32 (lt nought v) (neg v) nought (neg-fits binary32 v h) (unfold fits in tt)
+negated-fits : (v : Float) → T (fits binary32 v) → T (fits binary32 (negatedOf v))
+unfolding negatedOf ofBits
+negated-fits v h = cond-fits binary32 (lt nought v) (neg v) nought (neg-fits binary32 v h) (unfold fits in tt)
 
 four-fits : (a b c d : Bool) (x y z w : Float) → T (fits binary32 x) → T (fits binary32 y) → T (fits binary32 z) → T (fits binary32 w) → T (fits binary32 (cond a (cond b x (cond c y (cond d z w))) nan))
 four-fits a b c d x y z w p q r s =
@@ -133,14 +136,14 @@ four-fits a b c d x y z w p q r s =
 sin-fits : (d : Float) → T (fits binary32 (sinOf d))
 unfolding sinOf
 sin-fits d =
-    four-fits (inTurn d) (le d quarter) (le d half) (le d threeQuarters) (archOf d) (archOf (sub binary32 half d)) (turnedOf (archOf (sub binary32 d half))) (turnedOf (archOf (sub binary32 full d)))
-    (arch-fits d) (arch-fits (sub binary32 half d)) (turned-fits (archOf (sub binary32 d half)) (arch-fits (sub binary32 d half))) (turned-fits (archOf (sub binary32 full d)) (arch-fits (sub binary32 full d)))
+    four-fits (inTurn d) (le d quarterTurn) (le d halfTurn) (le d threeQuarterTurn) (quarterSineOf d) (quarterSineOf (sub binary32 halfTurn d)) (negatedOf (quarterSineOf (sub binary32 d halfTurn))) (negatedOf (quarterSineOf (sub binary32 wholeTurn d)))
+    (quarter-sine-fits d) (quarter-sine-fits (sub binary32 halfTurn d)) (negated-fits (quarterSineOf (sub binary32 d halfTurn)) (quarter-sine-fits (sub binary32 d halfTurn))) (negated-fits (quarterSineOf (sub binary32 wholeTurn d)) (quarter-sine-fits (sub binary32 wholeTurn d)))
 
 cos-fits : (d : Float) → T (fits binary32 (cosOf d))
 unfolding cosOf
 cos-fits d =
-    four-fits (inTurn d) (le d quarter) (le d half) (le d threeQuarters) (archOf (sub binary32 quarter d)) (turnedOf (archOf (sub binary32 d quarter))) (turnedOf (archOf (sub binary32 threeQuarters d))) (archOf (sub binary32 d threeQuarters))
-    (arch-fits (sub binary32 quarter d)) (turned-fits (archOf (sub binary32 d quarter)) (arch-fits (sub binary32 d quarter))) (turned-fits (archOf (sub binary32 threeQuarters d)) (arch-fits (sub binary32 threeQuarters d))) (arch-fits (sub binary32 d threeQuarters))
+    four-fits (inTurn d) (le d quarterTurn) (le d halfTurn) (le d threeQuarterTurn) (quarterSineOf (sub binary32 quarterTurn d)) (negatedOf (quarterSineOf (sub binary32 d quarterTurn))) (negatedOf (quarterSineOf (sub binary32 threeQuarterTurn d))) (quarterSineOf (sub binary32 d threeQuarterTurn))
+    (quarter-sine-fits (sub binary32 quarterTurn d)) (negated-fits (quarterSineOf (sub binary32 d quarterTurn)) (quarter-sine-fits (sub binary32 d quarterTurn))) (negated-fits (quarterSineOf (sub binary32 threeQuarterTurn d)) (quarter-sine-fits (sub binary32 threeQuarterTurn d))) (quarter-sine-fits (sub binary32 d threeQuarterTurn))
 
 sin-outside : (d : Float) → inTurn d ≡ false → sinOf d ≡ nan
 unfolding sinOf
@@ -151,6 +154,7 @@ unfolding cosOf
 cos-outside d e = otherwise (inTurn d) _ e
 
 pub sine-rule : SineRule
+unfolding ofBits
 sine-rule = record {
   within = λ d t. let p = sin-in d t in record { least = p .0; most = p .1 };
   at-0 = sin-quarters .0;
@@ -163,6 +167,7 @@ sine-rule = record {
 }
 
 pub cosine-rule : CosineRule
+unfolding ofBits
 cosine-rule = record {
   within = λ d t. let p = cos-in d t in record { least = p .0; most = p .1 };
   at-0 = cos-quarters .0;
@@ -176,12 +181,14 @@ cosine-rule = record {
 
 -- ---- the angle
 start-value : (l d : Bool) → HasValue (startOf l d) false (fromOf l d) 1
+unfolding ofBits
 start-value false false = (refl, refl)
 start-value true false = (refl, refl)
 start-value true true = (refl, refl)
 start-value false true = (refl, refl)
 
 end-value : (l d : Bool) → HasValue (endOf l d) false (fromOf l d + 90) 1
+unfolding ofBits
 end-value false false = (refl, refl)
 end-value true false = (refl, refl)
 end-value true true = (refl, refl)
@@ -191,13 +198,13 @@ mirror-fits : (c : Bool) (k q : Float) → T (fits binary32 q) → T (fits binar
 unfolding mirrorOf
 mirror-fits c k q h = cond-fits binary32 c (sub binary32 k q) q (sub-fits binary32 k q) h
 
-slope-fits : (t : Float) → T (fits binary32 (slopeOf t))
-unfolding slopeOf
-slope-fits t = hold-fits (mul binary32 t _) eighth (mul-fits binary32 t _) (unfold fits in tt)
+tangent-fits : (t : Float) → T (fits binary32 (tangentAngleOf t))
+unfolding tangentAngleOf ofBits
+tangent-fits t = hold-fits (mul binary32 t _) eighthTurn (mul-fits binary32 t _) (unfold fits in tt)
 
 near-fits : (a b : Float) → T (fits binary32 (nearOf a b))
 unfolding nearOf
-near-fits a b = slope-fits _
+near-fits a b = tangent-fits _
 
 record Fit (x : Float) : Type 0 where
   pub fit : T (fits binary32 x)
@@ -205,8 +212,8 @@ record Fit (x : Float) : Type 0 where
 held-fit : (t u w : Float) → Fit u → Fit w → Fit (cond (lt w t) w u)
 held-fit t u w a b = record { fit = cond-fits binary32 (lt w t) w u (b .fit) (a .fit) }
 
-below-fit : (w : Float) → Fit w → Fit (belowOf w)
-unfolding belowOf fits ofBits
+below-fit : (w : Float) → Fit w → Fit (belowTurnOf w)
+unfolding belowTurnOf fits ofBits
 below-fit w b = held-fit _ _ w (record { fit = tt }) b
 
 folded-fits : (s l d : Bool) (q : Float) → T (fits binary32 q) → T (fits binary32 (foldedOf s l d q))
@@ -219,7 +226,7 @@ unfolding directionOf
 direction-fits dx dy = folded-fits (lt (absOf dx) (absOf dy)) (lt dx nought) (lt dy nought) (nearOf (absOf dx) (absOf dy)) (near-fits (absOf dx) (absOf dy))
 
 angle-fits : (dx dy : Float) → T (fits binary32 (angleOf dx dy))
-unfolding angleOf
+unfolding angleOf ofBits
 angle-fits dx dy = cond-fits binary32 (inAngle dx dy) (cond (levelOf dx dy) nought (directionOf dx dy)) nan (cond-fits binary32 (levelOf dx dy) nought (directionOf dx dy) (unfold fits in tt) (direction-fits dx dy)) (nan-fits binary32)
 
 angle-outside : (dx dy : Float) → inAngle dx dy ≡ false → angleOf dx dy ≡ nan
@@ -227,6 +234,7 @@ unfolding angleOf
 angle-outside dx dy e = otherwise (inAngle dx dy) _ e
 
 angle-least : (dx dy : Float) → T (inAngle dx dy) → T (le nought (angleOf dx dy))
+unfolding ofBits
 angle-least dx dy h =
     let n = fromOf (lt dx nought) (lt dy nought) in
     ge-of (angleOf dx dy) nought 0 (n + 90) (wider (angleOf dx dy) n (n + 90) 0 (n + 90) zero-le (le-refl (n + 90)) (angle-within dx dy h)) (refl, refl)
@@ -257,6 +265,7 @@ unfolding magnitudeOf
 magnitude-outside dx dy e = otherwise (inAngle dx dy) _ e
 
 pub magnitude-rule : MagnitudeRule
+unfolding ofBits
 magnitude-rule = record {
   root = magnitude-is;
   within = λ dx dy h. in-of (magnitudeOf dx dy) nought (fin false 1 (pos 22)) 0 4194304 (refl, refl) (refl, refl) (magnitude-within dx dy h);

@@ -1,4 +1,4 @@
--- What rules F3 to F8 ask of the routines, of the definitions beside this page; and what callers ask besides.
+-- Law: what rules F3 to F8 ask of the routines, of the definitions beside this page; and what callers ask besides.
 -- proofs/Rules.antt proves each: `table-rule : TableRule`, and so on. Accuracy (rule F9) is no statement here: hal_vectors measures it. Definitions only.
 use mathlib.Core.Path.{_≡_}
 use mathlib.Core.Bool.{Bool, true, false}
@@ -10,7 +10,7 @@ use lib.Ieee.{Float, nan, fin, binary32, fits}
 use lib.Ieee.Exact.{HasValue}
 use lib.Ieee.Positive.{num, den}
 use Rattle.ieee.specs.F32.{_⊕_, _⊗_, _<ᶠ_, _≤ᶠ_, _=ᶠ_, fused, rootOf}
-use Rattle.hal.specs.Numbers.{nought, one, minusOne, two, four, quarter, half, threeQuarters, full}
+use Rattle.ieee.specs.Numbers.{nought, one, minusOne, two, four, quarterTurn, halfTurn, threeQuarterTurn, wholeTurn}
 use Rattle.hal.specs.Powers.{powers, entryOf}
 use Rattle.hal.specs.Exp.{scaledOf, inUp, exp2Of, inDown, expOf}
 use Rattle.hal.specs.Turn.{inTurn, sinOf, cosOf}
@@ -65,10 +65,10 @@ pub record ExpRule : Type 0 where
 pub record TurnRule (f : Float → Float) (a b c d : Float) : Type 0 where
   pub within : (x : Float) → T (inTurn x) → In minusOne one (f x)
   pub at-0 : f nought ≡ a
-  pub at-90 : f quarter ≡ b
-  pub at-180 : f half ≡ c
-  pub at-270 : f threeQuarters ≡ d
-  pub at-360 : f full ≡ a
+  pub at-90 : f quarterTurn ≡ b
+  pub at-180 : f halfTurn ≡ c
+  pub at-270 : f threeQuarterTurn ≡ d
+  pub at-360 : f wholeTurn ≡ a
   pub outside : (x : Float) → inTurn x ≡ false → f x ≡ nan
   pub held : (x : Float) → T (fits binary32 (f x))
 
@@ -83,15 +83,15 @@ CosineRule = TurnRule cosOf one nought minusOne nought
 -- the quarter that the signs name, by whether dx and whether dy is negative: where it starts, and where it ends
 abbrev pub startOf : Bool → Bool → Float
 startOf false false = nought
-startOf true false = quarter
-startOf true true = half
-startOf false true = threeQuarters
+startOf true false = quarterTurn
+startOf true true = halfTurn
+startOf false true = threeQuarterTurn
 
 abbrev pub endOf : Bool → Bool → Float
-endOf false false = quarter
-endOf true false = half
-endOf true true = threeQuarters
-endOf false true = full
+endOf false false = quarterTurn
+endOf true false = halfTurn
+endOf true true = threeQuarterTurn
+endOf false true = wholeTurn
 
 abbrev pub double : Float → Float
 double x = x ⊕ x
@@ -99,14 +99,14 @@ double x = x ⊕ x
 pub record AngleRule : Type 0 where
   -- from 0 on, and less than 360
   pub least : (dx dy : Float) → T (inAngle dx dy) → T (nought ≤ᶠ angleOf dx dy)
-  pub below : (dx dy : Float) → T (inAngle dx dy) → T (angleOf dx dy <ᶠ full)
+  pub below : (dx dy : Float) → T (inAngle dx dy) → T (angleOf dx dy <ᶠ wholeTurn)
   -- between the ends of the quarter
   pub quarters : (dx dy : Float) → T (inAngle dx dy) → In (startOf (dx <ᶠ nought) (dy <ᶠ nought)) (endOf (dx <ᶠ nought) (dy <ᶠ nought)) (angleOf dx dy)
   -- along the four half axes
   pub east : (dx dy : Float) → T (inAngle dx dy) → T (nought <ᶠ dx) → T (dy =ᶠ nought) → angleOf dx dy ≡ nought
-  pub north : (dx dy : Float) → T (inAngle dx dy) → T (dx =ᶠ nought) → T (nought <ᶠ dy) → angleOf dx dy ≡ quarter
-  pub west : (dx dy : Float) → T (inAngle dx dy) → T (dx <ᶠ nought) → T (dy =ᶠ nought) → angleOf dx dy ≡ half
-  pub south : (dx dy : Float) → T (inAngle dx dy) → T (dx =ᶠ nought) → T (dy <ᶠ nought) → angleOf dx dy ≡ threeQuarters
+  pub north : (dx dy : Float) → T (inAngle dx dy) → T (dx =ᶠ nought) → T (nought <ᶠ dy) → angleOf dx dy ≡ quarterTurn
+  pub west : (dx dy : Float) → T (inAngle dx dy) → T (dx <ᶠ nought) → T (dy =ᶠ nought) → angleOf dx dy ≡ halfTurn
+  pub south : (dx dy : Float) → T (inAngle dx dy) → T (dx =ᶠ nought) → T (dy <ᶠ nought) → angleOf dx dy ≡ threeQuarterTurn
   -- (0, 0) has no direction, and the angle 0
   pub none : (dx dy : Float) → T (inAngle dx dy) → T (dx =ᶠ nought) → T (dy =ᶠ nought) → angleOf dx dy ≡ nought
   -- doubling both changes no bit

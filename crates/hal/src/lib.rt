@@ -9,8 +9,8 @@ ghost use lib.Dec.{T};
 ghost use lib.Ieee.{nan, le, toUnsigned};
 ghost use Rattle.hal.specs.Powers.{powers, entryOf};
 ghost use Rattle.hal.specs.Exp.{mixOf, scaledOf, powerOf, inFixed, exp2Of, expOf};
-ghost use Rattle.hal.specs.Turn.{holdOf, turnedOf, archOf, sinOf, cosOf};
-ghost use Rattle.hal.specs.Angle.{slopeOf, mirrorOf, belowOf, lesserOf, greaterOf, foldedOf, small, angleOf};
+ghost use Rattle.hal.specs.Turn.{holdOf, negatedOf, quarterSineOf, sinOf, cosOf};
+ghost use Rattle.hal.specs.Angle.{tangentAngleOf, mirrorOf, belowTurnOf, lesserOf, greaterOf, foldedOf, small, angleOf};
 ghost use Rattle.hal.specs.Magnitude.{magnitudeOf};
 
 // What each routine answers outside its range: a not-a-number.
@@ -136,16 +136,16 @@ fn hold(p: f32, top: f32) -> f32
 }
 
 // -v, with +0 for a zero.
-fn turned(v: f32) -> f32
-    ensures { λ r. ⌜ r ≡ turnedOf v ⌝ }
+fn negated(v: f32) -> f32
+    ensures { λ r. ⌜ r ≡ negatedOf v ⌝ }
 {
     if v > 0.0 { -v } else { 0.0 }
 }
 
 // The sine of a degrees, a in 0 to 90. The odd polynomial of degree nine whose largest error on 0 to 90 is least (3.4e-9), its coefficients rounded to f32 and the first
 // one place higher, so that it passes 1 at 90 and is held there.
-fn arch(a: f32) -> f32
-    ensures { λ r. ⌜ r ≡ archOf a ⌝ }
+fn quarter_sine(a: f32) -> f32
+    ensures { λ r. ⌜ r ≡ quarterSineOf a ⌝ }
 {
     let z = a * a;
     hold(
@@ -167,13 +167,13 @@ pub fn sin(d: f32) -> f32
 {
     if within(d, 0.0, 360.0) {
         if d <= 90.0 {
-            arch(d)
+            quarter_sine(d)
         } else if d <= 180.0 {
-            arch(180.0 - d)
+            quarter_sine(180.0 - d)
         } else if d <= 270.0 {
-            turned(arch(d - 180.0))
+            negated(quarter_sine(d - 180.0))
         } else {
-            turned(arch(360.0 - d))
+            negated(quarter_sine(360.0 - d))
         }
     } else {
         outside()
@@ -185,13 +185,13 @@ pub fn cos(d: f32) -> f32
 {
     if within(d, 0.0, 360.0) {
         if d <= 90.0 {
-            arch(90.0 - d)
+            quarter_sine(90.0 - d)
         } else if d <= 180.0 {
-            turned(arch(d - 90.0))
+            negated(quarter_sine(d - 90.0))
         } else if d <= 270.0 {
-            turned(arch(270.0 - d))
+            negated(quarter_sine(270.0 - d))
         } else {
-            arch(d - 270.0)
+            quarter_sine(d - 270.0)
         }
     } else {
         outside()
@@ -199,8 +199,8 @@ pub fn cos(d: f32) -> f32
 }
 
 // The angle in degrees whose tangent is t, t in 0 to 1. The odd polynomial of degree eleven whose largest error on 0 to 1 is least (0.000096 degree), rounded to f32.
-fn slope(t: f32) -> f32
-    ensures { λ r. ⌜ r ≡ slopeOf t ⌝ }
+fn tangent_angle(t: f32) -> f32
+    ensures { λ r. ⌜ r ≡ tangentAngleOf t ⌝ }
 {
     let z = t * t;
     hold(
@@ -221,8 +221,8 @@ fn mirror(c: bool, k: f32, q: f32) -> f32
 }
 
 // w, or the largest value below 360, which is 360 - 2^-15.
-fn below(w: f32) -> f32
-    ensures { λ r. ⌜ r ≡ belowOf w ⌝ }
+fn below_turn(w: f32) -> f32
+    ensures { λ r. ⌜ r ≡ belowTurnOf w ⌝ }
 {
     if w < 359.99997 { w } else { 359.99997 }
 }
@@ -243,7 +243,7 @@ fn greater(a: f32, b: f32) -> f32
 fn folded(steep: bool, left: bool, down: bool, q: f32) -> f32
     ensures { λ r. ⌜ r ≡ foldedOf steep left down q ⌝ }
 {
-    below(mirror(down, 360.0, mirror(left, 180.0, mirror(steep, 90.0, q))))
+    below_turn(mirror(down, 360.0, mirror(left, 180.0, mirror(steep, 90.0, q))))
 }
 
 // Neither a nor b is a NaN or above 2^21 = 2097152, twice the largest sample.
@@ -267,7 +267,7 @@ pub fn angle(dx: f32, dy: f32) -> f32
         if big == 0.0 {
             0.0
         } else {
-            folded(a < b, dx < 0.0, dy < 0.0, slope(lesser(a, b) / big))
+            folded(a < b, dx < 0.0, dy < 0.0, tangent_angle(lesser(a, b) / big))
         }
     } else {
         outside()

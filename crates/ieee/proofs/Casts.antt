@@ -1,9 +1,9 @@
--- A float's whole part as a signed integer: toward zero, downward and to the nearest, of a value m * 2 ^ x / 2 ^ 149. Assumes nothing.
+-- A float gone to a whole number, and that as a signed integer, of a value m * 2 ^ x / 2 ^ 149. Assumes nothing.
 use mathlib.Core.Path.{_≡_, refl, sym, ap, _∙_}
 use Prim.Native.Nat.{ℕ, suc, _+_, _-_, _*_, _/_, _^_, _≤_, _<_}
-use native.Mathlib.Nat.{lt-of-lt-of-le, zero-lt-suc, div-one, mul-one, mul-right-comm, eq-of-mul-eq-mul-right}
+use native.Mathlib.Nat.{le-of-lt, lt-of-lt-of-le, zero-lt-suc, div-one, mul-one, mul-right-comm, eq-of-mul-eq-mul-right}
 use native.Mathlib.Omega.{arith}
-use mathlib.Core.Bool.{Bool, false}
+use mathlib.Core.Bool.{Bool, true, false}
 use lib.Pow.{pow-pos, pow-mono, shl-lt}
 use lib.Ieee.{Float, nan, inf, fin, binary32, up, down, round, fits, toSigned}
 use lib.Dec.{T}
@@ -11,13 +11,19 @@ use lib.Ieee.Fits.{down-pos, round-fits}
 use lib.Ieee.Exact.{HasValue, round-exact}
 use lib.Ieee.Back.{round-whole, whole-unique}
 use lib.Ieee.Nearest.{closest, div-same}
-use Rattle.ieee.specs.Whole.{floorSize, floor, roundEven, saturate}
+use lib.Ieee.Scale.{finite}
+use mathlib.Core.Logic.{_⊎_, inl, inr}
+use Rattle.lists.proofs.Naturals.{le-or-lt}
+use Rattle.ieee.specs.declared.Way.{Way}
+use Rattle.ieee.specs.declared.Way.the-variants.{Zero}
+use Rattle.ieee.specs.Whole.{wholeSize, whole, saturate}
 use Rattle.packing.specs.Parts.{Splits}
-use Rattle.ieee.proofs.Wholes.{floor-is, floor-up, floor-down, even-is, near-up, near-down, up-cross}
-use Rattle.ieee.proofs.Flat.{floor-le, near-le}
+use Rattle.ieee.proofs.Wholes.{whole-is, whole-other, size-up, size-down, up-cross}
+use Rattle.ieee.proofs.Flat.{size-le}
+use Rattle.ieee.proofs.Doubled.{Split, split32}
 
 -- `toSigned` is the size cut to a whole number, and then `saturate`
-pub signed-is : (h : ℕ) (v : Float) (s : Bool) (a b : ℕ) → 0 < b → HasValue v s a b → toSigned h v ≡ saturate h s (a / b)
+signed-is : (h : ℕ) (v : Float) (s : Bool) (a b : ℕ) → 0 < b → HasValue v s a b → toSigned h v ≡ saturate h s (a / b)
 unfolding toSigned
 signed-is h nan s a b B e = absurd e
 signed-is h (inf t) s a b B e = absurd e
@@ -49,40 +55,42 @@ module _ (v : Float) (s : Bool) (m x : ℕ) (p : Splits 149 24 253 v s m x) wher
         ∙ mul-right-comm (m * 2 ^ (x - 149)) (2 ^ 149) (down e)),
   )
 
-  -- a float is whole, so that rounding it changes nothing
-  pub itself : T (fits binary32 v) → 149 ≤ x → round binary32 s (m * 2 ^ (x - 149)) 1 ≡ v
+  itself : T (fits binary32 v) → 149 ≤ x → round binary32 s (m * 2 ^ (x - 149)) 1 ≡ v
   itself h l = whole-unique binary32 (round binary32 s (m * 2 ^ (x - 149)) 1) v s (m * 2 ^ (x - 149)) (round-fits binary32 s (m * 2 ^ (x - 149)) 1) h (exact l) (value v (p .value) l)
 
-module _ (h : ℕ) (v : Float) (s : Bool) (m x : ℕ) (p : Splits 149 24 253 v s m x) where
-  large : 149 ≤ x → toSigned h (round binary32 s (m * 2 ^ (x - 149)) 1) ≡ saturate h s (m * 2 ^ (x - 149))
-  large l = signed-whole h s (m * 2 ^ (x - 149)) (exact v s m x p l)
+  module _ (w : Way) where
+    whole-up : 149 ≤ x → whole w binary32 v ≡ round binary32 s (m * 2 ^ (x - 149)) 1
+    whole-up l = whole-is w v s (m * 2 ^ x) (p .value) ∙ ap (λ (k : ℕ). round binary32 s k 1) (size-up m x w s l)
 
-  small : (k : ℕ) → k ≤ 2 ^ 24 → toSigned h (round binary32 s k 1) ≡ saturate h s k
-  small k l = signed-whole h s k (round-whole binary32 s k l)
+    -- a float from there on is whole, so that it stays
+    pub whole-large : T (fits binary32 v) → 149 ≤ x → v ≡ whole w binary32 v
+    whole-large h l = sym (whole-up l ∙ itself h l)
 
-  at : (a b : ℕ) → a ≡ b → toSigned h (round binary32 s a 1) ≡ toSigned h (round binary32 s b 1)
-  at a b e = ap (λ (k : ℕ). toSigned h (round binary32 s k 1)) e
+    pub whole-small : x ≤ 149 → round binary32 s (wholeSize w s m (2 ^ (149 - x))) 1 ≡ whole w binary32 v
+    whole-small l = sym (whole-is w v s (m * 2 ^ x) (p .value) ∙ ap (λ (k : ℕ). round binary32 s k 1) (size-down m x w s l))
 
-  pub cut-large : 149 ≤ x → toSigned h v ≡ saturate h s (m * 2 ^ (x - 149))
-  cut-large l = signed-is h v s (m * 2 ^ x) (2 ^ 149) (pow-pos 149) (p .value) ∙ ap (λ (k : ℕ). saturate h s k) (floor-up m x false l)
+    module _ (h : ℕ) where
+      pub cast-large : 149 ≤ x → saturate h s (m * 2 ^ (x - 149)) ≡ toSigned h (whole w binary32 v)
+      cast-large l = sym (ap (toSigned h) (whole-up l) ∙ signed-whole h s (m * 2 ^ (x - 149)) (exact l))
 
-  pub cut-small : x ≤ 149 → toSigned h v ≡ saturate h s (floorSize false m (2 ^ (149 - x)))
-  cut-small l = signed-is h v s (m * 2 ^ x) (2 ^ 149) (pow-pos 149) (p .value) ∙ ap (λ (k : ℕ). saturate h s k) (floor-down m x false l)
+      pub cast-small : x ≤ 149 → saturate h s (wholeSize w s m (2 ^ (149 - x))) ≡ toSigned h (whole w binary32 v)
+      cast-small l = sym (ap (toSigned h) (sym (whole-small l)) ∙ signed-whole h s (wholeSize w s m (2 ^ (149 - x))) (round-whole binary32 s (wholeSize w s m (2 ^ (149 - x))) (size-le w s m (149 - x) (p .digits))))
 
-  pub floor-large : 149 ≤ x → toSigned h (floor binary32 v) ≡ saturate h s (m * 2 ^ (x - 149))
-  floor-large l = ap (toSigned h) (floor-is v s (m * 2 ^ x) (p .value)) ∙ at (floorSize s (m * 2 ^ x) (2 ^ 149)) (m * 2 ^ (x - 149)) (floor-up m x s l) ∙ large l
+-- ---- a cast goes toward zero by itself
+pub cast-cuts : (h : ℕ) (v : Float) → T (fits binary32 v) → toSigned h (whole Zero binary32 v) ≡ toSigned h v
+cast-cuts h v f = go (finite v) refl
+  where
+    cut : Split v → toSigned h (whole Zero binary32 v) ≡ toSigned h v
+    cut k =
+        let m = k .m in
+        let x = k .x in
+        let s = k .s in
+        let e : toSigned h v ≡ saturate h s (m * 2 ^ x / 2 ^ 149) = signed-is h v s (m * 2 ^ x) (2 ^ 149) (pow-pos 149) (k .parts .value) in
+        elim (le-or-lt 149 x) [
+          | inl l ↦ sym (cast-large v s m x (k .parts) Zero h l) ∙ ap (saturate h s) (sym (size-up m x Zero s l)) ∙ sym e
+          | inr l ↦ sym (cast-small v s m x (k .parts) Zero h (le-of-lt l)) ∙ ap (saturate h s) (sym (size-down m x Zero s (le-of-lt l))) ∙ sym e
+        ]
 
-  pub floor-small : x ≤ 149 → toSigned h (floor binary32 v) ≡ saturate h s (floorSize s m (2 ^ (149 - x)))
-  floor-small l =
-      ap (toSigned h) (floor-is v s (m * 2 ^ x) (p .value))
-      ∙ at (floorSize s (m * 2 ^ x) (2 ^ 149)) (floorSize s m (2 ^ (149 - x))) (floor-down m x s l)
-      ∙ small (floorSize s m (2 ^ (149 - x))) (floor-le s m (149 - x) (p .digits))
-
-  pub even-large : 149 ≤ x → toSigned h (roundEven binary32 v) ≡ saturate h s (m * 2 ^ (x - 149))
-  even-large l = ap (toSigned h) (even-is v s (m * 2 ^ x) (p .value)) ∙ at (closest (m * 2 ^ x) (2 ^ 149)) (m * 2 ^ (x - 149)) (near-up m x l) ∙ large l
-
-  pub even-small : x ≤ 149 → toSigned h (roundEven binary32 v) ≡ saturate h s (closest m (2 ^ (149 - x)))
-  even-small l =
-      ap (toSigned h) (even-is v s (m * 2 ^ x) (p .value))
-      ∙ at (closest (m * 2 ^ x) (2 ^ 149)) (closest m (2 ^ (149 - x))) (near-down m x l)
-      ∙ small (closest m (2 ^ (149 - x))) (near-le m (149 - x) (p .digits))
+    go : (b : Bool) → finite v ≡ b → toSigned h (whole Zero binary32 v) ≡ toSigned h v
+    go true n = cut (split32 v f n)
+    go false n = ap (toSigned h) (sym (whole-other Zero v n))

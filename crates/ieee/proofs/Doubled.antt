@@ -16,10 +16,10 @@ use lib.Ieee.Exact.{HasValue, units-val, odd-sign, round-exact}
 use lib.Ieee.Order.{drop, kept}
 use lib.Ieee.Scale.{finite, grid, overflow, round-same}
 use lib.Ieee.Nearest.{closest}
+use Rattle.lists.proofs.Naturals.{le-or-lt}
 use Rattle.ieee.specs.Fused.{fma, convert}
 use Rattle.packing.specs.Parts.{Splits}
-use Rattle.ieee.specs.Parts.{Clear}
-use Rattle.packing.proofs.Size.{le-or-lt}
+use Rattle.ieee.specs.Parts.{RoundsOnce, narrowBits}
 use Rattle.packing.proofs.Fields.{ofBits-is, normal-is, value-low, value-normal, field-ne}
 use Rattle.packing.proofs.Plain.{value-no-nan}
 use Rattle.ieee.proofs.Product.{fma-parts, powers, later}
@@ -125,7 +125,7 @@ add-parts f (fin s' M e) (fin t' N d) s t A B L P X Y =
     ap₂ (λ (a b : Bool). sum f a (M * up e * down d) b (N * up d * down e) (down e * down d)) (X .0) (Y .0)
     ∙ sum-same f s (M * up e * down d) t (N * up d * down e) (down e * down d) A (B * L) (L * L) (mul-pos (down-pos e) (down-pos d)) (mul-pos P P) (first (M * up e) (down d) (down e) A (L * L) (X .1)) (second (N * up d) (down d) (down e) B L (Y .1))
 
-product-lt : (m n : ℕ) → m < 2 ^ 24 → n < 2 ^ 24 → m * n < 2 ^ 48
+pub product-lt : (m n : ℕ) → m < 2 ^ 24 → n < 2 ^ 24 → m * n < 2 ^ 48
 product-lt m n a b =
     let h : m ≤ 2 ^ 24 - 1 = omega arith in
     let k : n ≤ 2 ^ 24 - 1 = omega arith in
@@ -165,14 +165,14 @@ module _ (a b c : Float) (A : Split a) (B : Split b) (C : Split c) where
       let w = sum-rounds S P (C .s) Q (2 ^ 149 * 2 ^ 149) in
       subst (λ (r : Float). T (not (isNan r))) (sym (fma-is binary64 ∙ w .2 binary64)) (round-no-nan binary64 (w .0) (w .1) (2 ^ 149 * 2 ^ 149))
 
--- ---- the value of a pattern that is clear
+-- ---- the value of a pattern that rounds once
 pub converted : (v : Float) (s : Bool) (a l : ℕ) → HasValue v s a (2 ^ l) → convert binary32 v ≡ round binary32 s a (2 ^ l)
 unfolding convert
 converted nan s a l h = absurd h
 converted (inf t) s a l h = absurd h
 converted (fin t m e) s a l h = ap (λ (u : Bool). round binary32 u (m * up e) (down e)) (h .0) ∙ round-same binary32 s (m * up e) (down e) a (2 ^ l) (down-pos e) (pow-pos l) (h .1)
 
-module _ (n : ℕ) (k : Clear n) where
+module _ (n : ℕ) (k : RoundsOnce n) where
   abbrev x : ℕ
   x = n % 2 ^ 63 / 2 ^ 52 - 1
 
@@ -194,8 +194,8 @@ module _ (n : ℕ) (k : Clear n) where
   field : n % 2 ^ 63 / 2 ^ 52 ≡ suc x
   field = omega (arith, k .low)
 
-  clear-value : HasValue (ofBits binary64 n) sign (m * 2 ^ x) (2 ^ 1074)
-  clear-value =
+  once-value : HasValue (ofBits binary64 n) sign (m * 2 ^ x) (2 ^ 1074)
+  once-value =
       subst (λ (v : Float). HasValue v sign (m * 2 ^ x) (2 ^ 1074))
       (sym (ofBits-is binary64 n ∙ ap (λ (z : ℕ). ofFields binary64 sign z (n % 2 ^ 52)) field ∙ normal-is binary64 sign x (n % 2 ^ 52) (is-false (eqb (suc x) 2047) (not-T (eqb (suc x) 2047) (λ t. top-field (eqb→eq (suc x) 2047 t))))))
       (odd-sign 53 sign m x 1074)
@@ -203,63 +203,62 @@ module _ (n : ℕ) (k : Clear n) where
       top-field : suc x ≡ 2047 → ⊥
       top-field e = omega (arith, x-le)
 
-  pattern : (n % 2 ^ 63 - 4035225266123964416 + 268435456) / 536870912 ≡ (x - 896) * 2 ^ 23 + suc (m / 2 ^ 28) / 2
+  pattern : narrowBits n ≡ (x - 896) * 2 ^ 23 + suc (m / 2 ^ 28) / 2
   pattern = omega (arith, k .low)
 
-  pub close-is : ofBits binary32 (cond sign (top binary32) 0 + (n % 2 ^ 63 - 4035225266123964416 + 268435456) / 536870912) ≡ convert binary32 (ofBits binary64 n)
-  close-is =
+  pub narrow-is : ofBits binary32 (cond sign (top binary32) 0 + narrowBits n) ≡ convert binary32 (ofBits binary64 n)
+  narrow-is =
       ap (λ (z : ℕ). ofBits binary32 (cond sign (top binary32) 0 + z)) (pattern ∙ ap (λ (z : ℕ). (x - 896) * 2 ^ 23 + z) (sym (half-up m off)))
       ∙ normal-case m x 11 52 (omega arith) (omega (arith, mod-lt n (pow-pos 52))) refl sign (x - 896) (omega (arith, x-ge)) (omega (arith, x-le))
-      ∙ sym (converted (ofBits binary64 n) sign (m * 2 ^ x) 1074 clear-value)
+      ∙ sym (converted (ofBits binary64 n) sign (m * 2 ^ x) 1074 once-value)
 
-  pub close-le : (n % 2 ^ 63 - 4035225266123964416 + 268435456) / 536870912 ≤ 2139095040
-  close-le = omega (arith, k .high)
+  pub narrow-le : narrowBits n ≤ 2139095040
+  narrow-le = omega (arith, k .high)
 
-  pub clear-finite : finite (ofBits binary64 n) ≡ true
-  clear-finite = at (ofBits binary64 n) clear-value
+  pub once-finite : finite (ofBits binary64 n) ≡ true
+  once-finite = at (ofBits binary64 n) once-value
     where
       at : (v : Float) → HasValue v sign (m * 2 ^ x) (2 ^ 1074) → finite v ≡ true
       at nan h = absurd h
       at (inf s) h = absurd h
       at (fin s m e) h = refl
 
-  pub fma-close : (a b c : Float) → Split a → Split b → Split c → ofBits binary64 n ≡ fma binary64 a b c → convert binary32 (ofBits binary64 n) ≡ fma binary32 a b c
-  fma-close a b c A B C e =
-      converted (ofBits binary64 n) sign (m * 2 ^ x) 1074 clear-value
+  pub fma-narrow : (a b c : Float) → Split a → Split b → Split c → ofBits binary64 n ≡ fma binary64 a b c → convert binary32 (ofBits binary64 n) ≡ fma binary32 a b c
+  fma-narrow a b c A B C e =
+      converted (ofBits binary64 n) sign (m * 2 ^ x) 1074 once-value
       ∙ sym (fma-is a b c A B C binary32
       ∙ sum-twice (unlike (A .s) (B .s)) (A .m * B .m * 2 ^ (A .x + B .x)) (C .s) (C .m * 2 ^ (C .x + 149)) (2 ^ 149 * 2 ^ 149) sign m x (mul-pos (pow-pos 149) (pow-pos 149)) (omega arith) (omega (arith, mod-lt n (pow-pos 52))) x-ge x-le off
-      (subst (λ (v : Float). HasValue v sign (m * 2 ^ x) (2 ^ 1074)) (e ∙ fma-is a b c A B C binary64) clear-value))
+      (subst (λ (v : Float). HasValue v sign (m * 2 ^ x) (2 ^ 1074)) (e ∙ fma-is a b c A B C binary64) once-value))
 
--- ---- such a pattern with no sign, below the largest f32
-module _ (n : ℕ) (lo : 4039728865751334912 ≤ n) (hi : n < 5183643170566569984) (far : n % 2 ^ 29 ≡ 2 ^ 28 → ⊥) where
+-- ---- such a pattern below the f64 of the largest f32: it has no sign, and what it rounds to is a normal number
+module _ (n : ℕ) (k : RoundsOnce n) (hi : n < 5183643170566569984) where
   plain-mod : n % 2 ^ 63 ≡ n
   plain-mod = mod-eq-of-lt (lt-of-lt-of-le hi (lit≤ tt))
 
-  pub clear-plain : Clear n
-  clear-plain = record { low = subst (λ (z : ℕ). 4039728865751334912 ≤ z) (sym plain-mod) lo; high = subst (λ (z : ℕ). z < 5183643171103440896) (sym plain-mod) (lt-of-lt-of-le hi (lit≤ tt)); off = far }
+  pub plain-normal : (8388608 ≤ narrowBits n) × (narrowBits n < 2139095040)
+  plain-normal = (omega (arith, k .low, plain-mod), omega (arith, k .low, plain-mod))
 
-  pub close-plain : ofBits binary32 ((n - 4035225266123964416 + 268435456) / 536870912) ≡ convert binary32 (ofBits binary64 n)
-  close-plain =
-      ap (λ (z : ℕ). ofBits binary32 ((z - 4035225266123964416 + 268435456) / 536870912)) (sym plain-mod)
-      ∙ ap (ofBits binary32) (sym (zero-add ((n % 2 ^ 63 - 4035225266123964416 + 268435456) / 536870912)))
-      ∙ subst (λ (b : Bool). ofBits binary32 (cond b (top binary32) 0 + (n % 2 ^ 63 - 4035225266123964416 + 268435456) / 536870912) ≡ convert binary32 (ofBits binary64 n)) (is-false (leb (2 ^ 63) n) (lt→nleb (2 ^ 63) n (lt-of-lt-of-le hi (lit≤ tt)))) (close-is n clear-plain)
+  pub plain-is : ofBits binary32 (narrowBits n) ≡ convert binary32 (ofBits binary64 n)
+  plain-is =
+      ap (ofBits binary32) (sym (zero-add (narrowBits n)))
+      ∙ subst (λ (b : Bool). ofBits binary32 (cond b (top binary32) 0 + narrowBits n) ≡ convert binary32 (ofBits binary64 n)) (is-false (leb (2 ^ 63) n) (lt→nleb (2 ^ 63) n (lt-of-lt-of-le hi (lit≤ tt)))) (narrow-is n k)
 
--- ---- X * X + Q of f32s whose plain sum is finite
-module _ (X Q : Float) (hx : T (fits binary32 X)) (hq : T (fits binary32 Q)) (f : finite (add binary32 (mul binary32 X X) Q) ≡ true) where
-  pub square-finite : (finite X ≡ true) × (finite X ≡ true) × (finite Q ≡ true)
-  square-finite =
-      let p = add-finite binary32 (mul binary32 X X) Q f in
-      let q = mul-finite binary32 X X (p .0) in
+-- ---- a * b + c of f32s whose plain sum is finite
+module _ (a b c : Float) (ha : T (fits binary32 a)) (hb : T (fits binary32 b)) (hc : T (fits binary32 c)) (f : finite (add binary32 (mul binary32 a b) c) ≡ true) where
+  pub all-finite : (finite a ≡ true) × (finite b ≡ true) × (finite c ≡ true)
+  all-finite =
+      let p = add-finite binary32 (mul binary32 a b) c f in
+      let q = mul-finite binary32 a b (p .0) in
       (q .0, q .1, p .1)
 
-  module _ (w : Float) (e : w ≡ fma binary64 X X Q) where
-    pub square-no-nan : T (not (isNan w))
-    square-no-nan = let A = split32 X hx (square-finite .0) in subst (λ (v : Float). T (not (isNan v))) (sym e) (wide-no-nan X X Q A A (split32 Q hq (square-finite .2)))
+  module _ (w : Float) (e : w ≡ fma binary64 a b c) where
+    pub fused-no-nan : T (not (isNan w))
+    fused-no-nan = subst (λ (v : Float). T (not (isNan v))) (sym e) (wide-no-nan a b c (split32 a ha (all-finite .0)) (split32 b hb (all-finite .1)) (split32 c hc (all-finite .2)))
 
-    pub square-close : 4039728865751334912 ≤ toBits binary64 w → toBits binary64 w < 5183643170566569984 → (toBits binary64 w % 2 ^ 29 ≡ 2 ^ 28 → ⊥)
-        → ofBits binary32 ((toBits binary64 w - 4035225266123964416 + 268435456) / 536870912) ≡ fma binary32 X X Q
-    square-close lo hi far =
-        let A = split32 X hx (square-finite .0) in
-        let C = split32 Q hq (square-finite .2) in
-        let b : ofBits binary64 (toBits binary64 w) ≡ w = ofBits-toBits binary64 w (subst (λ (v : Float). T (fits binary64 v)) (wide-is X X Q A A C ∙ sym e) (add-fits binary64 (mul binary64 X X) Q)) in
-        close-plain (toBits binary64 w) lo hi far ∙ fma-close (toBits binary64 w) (clear-plain (toBits binary64 w) lo hi far) X X Q A A C (b ∙ e)
+    pub fused-narrow : RoundsOnce (toBits binary64 w) → convert binary32 (ofBits binary64 (toBits binary64 w)) ≡ fma binary32 a b c
+    fused-narrow k =
+        let A = split32 a ha (all-finite .0) in
+        let B = split32 b hb (all-finite .1) in
+        let C = split32 c hc (all-finite .2) in
+        let back : ofBits binary64 (toBits binary64 w) ≡ w = ofBits-toBits binary64 w (subst (λ (v : Float). T (fits binary64 v)) (wide-is a b c A B C ∙ sym e) (add-fits binary64 (mul binary64 a b) c)) in
+        fma-narrow (toBits binary64 w) k a b c A B C (back ∙ e)

@@ -9,8 +9,8 @@ use lib.Dec.{lit<, lit≤}
 use lib.Pow.{pow-add, pow-pos, pow-mono}
 use lib.Ieee.{Float, binary32, round, ofBits}
 use lib.Ieee.Nearest.{closest, closest-same}
+use Rattle.lists.proofs.Naturals.{le-or-lt}
 use Rattle.ieee.specs.Root.{halves}
-use Rattle.packing.proofs.Size.{le-or-lt}
 use Rattle.packing.proofs.Half.{closest-is, cmp-lt, cmp-gt}
 use Rattle.packing.proofs.Cases.{normal-case}
 use Rattle.packing.proofs.Sums.{order}

@@ -13,8 +13,10 @@ use lib.Ieee.{Float, inf, fin, Format, binary32, prec, low, emax, odd, units, ro
 use lib.Ieee.Fits.{round-is}
 use lib.Ieee.Order.{drop, kept}
 use lib.Ieee.Nearest.{closest, closest-mono}
-use Rattle.ieee.specs.Whole.{floorSize}
-use Rattle.packing.proofs.Size.{le-or-lt}
+use Rattle.lists.proofs.Naturals.{le-or-lt}
+use Rattle.ieee.specs.declared.Way.{Way}
+use Rattle.ieee.specs.declared.Way.the-variants.{Zero, Down, Near}
+use Rattle.ieee.specs.Whole.{wholeSize, beforeCut}
 use Rattle.packing.proofs.Half.{closest-is, cmp-lt, cmp-eq, cmp-gt}
 use Rattle.ieee.proofs.Nearby.{even-or-odd}
 use Rattle.ieee.proofs.Wholes.{floor-none, near-none, ceil-one, ceil-zero, ceil-le}
@@ -53,30 +55,20 @@ module _ (m b p : ℕ) (B : b ≡ p * 2) (P : 0 < p) where
       level e (inr z) w = at (p - 1 + q % 2) (suc q) (omega (arith, split)) (omega (arith, split)) ∙ sym (closest-is m b q r Ordering·eq split r-lt (cmp-eq (r * 2) b (omega arith)) ∙ omega arith)
 
 -- ---- a shift by 40 does for one by more
-floor-far : (s : Bool) (m d : ℕ) → m < 2 ^ 24 → 40 ≤ d → floorSize s m (2 ^ 40) ≡ floorSize s m (2 ^ d)
-floor-far false m d h l = floor-none m 40 h (le-refl 40) ∙ sym (floor-none m d h l)
-floor-far true zero d h l = ceil-zero 40 ∙ sym (ceil-zero d)
-floor-far true (suc m) d h l = ceil-one (suc m) 40 h (le-refl 40) (λ z. no z) ∙ sym (ceil-one (suc m) d h l (λ z. no z))
+size-far : (w : Way) (s : Bool) (m d : ℕ) → m < 2 ^ 24 → 40 ≤ d → wholeSize w s m (2 ^ 40) ≡ wholeSize w s m (2 ^ d)
+size-far Zero s m d h l = floor-none m 40 h (le-refl 40) ∙ sym (floor-none m d h l)
+size-far Near s m d h l = near-none m 40 h (le-refl 40) ∙ sym (near-none m d h l)
+size-far Down false m d h l = floor-none m 40 h (le-refl 40) ∙ sym (floor-none m d h l)
+size-far Down true zero d h l = ceil-zero 40 ∙ sym (ceil-zero d)
+size-far Down true (suc m) d h l = ceil-one (suc m) 40 h (le-refl 40) (λ z. no z) ∙ sym (ceil-one (suc m) d h l (λ z. no z))
   where
     no : suc m ≡ 0 → ⊥
     no z = omega arith
 
-pub floor-stop : (s : Bool) (m d h : ℕ) → m < 2 ^ 24 → h ≡ min d 40 → floorSize s m (2 ^ h) ≡ floorSize s m (2 ^ d)
-floor-stop s m d h k e = elim (le-or-lt 40 d) [
-  | inl l ↦ ap (λ (x : ℕ). floorSize s m (2 ^ x)) (is-far l) ∙ floor-far s m d k l
-  | inr l ↦ ap (λ (x : ℕ). floorSize s m (2 ^ x)) (is-near l)
-]
-  where
-    is-far : 40 ≤ d → h ≡ 40
-    is-far l = omega arith
-
-    is-near : d < 40 → h ≡ d
-    is-near l = omega arith
-
-pub near-stop : (m d h : ℕ) → m < 2 ^ 24 → h ≡ min d 40 → closest m (2 ^ h) ≡ closest m (2 ^ d)
-near-stop m d h k e = elim (le-or-lt 40 d) [
-  | inl l ↦ ap (λ (x : ℕ). closest m (2 ^ x)) (is-far l) ∙ near-none m 40 k (le-refl 40) ∙ sym (near-none m d k l)
-  | inr l ↦ ap (λ (x : ℕ). closest m (2 ^ x)) (is-near l)
+pub size-stop : (w : Way) (s : Bool) (m d h : ℕ) → m < 2 ^ 24 → h ≡ min d 40 → wholeSize w s m (2 ^ h) ≡ wholeSize w s m (2 ^ d)
+size-stop w s m d h k e = elim (le-or-lt 40 d) [
+  | inl l ↦ ap (λ (x : ℕ). wholeSize w s m (2 ^ x)) (is-far l) ∙ size-far w s m d k l
+  | inr l ↦ ap (λ (x : ℕ). wholeSize w s m (2 ^ x)) (is-near l)
 ]
   where
     is-far : 40 ≤ d → h ≡ 40
@@ -91,26 +83,42 @@ power-lt h l = lt-of-le-of-lt (pow-mono {i = h} {j = 40} l) (lit< tt)
 pub one-shift : (h : ℕ) → h ≤ 40 → 1 * 2 ^ h % 2 ^ 64 ≡ 2 ^ h
 one-shift h l = ap (λ (x : ℕ). x % 2 ^ 64) (one-mul (2 ^ h)) ∙ mod-eq-of-lt (lt-of-lt-of-le (power-lt h l) (lit≤ tt))
 
-pub floor-sum : (s : Bool) (m b : ℕ) → (m + cond s (b - 1) 0) / b ≡ floorSize s m b
-floor-sum true m b = refl
-floor-sum false m b = ap (λ (x : ℕ). x / b) (add-zero m)
+-- ---- what is added before a cut
+pub twice-less : (h : ℕ) → 1 ≤ h → 2 ^ h ≡ 2 ^ (h - 1) * 2
+twice-less h l =
+    let u : suc (h - 1) ≡ h = omega arith in
+    ap (λ (x : ℕ). 2 ^ x) (sym u) ∙ pow-suc 2 (h - 1)
 
--- ---- how large they are
-pub floor-le : (s : Bool) (m d : ℕ) → m < 2 ^ 24 → floorSize s m (2 ^ d) ≤ 2 ^ 24
-floor-le s m d h = le-trans (go s) (le-of-lt h)
+pub cut-le : (w : Way) (s : Bool) (m b : ℕ) → 1 ≤ b → beforeCut w s m b ≤ b
+cut-le Zero s m b l = omega arith
+cut-le Down true m b l = omega arith
+cut-le Down false m b l = omega arith
+cut-le Near s m b l = omega (arith, mod-lt (m / b) (pow-pos 1))
+
+pub size-sum : (w : Way) (s : Bool) (m h : ℕ) → 1 ≤ h → (m + beforeCut w s m (2 ^ h)) / 2 ^ h ≡ wholeSize w s m (2 ^ h)
+size-sum Zero s m h l = ap (λ (x : ℕ). x / 2 ^ h) (add-zero m)
+size-sum Down true m h l = refl
+size-sum Down false m h l = ap (λ (x : ℕ). x / 2 ^ h) (add-zero m)
+size-sum Near s m h l = near-sum m (2 ^ h) (2 ^ h / 2) (omega (arith, twice-less h l)) (omega (arith, twice-less h l, pow-pos (h - 1)))
+
+-- ---- how large the whole number is
+pub size-le : (w : Way) (s : Bool) (m d : ℕ) → m < 2 ^ 24 → wholeSize w s m (2 ^ d) ≤ 2 ^ 24
+size-le w s m d h = go w s
   where
     times : m ≤ m * 2 ^ d
     times = le-trans (le-of-eq (sym (mul-one m))) (mul-le-mul-left m (pow-pos d))
 
-    go : (s : Bool) → floorSize s m (2 ^ d) ≤ m
-    go true = ceil-le m (2 ^ d) m (pow-pos d) times
-    go false = div-le-self m (2 ^ d)
+    over : m * 1 ≤ 2 ^ 24 * 2 ^ d
+    over = le-trans (le-of-eq (mul-one m)) (le-trans (le-of-lt h) (mul-le-mul-left (2 ^ 24) (pow-pos d)))
 
-pub near-le : (m d : ℕ) → m < 2 ^ 24 → closest m (2 ^ d) ≤ 2 ^ 24
-near-le m d h = closest-mono m (2 ^ d) (2 ^ 24) 1 (pow-pos d) (lit< tt) (mul-le-mul-le)
-  where
-    mul-le-mul-le : m * 1 ≤ 2 ^ 24 * 2 ^ d
-    mul-le-mul-le = le-trans (le-of-eq (mul-one m)) (le-trans (le-of-lt h) (mul-le-mul-left (2 ^ 24) (pow-pos d)))
+    cut : m / 2 ^ d ≤ 2 ^ 24
+    cut = le-trans (div-le-self m (2 ^ d)) (le-of-lt h)
+
+    go : (w : Way) (s : Bool) → wholeSize w s m (2 ^ d) ≤ 2 ^ 24
+    go Zero s = cut
+    go Down true = le-trans (ceil-le m (2 ^ d) m (pow-pos d) times) (le-of-lt h)
+    go Down false = cut
+    go Near s = closest-mono m (2 ^ d) (2 ^ 24) 1 (pow-pos d) (lit< tt) over
 
 -- ---- a negative whole number
 neg-odd : (d q k l : ℕ) → neg (odd d false q k l) ≡ odd d true q k l

@@ -12,7 +12,7 @@ use lib.Ieee.{Float, nan, inf, fin, Format, binary32, prec, emax, low, up, down,
 use lib.Ieee.Digits.{back}
 use lib.Ieee.Exact.{HasValue}
 use lib.Ieee.Fits.{two, down-pos}
-use Rattle.packing.proofs.Size.{le-or-lt}
+use Rattle.lists.proofs.Naturals.{le-or-lt}
 use Rattle.ieee.specs.Root.{sqrt}
 use Rattle.ieee.specs.Rounding.{Number, Significand}
 use Rattle.ieee.specs.Operations.{square, NearestRoot, IsRoot}

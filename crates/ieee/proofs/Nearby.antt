@@ -9,7 +9,7 @@ use lib.Ieee.{size}
 use lib.Ieee.Digits.{size-reaches, back}
 use lib.Ieee.Nearest.{closest, nearest-ge}
 use lib.Ieee.Order.{drop, kept}
-use Rattle.packing.proofs.Size.{le-or-lt}
+use Rattle.lists.proofs.Naturals.{le-or-lt}
 use Rattle.packing.proofs.Half.{cmp-lt, cmp-eq, cmp-gt, closest-is}
 
 -- ---- within a half

@@ -6,7 +6,7 @@ use native.Mathlib.Nat.{le-trans, le-of-eq, le-antisymm, lt-of-lt-of-le, lt-of-l
 use native.Mathlib.Omega.{arith}
 use lib.Pow.{pow-add, pow-pos, pow-mono, pow-lt}
 use lib.Ieee.Order.{drop, kept}
-use Rattle.packing.proofs.Size.{le-or-lt}
+use Rattle.lists.proofs.Naturals.{le-or-lt}
 use Rattle.ieee.proofs.Nearby.{nearest-up, nearest-down}
 use Rattle.ieee.proofs.Ties.{half, Kept, significant, even-up}
 

@@ -15,7 +15,7 @@ use lib.Ieee.Exact.{HasValue}
 use lib.Ieee.Scale.{grid, round-val}
 use Rattle.ieee.specs.Root.{halves, sqrt}
 use Rattle.ieee.specs.Operations.{square}
-use Rattle.packing.proofs.Open.{round-jam}
+use Rattle.packing.proofs.Open.{round-sticky}
 use Rattle.ieee.proofs.Roots.{Halves, halves-law, twice-square, square-le, sqrt-is}
 use Rattle.ieee.proofs.Nearby.{nearest-up, nearest-down, at-most-twice}
 
@@ -114,7 +114,7 @@ module _ (n : ℕ) (small : n < 2 ^ 426) (large : 2 ^ 149 ≤ n) where
   beside R0 b p q k s e =
       one-value (round binary32 false (halves n) (2 ^ 150)) (G (4 * R0 + b) (2 ^ 151)) (G (halves n) (2 ^ 150)) (2 ^ 149)
       (subst (λ (r : Float). HasValue r false (G (4 * R0 + b) (2 ^ 151)) (2 ^ 149))
-      (round-jam binary32 false R0 0 150 (4 * R0 + b) (2 ^ 151) (pow-pos 151) k (four-parts R0 b (2 ^ 150) (pow-pos 150) p q) ∙ ap (λ (x : ℕ). round binary32 false x (2 ^ 150)) (as-one R0 ∙ sym e))
+      (round-sticky binary32 false R0 0 150 (4 * R0 + b) (2 ^ 151) (pow-pos 151) k (four-parts R0 b (2 ^ 150) (pow-pos 150) p q) ∙ ap (λ (x : ℕ). round binary32 false x (2 ^ 150)) (as-one R0 ∙ sym e))
       (value-of (4 * R0 + b) 151 (lit< tt) (lt-of-lt-of-le (bound4 R0 b (2 ^ 213) s q) (lit≤ tt))))
       (value-of (halves n) 150 (lit< tt) (lt-of-lt-of-le (bound2 R0 (halves n) (2 ^ 213) s (le-of-eq e)) (lit≤ tt)))
 

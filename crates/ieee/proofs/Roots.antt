@@ -15,9 +15,9 @@ use lib.Ieee.Fits.{down-pos, eq→eqb}
 use lib.Ieee.Scale.{round-same}
 use lib.Ieee.Positive.{positive}
 use lib.Ieee.Exact.{HasValue}
+use Rattle.lists.proofs.Naturals.{le-or-lt}
 use Rattle.ieee.specs.Root.{rootIn, root, halves, sqrt}
-use Rattle.packing.proofs.Size.{le-or-lt}
-use Rattle.packing.proofs.Open.{Between, round-jam}
+use Rattle.packing.proofs.Open.{Between, round-sticky}
 
 -- ---- squares
 pub twice-square : (x : ℕ) → 2 * x * (2 * x) ≡ 4 * (x * x)
@@ -134,7 +134,7 @@ module _ (n a r k : ℕ) (same : a * (2 ^ suc k * 2 ^ suc k) ≡ 4 * n) (keep : 
   pub open-case : r * r < a → a < suc r * suc r → round binary32 false ((r * 2 + 1) * 2 ^ (suc k + 923)) (2 ^ 1074) ≡ round binary32 false (halves n) (2 ^ 150)
   open-case u v =
       let w = root-open n a r (2 ^ suc k) (2 ^ k) (halves n) (pow-suc 2 k) same (mul-pos (pow-pos (suc k)) (pow-pos (suc k))) laws u v in
-      sym (round-jam binary32 false r (suc k + 923) 1074 (halves n) (2 ^ 150) (pow-pos 150) keep (
+      sym (round-sticky binary32 false r (suc k + 923) 1074 (halves n) (2 ^ 150) (pow-pos 150) keep (
         lt-of-le-of-lt (le-of-eq (eq r)) (mul-lt-mul-of-pos-right (w .0) (pow-pos 1074)),
         lt-of-lt-of-le (mul-lt-mul-of-pos-right (w .1) (pow-pos 1074)) (le-of-eq (sym (eq (suc r)))),
       ))

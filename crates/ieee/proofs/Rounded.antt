@@ -13,7 +13,7 @@ use lib.Ieee.Fits.{two, round-is, round-fits}
 use lib.Ieee.Bits.{cond-no}
 use lib.Ieee.Exact.{HasValue, units-val}
 use lib.Ieee.Order.{drop, kept}
-use Rattle.packing.proofs.Size.{le-or-lt}
+use Rattle.lists.proofs.Naturals.{le-or-lt}
 use Rattle.ieee.specs.Rounding.{Size, Signed, Within, Beyond, Nearest, RoundTiesToEven}
 use Rattle.ieee.proofs.Ties.{significant, least-far, tied-even}
 use Rattle.ieee.proofs.Range.{below-units, above-units, place-le, in-range, out-of-range}

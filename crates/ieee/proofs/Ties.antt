@@ -8,7 +8,7 @@ use lib.Pow.{pow-pos}
 use lib.Ieee.Fits.{nearest-le, kept-lt}
 use lib.Ieee.Nearest.{closest}
 use lib.Ieee.Order.{drop, kept}
-use Rattle.packing.proofs.Size.{le-or-lt}
+use Rattle.lists.proofs.Naturals.{le-or-lt}
 use Rattle.packing.proofs.Half.{cmp-eq, closest-is}
 use Rattle.ieee.proofs.Nearby.{bounds, q-ge, step-up, step-down, nearest-up, nearest-down}
 use Rattle.ieee.specs.Rounding.{apart}

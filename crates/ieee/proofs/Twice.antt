@@ -16,7 +16,7 @@ use lib.Ieee.Exact.{HasValue, units-val}
 use lib.Ieee.Order.{drop, kept}
 use lib.Ieee.Scale.{grid, overflow, round-same}
 use lib.Ieee.Nearest.{closest}
-use Rattle.packing.proofs.Size.{le-or-lt}
+use Rattle.lists.proofs.Naturals.{le-or-lt}
 use Rattle.packing.proofs.Half.{closest-even, closest-up}
 use Rattle.ieee.proofs.Nearby.{nearest-up, nearest-down, even-or-odd}
 use Rattle.packing.proofs.Open.{Between, round-open}

@@ -11,7 +11,7 @@ use lib.Pow.{pow-pos, pow-mono}
 use lib.Ieee.{Float, nan, inf, fin, Format, prec, emax, low, up, down, odd, fits}
 use lib.Ieee.Fits.{two, down-pos, odd-fits}
 use lib.Ieee.Exact.{odd-sign}
-use Rattle.packing.proofs.Size.{le-or-lt}
+use Rattle.lists.proofs.Naturals.{le-or-lt}
 use Rattle.ieee.specs.Rounding.{threshold, Number, Significand, Size, Signed, RoundTiesToEven}
 use Rattle.ieee.proofs.Meaning.{round-held}
 use Rattle.ieee.proofs.Ties.{half}

@@ -14,7 +14,9 @@ use lib.Ieee.Exact.{HasValue}
 use lib.Ieee.Nearest.{closest, closest-same, closest-mono, div-same}
 use lib.Ieee.Scale.{round-same, finite}
 use Rattle.packing.proofs.Half.{closest-is}
-use Rattle.ieee.specs.Whole.{floorSize, floor, roundEven, saturate}
+use Rattle.ieee.specs.declared.Way.{Way}
+use Rattle.ieee.specs.declared.Way.the-variants.{Zero, Down, Near}
+use Rattle.ieee.specs.Whole.{floorSize, wholeSize, whole, floor, roundEven, saturate}
 
 -- (a + (b - 1)) / b is at most t exactly where a is at most t * b
 pub ceil-le : (a b t : ℕ) → 0 < b → a ≤ t * b → (a + (b - 1)) / b ≤ t
@@ -32,9 +34,21 @@ ceil-mono a b c d B D h =
     let t = (c + (d - 1)) / d in
     ceil-le a b t B (le-of-mul-le-mul-right (le-trans h (le-trans (mul-le-mul-right b (le-ceil c d D)) (le-of-eq (mul-right-comm t d b)))) D)
 
-pub floor-same : (s : Bool) (a b c d : ℕ) → 0 < b → 0 < d → a * d ≡ c * b → floorSize s a b ≡ floorSize s c d
+floor-same : (s : Bool) (a b c d : ℕ) → 0 < b → 0 < d → a * d ≡ c * b → floorSize s a b ≡ floorSize s c d
 floor-same true a b c d B D e = le-antisymm (ceil-mono a b c d B D (le-of-eq e)) (ceil-mono c d a b D B (le-of-eq (sym e)))
 floor-same false a b c d B D e = div-same a b c d B D e
+
+-- ---- the size, whatever the way: by any fraction that is the same number, and of a whole number
+pub size-same : (w : Way) (s : Bool) (a b c d : ℕ) → 0 < b → 0 < d → a * d ≡ c * b → wholeSize w s a b ≡ wholeSize w s c d
+size-same Zero s a b c d B D e = div-same a b c d B D e
+size-same Down s a b c d B D e = floor-same s a b c d B D e
+size-same Near s a b c d B D e = closest-same a b c d B D e
+
+size-one : (w : Way) (s : Bool) (a : ℕ) → wholeSize w s a 1 ≡ a
+size-one Zero s a = div-one a
+size-one Down true a = ap (λ (y : ℕ). y / 1) (add-zero a) ∙ div-one a
+size-one Down false a = div-one a
+size-one Near s a = closest-is a 1 a 0 Ordering·lt (sym (add-zero (a * 1) ∙ mul-one a)) (zero-lt-suc 0) refl
 
 -- ---- a value m * 2 ^ x / 2 ^ 149: shifted down by 149 - x, or up by x - 149
 module _ (m x : ℕ) where
@@ -44,56 +58,40 @@ module _ (m x : ℕ) where
   pub up-cross : 149 ≤ x → m * 2 ^ x * 1 ≡ m * 2 ^ (x - 149) * 2 ^ 149
   up-cross h = mul-one (m * 2 ^ x) ∙ sym (mul-assoc m (2 ^ (x - 149)) (2 ^ 149) ∙ ap (λ (y : ℕ). m * y) (sym (pow-add 2 (x - 149) 149) ∙ ap (λ (y : ℕ). 2 ^ y) (back x 149 h)))
 
-  pub floor-down : (s : Bool) → x ≤ 149 → floorSize s (m * 2 ^ x) (2 ^ 149) ≡ floorSize s m (2 ^ (149 - x))
-  floor-down s h = floor-same s (m * 2 ^ x) (2 ^ 149) m (2 ^ (149 - x)) (pow-pos 149) (pow-pos (149 - x)) (down-cross h)
+  module _ (w : Way) (s : Bool) where
+    pub size-down : x ≤ 149 → wholeSize w s (m * 2 ^ x) (2 ^ 149) ≡ wholeSize w s m (2 ^ (149 - x))
+    size-down h = size-same w s (m * 2 ^ x) (2 ^ 149) m (2 ^ (149 - x)) (pow-pos 149) (pow-pos (149 - x)) (down-cross h)
 
-  pub near-down : x ≤ 149 → closest (m * 2 ^ x) (2 ^ 149) ≡ closest m (2 ^ (149 - x))
-  near-down h = closest-same (m * 2 ^ x) (2 ^ 149) m (2 ^ (149 - x)) (pow-pos 149) (pow-pos (149 - x)) (down-cross h)
+    pub size-up : 149 ≤ x → wholeSize w s (m * 2 ^ x) (2 ^ 149) ≡ m * 2 ^ (x - 149)
+    size-up h = size-same w s (m * 2 ^ x) (2 ^ 149) (m * 2 ^ (x - 149)) 1 (pow-pos 149) (zero-lt-suc 0) (up-cross h) ∙ size-one w s (m * 2 ^ (x - 149))
 
-  pub whole : (s : Bool) (a : ℕ) → floorSize s a 1 ≡ a
-  whole true a = ap (λ (y : ℕ). y / 1) (add-zero a) ∙ div-one a
-  whole false a = div-one a
+-- ---- the operation, by any way to write the value's size
+pub whole-is : (w : Way) (v : Float) (s : Bool) (a : ℕ) → HasValue v s a (2 ^ 149) → whole w binary32 v ≡ round binary32 s (wholeSize w s a (2 ^ 149)) 1
+unfolding whole
+whole-is w nan s a h = absurd h
+whole-is w (inf t) s a h = absurd h
+whole-is w (fin t m e) s a h =
+    ap (λ (u : Bool). round binary32 u (wholeSize w u (m * up e) (down e)) 1) (h .0)
+    ∙ ap (λ (k : ℕ). round binary32 s k 1) (size-same w s (m * up e) (down e) a (2 ^ 149) (down-pos e) (pow-pos 149) (h .1))
 
-  pub floor-up : (s : Bool) → 149 ≤ x → floorSize s (m * 2 ^ x) (2 ^ 149) ≡ m * 2 ^ (x - 149)
-  floor-up s h = floor-same s (m * 2 ^ x) (2 ^ 149) (m * 2 ^ (x - 149)) 1 (pow-pos 149) (zero-lt-suc 0) (up-cross h) ∙ whole s (m * 2 ^ (x - 149))
+pub whole-other : (w : Way) (v : Float) → finite v ≡ false → v ≡ whole w binary32 v
+unfolding whole
+whole-other w nan h = refl
+whole-other w (inf s) h = refl
+whole-other w (fin s m e) h = absurd (true≢false h)
 
-  pub near-up : 149 ≤ x → closest (m * 2 ^ x) (2 ^ 149) ≡ m * 2 ^ (x - 149)
-  near-up h = closest-same (m * 2 ^ x) (2 ^ 149) (m * 2 ^ (x - 149)) 1 (pow-pos 149) (zero-lt-suc 0) (up-cross h) ∙ closest-one (m * 2 ^ (x - 149))
-    where
-      closest-one : (a : ℕ) → closest a 1 ≡ a
-      closest-one a = closest-is a 1 a 0 Ordering·lt (sym (add-zero (a * 1) ∙ mul-one a)) (zero-lt-suc 0) refl
+-- ---- two of the ways have names
+pub floor-whole : (v : Float) → whole Down binary32 v ≡ floor binary32 v
+unfolding whole floor
+floor-whole nan = refl
+floor-whole (inf s) = refl
+floor-whole (fin s m e) = refl
 
--- ---- the operations, by any way to write the value's size
-module _ (v : Float) (s : Bool) (a : ℕ) where
-  pub floor-is : HasValue v s a (2 ^ 149) → floor binary32 v ≡ round binary32 s (floorSize s a (2 ^ 149)) 1
-  unfolding floor
-  floor-is = go v
-    where
-      go : (v : Float) → HasValue v s a (2 ^ 149) → floor binary32 v ≡ round binary32 s (floorSize s a (2 ^ 149)) 1
-      go nan h = absurd h
-      go (inf t) h = absurd h
-      go (fin t m e) h = ap (λ (u : Bool). round binary32 u (floorSize u (m * up e) (down e)) 1) (h .0) ∙ ap (λ (k : ℕ). round binary32 s k 1) (floor-same s (m * up e) (down e) a (2 ^ 149) (down-pos e) (pow-pos 149) (h .1))
-
-  pub even-is : HasValue v s a (2 ^ 149) → roundEven binary32 v ≡ round binary32 s (closest a (2 ^ 149)) 1
-  unfolding roundEven
-  even-is = go v
-    where
-      go : (v : Float) → HasValue v s a (2 ^ 149) → roundEven binary32 v ≡ round binary32 s (closest a (2 ^ 149)) 1
-      go nan h = absurd h
-      go (inf t) h = absurd h
-      go (fin t m e) h = ap (λ (u : Bool). round binary32 u (closest (m * up e) (down e)) 1) (h .0) ∙ ap (λ (k : ℕ). round binary32 s k 1) (closest-same (m * up e) (down e) a (2 ^ 149) (down-pos e) (pow-pos 149) (h .1))
-
-pub floor-other : (v : Float) → finite v ≡ false → v ≡ floor binary32 v
-unfolding floor
-floor-other nan h = refl
-floor-other (inf s) h = refl
-floor-other (fin s m e) h = absurd (true≢false h)
-
-pub even-other : (v : Float) → finite v ≡ false → v ≡ roundEven binary32 v
-unfolding roundEven
-even-other nan h = refl
-even-other (inf s) h = refl
-even-other (fin s m e) h = absurd (true≢false h)
+pub even-whole : (v : Float) → whole Near binary32 v ≡ roundEven binary32 v
+unfolding whole roundEven
+even-whole nan = refl
+even-whole (inf s) = refl
+even-whole (fin s m e) = refl
 
 -- ---- far down nothing is left, or a one
 module _ (m d : ℕ) (small : m < 2 ^ 24) (far : 40 ≤ d) where
@@ -122,3 +120,12 @@ saturate-same false a b e = ap (λ (k : ℕ). pos k) (one-less a b e)
   where
     one-less : (a b : ℕ) → min a (2 ^ 31) ≡ min b (2 ^ 31) → min a (2 ^ 31 - 1) ≡ min b (2 ^ 31 - 1)
     one-less a b e = omega arith
+
+-- ---- `saturate` by the sign
+pub saturate-minus : (s : Bool) (k : ℕ) (z : ℤ) → s ≡ true → z ≡ negℤ (pos (min k (2 ^ 31))) → z ≡ saturate 31 s k
+saturate-minus true k z e h = h
+saturate-minus false k z e h = absurd (true≢false (sym e))
+
+pub saturate-plus : (s : Bool) (k : ℕ) (z : ℤ) → s ≡ false → z ≡ pos (min k (2 ^ 31 - 1)) → z ≡ saturate 31 s k
+saturate-plus false k z e h = h
+saturate-plus true k z e h = absurd (true≢false e)

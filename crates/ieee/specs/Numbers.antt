@@ -47,9 +47,25 @@ five = f32 0x40a0_0000
 abbrev pub ten : Float
 ten = f32 0x4120_0000
 
+-- 45, an eighth of a turn in degrees
+abbrev pub eighthTurn : Float
+eighthTurn = f32 0x4234_0000
+
+-- 90, a quarter
+abbrev pub quarterTurn : Float
+quarterTurn = f32 0x42b4_0000
+
+-- 180, half a turn
+abbrev pub halfTurn : Float
+halfTurn = f32 0x4334_0000
+
 -- 255, the largest byte
 abbrev pub topByte : Float
 topByte = f32 0x437f_0000
+
+-- 270, three quarters of a turn
+abbrev pub threeQuarterTurn : Float
+threeQuarterTurn = f32 0x4387_0000
 
 -- 360, a whole turn in degrees
 abbrev pub wholeTurn : Float

@@ -9,7 +9,7 @@ use lib.IntN.{ℤ, pos, negsuc, _+ℤ_, _*ℤ_}
 use lib.Pow.{pow-pos}
 use lib.Ieee.{Float, nan, inf, fin, Format, prec, emax, low, up, down, unlike}
 use lib.Ieee.Fits.{down-pos}
-use Rattle.packing.proofs.Size.{le-or-lt}
+use Rattle.lists.proofs.Naturals.{le-or-lt}
 use Rattle.ieee.specs.Rounding.{apart, distance, Number, Size, RoundTiesToEven}
 use Rattle.ieee.specs.Operations.{signedOf, RoundedSum, square, NearestRoot, IsSum, IsFma, IsConverted, IsRoot}
 use Rattle.ieee.proofs.Meaning.{round-held}

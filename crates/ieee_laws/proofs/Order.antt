@@ -13,6 +13,7 @@ use lib.Ieee.{Float, nan, inf, fin, Format, prec, emax, low, up, down, odd, unit
 use lib.Ieee.Fits.{down-pos}
 use lib.Ieee.Bits.{is-true}
 use lib.Ieee.Order.{round-mono}
+use Rattle.lists.proofs.Bools.{and-left, and-right, both-and, or-right}
 use Rattle.ieee_laws.specs.Sign.{turned}
 use Rattle.ieee.proofs.SignedParts.{round-zero, plus, minus, plus-mul, minus-mul}
 use Rattle.ieee_laws.proofs.Turned.{round-turned, le-turned, lt-turned, neg-opp}
@@ -29,22 +30,6 @@ pub record Less (s : Bool) (a c : ℕ) (t : Bool) (b d : ℕ) : Type 0 where
 or-cases : (a b : Bool) → (a || b) ≡ true → (a ≡ true) ⊎ (b ≡ true)
 or-cases true b h = inl refl
 or-cases false b h = inr h
-
-and-left : (a b : Bool) → (a && b) ≡ true → a ≡ true
-and-left true b h = refl
-and-left false b h = h
-
-and-right : (a b : Bool) → (a && b) ≡ true → b ≡ true
-and-right true b h = h
-and-right false b h = absurd (false≢true h)
-
-and-both : (a b : Bool) → a ≡ true → b ≡ true → (a && b) ≡ true
-and-both true b h k = k
-and-both false b h k = h
-
-or-right : (a b : Bool) → b ≡ true → (a || b) ≡ true
-or-right true b h = refl
-or-right false b h = h
 
 test-le : (s t : Bool) (x y : ℕ) → (below s x t y || level s x t y) ≡ true → plus s x + minus t y ≤ plus t y + minus s x
 test-le false false x y h = ⊎-elim (λ l. let k = ltb-true x y l in omega arith) (λ l. let k = eqb-true x y (and-left (eqb x y) true l) in omega arith) (or-cases (ltb x y) (eqb x y && true) h)
@@ -64,7 +49,7 @@ least x y h = go (ltb x y) refl
   where
     go : (b : Bool) → ltb x y ≡ b → (ltb x y || (eqb x y && true)) ≡ true
     go true e = or-left (ltb x y) (eqb x y && true) e
-    go false e = let k = ltb-false x y e in or-right (ltb x y) (eqb x y && true) (and-both (eqb x y) true (eq-eqb x y (omega arith)) refl)
+    go false e = let k = ltb-false x y e in or-right (ltb x y) (eqb x y && true) (both-and (eqb x y) true (eq-eqb x y (omega arith)) refl)
 
 eqb-turn : (x y : ℕ) → eqb x y ≡ eqb y x
 eqb-turn x y = go (eqb y x) refl
@@ -75,11 +60,11 @@ eqb-turn x y = go (eqb y x) refl
 
 le-test : (s t : Bool) (x y : ℕ) → plus s x + minus t y ≤ plus t y + minus s x → (below s x t y || level s x t y) ≡ true
 le-test false false x y h = least x y (omega arith)
-le-test false true x y h = and-both (eqb x y) (eqb x 0) (eq-eqb x y (omega arith)) (eq-eqb x 0 (omega arith))
+le-test false true x y h = both-and (eqb x y) (eqb x 0) (eq-eqb x y (omega arith)) (eq-eqb x 0 (omega arith))
 le-test true false x y h = go (eq-zero-or-pos (x + y))
   where
     go : ((x + y) ≡ 0) ⊎ (0 < x + y) → (ltb 0 (x + y) || (eqb x y && (false || eqb x 0))) ≡ true
-    go (inl z) = or-right (ltb 0 (x + y)) (eqb x y && eqb x 0) (and-both (eqb x y) (eqb x 0) (eq-eqb x y (omega arith)) (eq-eqb x 0 (omega arith)))
+    go (inl z) = or-right (ltb 0 (x + y)) (eqb x y && eqb x 0) (both-and (eqb x y) (eqb x 0) (eq-eqb x y (omega arith)) (eq-eqb x 0 (omega arith)))
     go (inr p) = or-left (ltb 0 (x + y)) (eqb x y && eqb x 0) (lt-ltb 0 (x + y) p)
 le-test true true x y h = rw (eqb-turn x y) (least y x (omega arith))
 

@@ -9,19 +9,19 @@ use lib.Ieee.Fits.{add-fits}
 use lib.Ieee.Bits.{ofBits-toBits}
 use Rattle.packing.specs.Parts.{Splits}
 use Rattle.ieee.specs.Fused.{fma, convert}
-use Rattle.ieee.specs.Parts.{Clear}
-use Rattle.ieee.specs.Root.{sqrt, Tried}
+use Rattle.ieee.specs.Parts.{RoundsOnce}
+use Rattle.ieee.specs.Root.{sqrt, RootOrZero}
 use Rattle.ieee.proofs.Product.{fma-parts}
-use Rattle.ieee.proofs.Doubled.{Split, wide-is, converted, fma-close}
+use Rattle.ieee.proofs.Doubled.{Split, wide-is, converted, fma-narrow}
 
--- `narrow`: the pattern rounded where it is clear, and the significand packed
+-- `narrow`: the pattern rounded where it rounds once, and the significand packed
 pub narrow-paths : (x : Float) → T (fits binary64 x)
-    → (r : Float) → Clear (toBits binary64 x) → r ≡ convert binary32 (ofBits binary64 (toBits binary64 x))  -- `clear`, `close`
+    → (r : Float) → RoundsOnce (toBits binary64 x) → r ≡ convert binary32 (ofBits binary64 (toBits binary64 x))  -- `rounds_once`, `narrow_once`
     → (t : Float) (s : Bool) (m e : ℕ) → Splits 1074 53 2045 x s m e → t ≡ round binary32 s (m * 2 ^ e) (2 ^ 1074)  -- `unpack64`, `pack`
     → r ≡ t
 narrow-paths x h r k short t s m e p general = short ∙ ap (convert binary32) (ofBits-toBits binary64 x h) ∙ converted x s (m * 2 ^ e) 1074 (p .value) ∙ sym general
 
--- `mul_add`: the sum in binary64 rounded once more where it is clear, and the exact sum of the whole significands
+-- `mul_add`: the sum in binary64 rounded once more where that is harmless, and the exact sum of the whole significands
 module _ (a b c : Float) (s t u : Bool) (m n p i j k : ℕ) (A : Splits 149 24 253 a s m i) (B : Splits 149 24 253 b t n j) (C : Splits 149 24 253 c u p k) where
   A' : Split a
   A' = record { s = s; m = m; x = i; parts = A }
@@ -35,16 +35,16 @@ module _ (a b c : Float) (s t u : Bool) (m n p i j k : ℕ) (A : Splits 149 24 2
   held : T (fits binary64 (fma binary64 a b c))
   held = subst (λ (v : Float). T (fits binary64 v)) (wide-is a b c A' B' C') (add-fits binary64 (mul binary64 a b) c)
 
-  pub fma-paths : (w r : Float) → w ≡ fma binary64 a b c → Clear (toBits binary64 w) → r ≡ convert binary32 (ofBits binary64 (toBits binary64 w))  -- `wide_fma`, `clear`, `close`
+  pub fma-paths : (w r : Float) → w ≡ fma binary64 a b c → RoundsOnce (toBits binary64 w) → r ≡ convert binary32 (ofBits binary64 (toBits binary64 w))  -- `wide_fma`, `rounds_once`, `narrow_once`
       → (v : Float) → v ≡ sum binary32 (unlike s t) (m * n * 2 ^ (i + j)) u (p * 2 ^ (k + 149)) (2 ^ 298)  -- `unpack` of each, `add_scaled`
       → r ≡ v
   fma-paths w r e q short v general =
       let back : ofBits binary64 (toBits binary64 w) ≡ fma binary64 a b c = ofBits-toBits binary64 w (subst (λ (y : Float). T (fits binary64 y)) (sym e) held) ∙ e in
-      short ∙ fma-close (toBits binary64 w) q a b c A' B' C' back ∙ fma-parts binary32 a b c s t u m n p i j k 149 (A .value) (B .value) (C .value) ∙ sym general
+      short ∙ fma-narrow (toBits binary64 w) q a b c A' B' C' back ∙ fma-parts binary32 a b c s t u m n p i j k 149 (A .value) (B .value) (C .value) ∙ sym general
 
 -- `sqrt`: the guess that the exact test took, and the integer root of the whole significand
 pub root-paths : (x : Float) → T (fits binary32 x)
-    → (q : ℕ) → Tried (toBits binary32 x) q → 0 < q  -- `root_try`
+    → (q : ℕ) → RootOrZero (toBits binary32 x) q → 0 < q  -- `checked_root`
     → (t : Float) → t ≡ sqrt binary32 x  -- `root_general`
     → ofBits binary32 q ≡ t
 root-paths x h q tried some t general = tried .right some ∙ ap (sqrt binary32) (ofBits-toBits binary32 x h) ∙ sym general

@@ -12,6 +12,7 @@ use lib.Ieee.{Float, nan, inf, fin, Format, prec, emax, low, binary32, binary64,
 use lib.Ieee.{below, level, lt, eq, le}
 use lib.Ieee.Fits.{up-pos, down-pos}
 use lib.Ieee.Scale.{round-same}
+use Rattle.lists.proofs.Bools.{and-false, not-not, or-true}
 use Rattle.ieee.proofs.SignedParts.{round-zero}
 use Rattle.ieee_laws.specs.Sign.{turn, Signs, turned, nought, Turned, of-nan, of-inf, of-fin}
 
@@ -286,10 +287,6 @@ by-right : (b s t : Bool) (x y : ℕ) → y ≡ 0 → belowBy b s x t y ≡ (tur
 by-right false s t x y e = zero-right s t x y e
 by-right true s t x y e = zero-left t s y x e
 
-and-false : (a : Bool) → (a && false) ≡ false
-and-false true = refl
-and-false false = refl
-
 none-below : (a : Bool) (y : ℕ) → y ≡ 0 → (a && ltb 0 y) ≡ false
 none-below a y e = rw (le-ltb 0 y (omega arith)) (and-false a)
 
@@ -306,10 +303,6 @@ inf-below true true true s' t' e g = rw e
 inf-below true true false s' t' e g = rw e
 inf-below true false true s' t' e g = rw (e, g)
 inf-below true false false s' t' e g = rw (e, g)
-
-not-not : (s : Bool) → not (not s) ≡ s
-not-not true = refl
-not-not false = refl
 
 pub lt-turned : {b : Bool} {x y x' y' : Float} → Turned b x x' → Turned b y y' → lt x' y' ≡ ltBy b x y
 unfolding lt
@@ -333,10 +326,6 @@ lt-turned {b = true} (of-fin {m = m} {e = e} p) (of-fin {m = n} {e = d} q) =
     below-turned (m * up e * down d) (n * up d * down e) (signs-of (zero-of m (up e) (down d)) p) (signs-of (zero-of n (up d) (down e)) q)
 lt-turned {b = false} (of-fin {m = m} {e = e} p) (of-fin {m = n} {e = d} q) =
     below-turned (m * up e * down d) (n * up d * down e) (signs-of (zero-of m (up e) (down d)) p) (signs-of (zero-of n (up d) (down e)) q)
-
-or-true : (a : Bool) → (a || true) ≡ true
-or-true true = refl
-or-true false = refl
 
 -- equal magnitudes that are 0 are level whatever the signs
 pub level-zero : (s t z : Bool) (x y : ℕ) → eqb x y ≡ z → (x ≡ y → x ≡ 0) → level s x t y ≡ eqb x y

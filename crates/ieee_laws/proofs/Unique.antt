@@ -10,7 +10,7 @@ use lib.Pow.{pow-add, pow-pos}
 use lib.Ieee.{Float, nan, inf, fin, Format, prec, low, up, down, fits}
 use lib.Ieee.Digits.{back}
 use lib.Ieee.Fits.{two}
-use Rattle.packing.proofs.Size.{le-or-lt}
+use Rattle.lists.proofs.Naturals.{le-or-lt}
 use Rattle.ieee.proofs.Meaning.{one-writing}
 use Rattle.ieee.specs.Rounding.{threshold, apart, distance, Number, Significand, Size, Signed, Nearest, RoundTiesToEven}
 use Rattle.ieee.proofs.Ties.{half, mid-up}

@@ -1,4 +1,4 @@
--- The pages of `ieee` at a few numbers, beside what any IEEE 754 machine answers. Definitions only.
+-- Law: the pages of `ieee` at a few numbers, beside what any IEEE 754 machine answers. Definitions only.
 use Prim.Native.Nat.{ℕ, _-_, _^_}
 use mathlib.Core.Path.{_≡_}
 use mathlib.Core.Bool.{Bool, true, false}

@@ -1,4 +1,4 @@
--- What IEEE 754-2019 asks of product, quotient, difference and the float of a whole number, as `Operations` of `ieee` has it for the others. `proofs/Kit.antt` shows it of `lib.Ieee`'s own. Definitions only.
+-- Law: what IEEE 754-2019 asks of product, quotient, difference and the float of a whole number, as `Operations` of `ieee` has it for the others. `proofs/Kit.antt` shows it of `lib.Ieee`'s own. Definitions only.
 use Prim.Native.Nat.{zero, suc, _*_}
 use mathlib.Core.Path.{_≡_}
 use mathlib.Core.Bool.{true, false}

@@ -1,4 +1,4 @@
--- What the pages `Rounding` and `Operations` of `ieee` leave open: nothing. And two things that follow from them. `proofs/Laws.antt` shows each. Definitions only.
+-- Law: what the pages `Rounding` and `Operations` of `ieee` leave open: nothing. And two things that follow from them. `proofs/Laws.antt` shows each. Definitions only.
 use Prim.Native.Nat.{ℕ, _+_, _*_, _^_, _≤_, _<_}
 use mathlib.Core.Path.{_≡_}
 use mathlib.Core.Bool.{Bool, cond, Bool·beq}

@@ -1,4 +1,4 @@
--- Two floats that differ by a sign, or not at all, but for the sign of a zero. Definitions only.
+-- Law: two floats that differ by a sign, or not at all, but for the sign of a zero. Definitions only.
 use Prim.Native.Nat.{ℕ}
 use mathlib.Core.Path.{_≡_}
 use mathlib.Core.Bool.{Bool, true, false, not}

@@ -10,12 +10,8 @@ use native.Mathlib.Omega.{arith}
 use borrow.Author.Tests.{le-leb, lt-leb}
 use lib.ListN.{length, take, drop, set, length-append, length-set}
 use lib.Seq.{sets, sets-eq, length-sets}
+use Rattle.lists.proofs.Naturals.{le-or-lt}
 use Rattle.lists.specs.Ranges.{joined}
-
-le-or-lt : (m n : ℕ) → (m ≤ n) ⊎ (n < m)
-le-or-lt zero n = inl zero-le
-le-or-lt (suc m) zero = inr (suc-le-suc zero-le)
-le-or-lt (suc m) (suc n) = ⊎-elim (λ p. inl (suc-le-suc p)) (λ q. inr (suc-le-suc q)) (le-or-lt m n)
 
 cond-same : {A : Type 0} (b : Bool) (x : A) → cond b x x ≡ x
 cond-same true x = refl

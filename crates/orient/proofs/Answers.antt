@@ -10,8 +10,10 @@ use Rattle.lists.specs.Pasted.{pasted}
 use Rattle.params.specs.Answers.{answerOf, landed, onFault}
 use Rattle.params.specs.declared.Answer.{Answer}
 use Rattle.params.specs.declared.Answer.the-variants.{Done, Short, Refused}
+use Rattle.picture.specs.declared.Size.{Size}
 use Rattle.detect_refine.specs.declared.RawKeypoint.{RawKeypoint}
 use Rattle.orient_tally.specs.Window.{cellsRead}
+use Rattle.orient_tally.specs.Sample.{bins}
 use Rattle.orient_peaks.specs.Found.{Holds}
 use Rattle.orient.specs.Entry.{windowAt, anglesAt, orientFault, orientedOf, orientedList, orientedWords, words, answeredWith, givenBack, orientAnswer, orientOut}
 use Rattle.orient.specs.Given.{directionsOf, roomFor, givenWith, leftWith}
@@ -21,67 +23,67 @@ use Rattle.orient.proofs.Words.{length-map}
 use Rattle.orient.proofs.Checks.{about-holds, about-read}
 
 -- ---- room
-room-yes : (d : Directions) (room : ℕ) → d .angles .count * 6 ≤ room → roomFor d room ≡ Done (d .angles .count)
+room-yes : (d : Directions) (room : ℕ) → d .angles .count * orientedWords ≤ room → roomFor d room ≡ Done (d .angles .count)
 unfolding roomFor answerOf
 room-yes d room h = rw (le-leb (orientedWords * d .angles .count) room (omega arith))
 
-room-no : (d : Directions) (room : ℕ) → room < d .angles .count * 6 → roomFor d room ≡ Short (d .angles .count)
+room-no : (d : Directions) (room : ℕ) → room < d .angles .count * orientedWords → roomFor d room ≡ Short (d .angles .count)
 unfolding roomFor answerOf
 room-no d room h = rw (lt-leb (orientedWords * d .angles .count) room (omega arith))
 
-pub given-done : (d : Directions) (room : ℕ) → d .angles .count * 6 ≤ room → record { answer = Done (d .angles .count); samples = d .read } ≡ givenWith d room
+pub given-done : (d : Directions) (room : ℕ) → d .angles .count * orientedWords ≤ room → record { answer = Done (d .angles .count); samples = d .read } ≡ givenWith d room
 unfolding givenWith
 given-done d room h = rw (room-yes d room h)
 
-pub given-short : (d : Directions) (room : ℕ) → room < d .angles .count * 6 → record { answer = Short (d .angles .count); samples = 0 } ≡ givenWith d room
+pub given-short : (d : Directions) (room : ℕ) → room < d .angles .count * orientedWords → record { answer = Short (d .angles .count); samples = 0 } ≡ givenWith d room
 unfolding givenWith
 given-short d room h = rw (room-no d room h)
 
-pub left-done : (k : RawKeypoint) (d : Directions) (out new : List ℕ) → d .angles .count * 6 ≤ length out → new ≡ pasted 0 (words (map (orientedOf k) (take (d .angles .count) (d .angles .all)))) out → new ≡ leftWith k d out
+pub left-done : (k : RawKeypoint) (d : Directions) (out new : List ℕ) → d .angles .count * orientedWords ≤ length out → new ≡ pasted 0 (words (map (orientedOf k) (take (d .angles .count) (d .angles .all)))) out → new ≡ leftWith k d out
 unfolding leftWith
 left-done k d out new h e = rw (room-yes d (length out) h) e
 
-pub left-short : (k : RawKeypoint) (d : Directions) (out : List ℕ) → length out < d .angles .count * 6 → out ≡ leftWith k d out
+pub left-short : (k : RawKeypoint) (d : Directions) (out : List ℕ) → length out < d .angles .count * orientedWords → out ≡ leftWith k d out
 unfolding leftWith
 left-short k d out h = rw (room-no d (length out) h)
 
 -- ---- the entry
-module _ (img : List Float) (w h : ℕ) (k : RawKeypoint) where
-  refused : (fault room : ℕ) → fault ≡ orientFault img w h k → (fault ≡ 0 → ⊥) → givenBack img w h k room ≡ Refused fault
+module _ (img : List Float) (s : Size) (k : RawKeypoint) where
+  refused : (fault room : ℕ) → fault ≡ orientFault img s k → (fault ≡ 0 → ⊥) → givenBack img s k room ≡ Refused fault
   unfolding givenBack answerOf
   refused zero room e n = absurd (n refl)
   refused (suc f) room e n = rw (← e)
 
-  pub answer-refused : (fault room : ℕ) → fault ≡ orientFault img w h k → (fault ≡ 0 → ⊥) → record { answer = Refused fault; samples = 0 } ≡ orientAnswer img w h k room
+  pub answer-refused : (fault room : ℕ) → fault ≡ orientFault img s k → (fault ≡ 0 → ⊥) → record { answer = Refused fault; samples = 0 } ≡ orientAnswer img s k room
   unfolding orientAnswer
   answer-refused fault room e n = rw (refused fault room e n)
 
-  pub out-refused : (fault : ℕ) (out : List ℕ) → fault ≡ orientFault img w h k → (fault ≡ 0 → ⊥) → out ≡ orientOut img w h k out
+  pub out-refused : (fault : ℕ) (out : List ℕ) → fault ≡ orientFault img s k → (fault ≡ 0 → ⊥) → out ≡ orientOut img s k out
   unfolding orientOut
   out-refused fault out e n = rw (refused fault (length out) e n)
 
-  module _ (d : Directions) (found : d ≡ directionsOf img w h k) where
-    held : Holds (d .angles) (anglesAt img w h k)
-    held = subst (λ (x : Directions). Holds (x .angles) (anglesAt img w h k)) (sym found) (about-holds w h k img)
+  module _ (d : Directions) (found : d ≡ directionsOf img s k) where
+    held : Holds (d .angles) (anglesAt img s k)
+    held = subst (λ (x : Directions). Holds (x .angles) (anglesAt img s k)) (sym found) (about-holds s k img)
 
-    read : d .read ≡ cellsRead (windowAt w h k)
-    read = ap (λ (x : Directions). x .read) found ∙ about-read w h k img
+    read : d .read ≡ cellsRead (windowAt s k)
+    read = ap (λ (x : Directions). x .read) found ∙ about-read s k img
 
-    pub few : (d .angles .count ≤ 36) × (d .angles .count ≤ length (d .angles .all))
+    pub few : (d .angles .count ≤ bins) × (d .angles .count ≤ length (d .angles .all))
     few =
         let c = held .count in
-        let z : length (take (length (anglesAt img w h k)) (d .angles .all)) ≡ length (anglesAt img w h k) = ap length (held .first) in
+        let z : length (take (length (anglesAt img s k)) (d .angles .all)) ≡ length (anglesAt img s k) = ap length (held .first) in
         (omega (arith, held .few), omega (arith, simp length-take at z))
 
-    module _ (fine : orientFault img w h k ≡ 0) where
-      given-is : (room : ℕ) → givenBack img w h k room ≡ roomFor d room
+    module _ (fine : orientFault img s k ≡ 0) where
+      given-is : (room : ℕ) → givenBack img s k room ≡ roomFor d room
       unfolding givenBack roomFor orientedList
-      given-is room = rw (fine, length-map k (anglesAt img w h k), held .count)
+      given-is room = rw (fine, length-map k (anglesAt img s k), held .count)
 
-      pub answer-given : (room : ℕ) (a : OrientAnswer) → a ≡ givenWith d room → a ≡ orientAnswer img w h k room
+      pub answer-given : (room : ℕ) (a : OrientAnswer) → a ≡ givenWith d room → a ≡ orientAnswer img s k room
       unfolding orientAnswer givenWith
       answer-given room a e = e ∙ rw (given-is room, read)
 
-      pub out-given : (out new : List ℕ) → new ≡ leftWith k d out → new ≡ orientOut img w h k out
+      pub out-given : (out new : List ℕ) → new ≡ leftWith k d out → new ≡ orientOut img s k out
       unfolding orientOut leftWith orientedList
       out-given out new e = e ∙ rw (given-is (length out), held .count, held .first)

@@ -3,15 +3,17 @@ use Prim.Native.Nat.{ℕ, _*_, _<_, _≤_}
 use mathlib.Core.Path.{_≡_, refl, sym, ap, _∙_, subst}
 use mathlib.Core.Bool.{Bool, true, false, not, _&&_, _||_, true≢false, false≢true}
 use mathlib.Core.List.{List}
-use native.Mathlib.Nat.{one-mul, mul-le-mul}
+use native.Mathlib.Nat.{mul-le-mul}
 use native.Mathlib.Omega.{arith}
 use borrow.Author.Tests.{ltb-true, ltb-false, eqb-true, not-true, not-false, eq-eqb, ne-eqb}
 use lib.Dec.{ltb, eqb}
 use lib.ListN.{length}
 use lib.Ieee.{Float}
+use Rattle.lists.proofs.Bools.{and-both, or-true}
 use Rattle.params.specs.Limits.{maxSide, maxOctave, scaleLow, scaleHigh}
 use Rattle.params.specs.Table.{within, firstFault, sideWrong, shapeWrong, lengthWrong}
-use Rattle.params.proofs.Bools.{or-true, or-neither, in-range}
+use Rattle.params.proofs.Bools.{or-neither, in-range}
+use Rattle.picture.specs.declared.Size.{Size}
 use Rattle.detect_refine.specs.declared.RawKeypoint.{RawKeypoint}
 use Rattle.orient_tally.specs.Window.{cellsRead}
 use Rattle.orient_tally.specs.Sample.{windowGood}
@@ -23,7 +25,6 @@ use Rattle.orient_peaks.specs.Found.{heldOf, Holds}
 use Rattle.orient_peaks.proofs.Rules.{peak-rule}
 use Rattle.orient_peaks.specs.declared.Angles.{Angles}
 use Rattle.orient_tally.specs.Place.{Fits}
-use Rattle.orient_tally.proofs.Values.{and-both}
 use Rattle.orient_tally.proofs.Spans.{window-fits}
 use Rattle.orient.specs.Keypoint.{octaveIn, cellWrong, octaveWrong, floatsWrong, scaleOf, scaleWrong, keypointWrong}
 use Rattle.orient.specs.Entry.{windowAt, anglesAt, orientFault}
@@ -31,95 +32,95 @@ use Rattle.orient.specs.Given.{directionsOf}
 use Rattle.orient.specs.declared.Directions.{Directions}
 use Rattle.orient.specs.Accepted.{Aimed, Ready}
 
-pub sides : (w h : ℕ) → shapeWrong w h ≡ false → (w ≤ maxSide) × (h ≤ maxSide)
+pub sides : (s : Size) → shapeWrong (s .width) (s .height) ≡ false → (s .width ≤ maxSide) × (s .height ≤ maxSide)
 unfolding shapeWrong
-sides w h e =
-    let p = or-neither (sideWrong w) (sideWrong h) e in
-    (in-range w maxSide (p .0) .1, in-range h maxSide (p .1) .1)
+sides s e =
+    let p = or-neither (sideWrong (s .width)) (sideWrong (s .height)) e in
+    (in-range (s .width) maxSide (p .0) .1, in-range (s .height) maxSide (p .1) .1)
 
 pub octave-right : (word : ℕ) → octaveWrong word ≡ false → octaveIn word ≤ maxOctave
 unfolding octaveWrong
 octave-right word e = ltb-false maxOctave (octaveIn word) (or-neither (ltb maxOctave (octaveIn word)) _ e .0)
 
-module _ (w h : ℕ) (k : RawKeypoint) where
-  pub cell-first : cellWrong w h k ≡ true → true ≡ keypointWrong w h k
+module _ (s : Size) (k : RawKeypoint) where
+  pub cell-first : cellWrong s k ≡ true → true ≡ keypointWrong s k
   unfolding keypointWrong
   cell-first e = rw e
 
-  pub octave-next : cellWrong w h k ≡ false → octaveWrong (k .octave) ≡ true → true ≡ keypointWrong w h k
+  pub octave-next : cellWrong s k ≡ false → octaveWrong (k .octave) ≡ true → true ≡ keypointWrong s k
   unfolding keypointWrong
   octave-next e f = rw (e, f)
 
-  pub rest-last : cellWrong w h k ≡ false → octaveWrong (k .octave) ≡ false → (floatsWrong k || scaleWrong k) ≡ keypointWrong w h k
+  pub rest-last : cellWrong s k ≡ false → octaveWrong (k .octave) ≡ false → (floatsWrong k || scaleWrong k) ≡ keypointWrong s k
   unfolding keypointWrong
   rest-last e f = rw (e, f)
 
-  pub aimed : shapeWrong w h ≡ false → keypointWrong w h k ≡ false → Aimed w h k
+  pub aimed : shapeWrong (s .width) (s .height) ≡ false → keypointWrong s k ≡ false → Aimed s k
   unfolding keypointWrong cellWrong scaleWrong
-  aimed s e =
-      let z = sides w h s in
-      let a = or-neither (cellWrong w h k) _ e in
-      let c = and-both (ltb (k .rr) h) (ltb (k .cc) w) (not-false _ (a .0)) in
+  aimed p e =
+      let z = sides s p in
+      let a = or-neither (cellWrong s k) _ e in
+      let c = and-both (ltb (k .rr) (s .height)) (ltb (k .cc) (s .width)) (not-false _ (a .0)) in
       let b = or-neither (octaveWrong (k .octave)) _ (a .1) in
       let d = or-neither (floatsWrong k) _ (b .1) in
       record {
         high = z .1;
         wide = z .0;
-        row = ltb-true (k .rr) h (c .0);
-        column = ltb-true (k .cc) w (c .1);
+        row = ltb-true (k .rr) (s .height) (c .0);
+        column = ltb-true (k .cc) (s .width) (c .1);
         octave = octave-right (k .octave) (b .0);
         scale = not-false _ (d .1);
       }
 
-  pub aimed-fits : (len : ℕ) → len ≡ h * w → Aimed w h k → Fits len (windowAt w h k)
+  pub aimed-fits : (len : ℕ) → len ≡ s .height * s .width → Aimed s k → Fits len (windowAt s k)
   unfolding windowAt
-  aimed-fits len e a = window-fits len w h (k .rr) (k .cc) (scaleOf k) (rw one-mul e) (a .high) (a .wide) (a .row) (a .column) (a .scale)
+  aimed-fits len e a = window-fits len s (k .rr) (k .cc) (scaleOf k) e (a .high) (a .wide) (a .row) (a .column) (a .scale)
 
-  pub ready-fits : (len : ℕ) → Ready len w h k → Fits len (windowAt w h k)
+  pub ready-fits : (len : ℕ) → Ready len s k → Fits len (windowAt s k)
   ready-fits len r = aimed-fits len (r .whole) (r .aimed)
 
   module _ (img : List Float) where
     -- the angles of the tally that was gathered
-    pub about : (win : Window) (g : Gathered) (a : Angles) → win ≡ windowAt w h k → g ≡ gatheredOf img win → a ≡ heldOf (anglesOf (g .tally .bins)) → record { angles = a; read = g .read } ≡ directionsOf img w h k
+    pub about : (win : Window) (g : Gathered) (a : Angles) → win ≡ windowAt s k → g ≡ gatheredOf img win → a ≡ heldOf (anglesOf (g .tally .bins)) → record { angles = a; read = g .read } ≡ directionsOf img s k
     unfolding directionsOf anglesAt gatheredOf
     about win g a p q r = rw (r, q, p)
 
-    pub about-holds : Holds (directionsOf img w h k .angles) (anglesAt img w h k)
+    pub about-holds : Holds (directionsOf img s k .angles) (anglesAt img s k)
     unfolding directionsOf anglesAt
     about-holds = peak-rule .held _
 
-    pub about-read : directionsOf img w h k .read ≡ cellsRead (windowAt w h k)
+    pub about-read : directionsOf img s k .read ≡ cellsRead (windowAt s k)
     unfolding directionsOf
     about-read = refl
 
     abbrev fault : ℕ
-    fault = orientFault img w h k
+    fault = orientFault img s k
 
-    pub fault-shape : shapeWrong w h ≡ true → 1 ≡ fault
+    pub fault-shape : shapeWrong (s .width) (s .height) ≡ true → 1 ≡ fault
     unfolding orientFault firstFault
     fault-shape e = rw e
 
-    module _ (shape : shapeWrong w h ≡ false) where
-      pub size-small : h * w ≤ 67108864
-      size-small = let z = sides w h shape in mul-le-mul {n₁ = h} {m₁ = w} {n₂ = 8192} {m₂ = 8192} (z .1) (z .0)
+    module _ (shape : shapeWrong (s .width) (s .height) ≡ false) where
+      pub size-small : s .height * s .width ≤ maxSide * maxSide
+      size-small = let z = sides s shape in mul-le-mul {n₁ = s .height} {m₁ = s .width} {n₂ = maxSide} {m₂ = maxSide} (z .1) (z .0)
 
-      pub fault-length : (length img ≡ h * w → ⊥) → 3 ≡ fault
+      pub fault-length : (length img ≡ s .height * s .width → ⊥) → 3 ≡ fault
       unfolding orientFault firstFault lengthWrong
-      fault-length e = rw (shape, ne-eqb (length img) (h * w) e)
+      fault-length e = rw (shape, ne-eqb (length img) (s .height * s .width) e)
 
-      module _ (whole : length img ≡ h * w) where
-        pub fault-keypoint : keypointWrong w h k ≡ true → 5 ≡ fault
+      module _ (whole : length img ≡ s .height * s .width) where
+        pub fault-keypoint : keypointWrong s k ≡ true → 5 ≡ fault
         unfolding orientFault firstFault lengthWrong
-        fault-keypoint e = rw (shape, eq-eqb (length img) (h * w) whole, e)
+        fault-keypoint e = rw (shape, eq-eqb (length img) (s .height * s .width) whole, e)
 
-        module _ (right : keypointWrong w h k ≡ false) where
-          pub fault-sample : windowGood img (windowAt w h k) ≡ false → 6 ≡ fault
+        module _ (right : keypointWrong s k ≡ false) where
+          pub fault-sample : windowGood img (windowAt s k) ≡ false → 6 ≡ fault
           unfolding orientFault firstFault lengthWrong
-          fault-sample e = rw (shape, eq-eqb (length img) (h * w) whole, right, e)
+          fault-sample e = rw (shape, eq-eqb (length img) (s .height * s .width) whole, right, e)
 
-          pub fault-none : windowGood img (windowAt w h k) ≡ true → 0 ≡ fault
+          pub fault-none : windowGood img (windowAt s k) ≡ true → 0 ≡ fault
           unfolding orientFault firstFault lengthWrong
-          fault-none e = rw (shape, eq-eqb (length img) (h * w) whole, right, e)
+          fault-none e = rw (shape, eq-eqb (length img) (s .height * s .width) whole, right, e)
 
-          pub ready : Ready (length img) w h k
+          pub ready : Ready (length img) s k
           ready = record { whole = whole; aimed = aimed shape right }

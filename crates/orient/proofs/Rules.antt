@@ -9,6 +9,7 @@ use lib.Dec.{leb, ltb}
 use lib.ListN.{length, getD, List·getD-map}
 use lib.Ieee.{Float, nan, binary32, ofBits, ofInt, mul, div, lt, le}
 use lib.Ieee.Scale.{finite}
+use Rattle.lists.proofs.Bools.{and-both}
 use Rattle.ieee.specs.F32.{_⊗_, _⊘_, float}
 use Rattle.ieee.specs.Numbers.{half}
 use Rattle.ieee_laws.proofs.Order.{le-trans-float}
@@ -18,10 +19,10 @@ use Rattle.lists.specs.Ranges.{every}
 use Rattle.params.specs.Limits.{border, maxLayers, maxOctave, scaleLow, scaleHigh}
 use Rattle.params.specs.Table.{within}
 use Rattle.params.specs.declared.Settings.{Settings}
+use Rattle.picture.specs.declared.Size.{Size}
 use Rattle.detect_refine.specs.Sound.{Sound}
 use Rattle.detect_refine.specs.declared.RawKeypoint.{RawKeypoint}
 use Rattle.orient_tally.proofs.Cells.{read-is}
-use Rattle.orient_tally.proofs.Values.{and-both}
 use Rattle.orient_tally.proofs.Every.{every-at}
 use Rattle.orient_peaks.specs.Rules.{maxPeaks}
 use Rattle.orient_peaks.proofs.Rules.{peak-rule}
@@ -32,17 +33,17 @@ use Rattle.orient.specs.declared.OrientedKeypoint.{OrientedKeypoint}
 use Rattle.orient.proofs.Words.{length-map}
 
 -- ---- number and fields
-few : (img : List Float) (w h : ℕ) (k : RawKeypoint) → length (orientedList img w h k) ≤ maxPeaks
+few : (img : List Float) (s : Size) (k : RawKeypoint) → length (orientedList img s k) ≤ maxPeaks
 unfolding orientedList anglesAt
-few img w h k = rw (length-map k (anglesAt img w h k)) (peak-rule .few _)
+few img s k = rw (length-map k (anglesAt img s k)) (peak-rule .few _)
 
 passed-by : (k : RawKeypoint) (a : Float) (o : OrientedKeypoint) → o ≡ orientedOf k a → Passed k o
 passed-by k a o e =
     record { x = ap (λ (z : OrientedKeypoint). z .x) e; y = ap (λ (z : OrientedKeypoint). z .y) e; size = ap (λ (z : OrientedKeypoint). z .size) e; response = ap (λ (z : OrientedKeypoint). z .response) e; octave = ap (λ (z : OrientedKeypoint). z .octave) e }
 
-passed : (img : List Float) (w h : ℕ) (k : RawKeypoint) (i : ℕ) → Passed k (getD (orientedList img w h k) i (orientedOf k nan))
+passed : (img : List Float) (s : Size) (k : RawKeypoint) (i : ℕ) → Passed k (getD (orientedList img s k) i (orientedOf k nan))
 unfolding orientedList
-passed img w h k i = passed-by k (getD (anglesAt img w h k) i nan) _ (List·getD-map (orientedOf k) (anglesAt img w h k) i nan)
+passed img s k i = passed-by k (getD (anglesAt img s k) i nan) _ (List·getD-map (orientedOf k) (anglesAt img s k) i nan)
 
 -- ---- the scale of a keypoint of octave o, whose size is 2^o to 2^7 × 2^o
 abbrev low : ℕ → Float
@@ -83,10 +84,10 @@ scale-in o size h a b =
     rw (s, t)
 
 -- ---- what detection gives is accepted
-module _ (w h o : ℕ) (s : Settings) (k : RawKeypoint) (layers : s .layers ≤ maxLayers) (octave : o ≤ maxOctave) (z : Sound w h s o k) where
-  cell-right : cellWrong w h k ≡ false
+module _ (s : Size) (o : ℕ) (settings : Settings) (k : RawKeypoint) (layers : settings .layers ≤ maxLayers) (octave : o ≤ maxOctave) (z : Sound (s .width) (s .height) settings o k) where
+  cell-right : cellWrong s k ≡ false
   unfolding cellWrong
-  cell-right = rw (lt-ltb (k .rr) h (omega (arith, z .bottom)), lt-ltb (k .cc) w (omega (arith, z .right)))
+  cell-right = rw (lt-ltb (k .rr) (s .height) (omega (arith, z .bottom)), lt-ltb (k .cc) (s .width) (omega (arith, z .right)))
 
   octave-right : octaveWrong (k .octave) ≡ false
   unfolding octaveWrong
@@ -103,15 +104,15 @@ module _ (w h o : ℕ) (s : Settings) (k : RawKeypoint) (layers : s .layers ≤ 
   unfolding scaleWrong scaleOf
   scale-right = rw (z .low-byte, scale-in o (k .size) octave (z .size-from) (z .size-to))
 
-  accepted : keypointWrong w h k ≡ false
+  accepted : keypointWrong s k ≡ false
   unfolding keypointWrong
   accepted = rw (cell-right, octave-right, floats-right, scale-right)
 
 pub orient-rule : OrientRule
 orient-rule =
     record {
-      read = λ w h k. read-is (windowAt w h k);
+      read = λ s k. read-is (windowAt s k);
       few = few;
-      passed = λ img w h k i l. passed img w h k i;
+      passed = λ img s k i l. passed img s k i;
       accepted = accepted;
     }

@@ -15,7 +15,7 @@ use Rattle.orient.specs.Entry.{orientedOf, orientedWords, wordsOf, words
 use Rattle.orient.specs.declared.OrientedKeypoint.{OrientedKeypoint}
 
 -- six stores in a row
-pub six : (l : List ℕ) (i a b c d e f : ℕ) → i + 6 ≤ length l
+pub six : (l : List ℕ) (i a b c d e f : ℕ) → i + orientedWords ≤ length l
     → set (set (set (set (set (set l i a) (i + 1) b) (i + 1 + 1) c) (i + 1 + 1 + 1) d) (i + 1 + 1 + 1 + 1) e) (i + 1 + 1 + 1 + 1 + 1) f ≡ pasted i (a ∷ b ∷ c ∷ d ∷ e ∷ f ∷ []) l
 six l i a b c d e f h =
     let l1 = set l i a in
@@ -48,7 +48,7 @@ pub length-map : (k : RawKeypoint) (a : List Float) → length (map (orientedOf 
 length-map k [] = refl
 length-map k (x ∷ a) = rw (length-map k a)
 
-pub length-words : (os : List OrientedKeypoint) → length (words os) ≡ length os * 6
+pub length-words : (os : List OrientedKeypoint) → length (words os) ≡ length os * orientedWords
 unfolding words
 length-words [] = refl
 length-words (o ∷ os) = omega (arith, length-words os)
@@ -61,7 +61,7 @@ pub words-none : (k : RawKeypoint) (all : List Float) (out : List ℕ) → out �
 unfolding wordsTo words
 words-none k all out = sym (pasted-none 0 out)
 
-pub length-to : (k : RawKeypoint) (all : List Float) (n : ℕ) → n ≤ length all → length (wordsTo k all n) ≡ n * 6
+pub length-to : (k : RawKeypoint) (all : List Float) (n : ℕ) → n ≤ length all → length (wordsTo k all n) ≡ n * orientedWords
 unfolding wordsTo
 length-to k all n h = length-words (map (orientedOf k) (take n all)) ∙ rw (length-map, length-take) (omega arith)
 
@@ -70,14 +70,14 @@ unfolding wordsTo words
 to-more k all d n o h e = rw (e, add-one, take-suc all n d h, map-append, words-append)
 
 -- one more
-pub words-more : (k : RawKeypoint) (all : List Float) (d : Float) (n : ℕ) (o : OrientedKeypoint) (out out₀ new : List ℕ) → n < length all → (n + 1) * 6 ≤ length out₀ → o ≡ orientedOf k (getD all n d)
-    → out ≡ pasted 0 (wordsTo k all n) out₀ → new ≡ pasted (n * 6) (wordsOf o) out → new ≡ pasted 0 (wordsTo k all (n + 1)) out₀
+pub words-more : (k : RawKeypoint) (all : List Float) (d : Float) (n : ℕ) (o : OrientedKeypoint) (out out₀ new : List ℕ) → n < length all → (n + 1) * orientedWords ≤ length out₀ → o ≡ orientedOf k (getD all n d)
+    → out ≡ pasted 0 (wordsTo k all n) out₀ → new ≡ pasted (n * orientedWords) (wordsOf o) out → new ≡ pasted 0 (wordsTo k all (n + 1)) out₀
 words-more k all d n o out out₀ new h r e p q =
     let l = length-to k all n (omega arith) in
     let t : wordsTo k all (n + 1) ≡ wordsTo k all n ++ wordsOf o = to-more k all d n o h e in
     let m : 0 + length (wordsTo k all n ++ wordsOf o) ≤ length out₀ = rw (length-append) (omega arith) in
-    let z : 0 + length (wordsTo k all n) ≡ n * 6 = omega arith in
+    let z : 0 + length (wordsTo k all n) ≡ n * orientedWords = omega arith in
     q ∙ rw (p, t, pasted-append 0 (wordsTo k all n) (wordsOf o) out₀ m, z)
 
-pub length-kept : (k : RawKeypoint) (all : List Float) (n : ℕ) (out : List ℕ) → n ≤ length all → n * 6 ≤ length out → length (pasted 0 (wordsTo k all n) out) ≡ length out
+pub length-kept : (k : RawKeypoint) (all : List Float) (n : ℕ) (out : List ℕ) → n ≤ length all → n * orientedWords ≤ length out → length (pasted 0 (wordsTo k all n) out) ≡ length out
 length-kept k all n out h r = length-pasted 0 (wordsTo k all n) out (omega (arith, length-to k all n h))

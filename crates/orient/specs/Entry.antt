@@ -9,6 +9,7 @@ use Rattle.params.specs.Table.{line, firstFault, shapeWrong, lengthWrong}
 use Rattle.params.specs.Answers.{answerOf, landed}
 use Rattle.params.specs.declared.Answer.{Answer}
 use Rattle.params.specs.declared.Answer.the-variants.{Done, Short, Refused}
+use Rattle.picture.specs.declared.Size.{Size}
 use Rattle.detect_refine.specs.declared.RawKeypoint.{RawKeypoint}
 use Rattle.orient_tally.specs.Window.{windowOf, cellsRead}
 use Rattle.orient_tally.specs.Sample.{windowGood}
@@ -20,22 +21,22 @@ use Rattle.orient.specs.declared.OrientedKeypoint.{OrientedKeypoint}
 use Rattle.orient.specs.declared.OrientAnswer.{OrientAnswer}
 
 -- the window about a keypoint's cell
-unfoldable pub windowAt : ℕ → ℕ → RawKeypoint → Window
-windowAt width height k = windowOf width height (k .rr) (k .cc) (scaleOf k)
+unfoldable pub windowAt : Size → RawKeypoint → Window
+windowAt s k = windowOf s (k .rr) (k .cc) (scaleOf k)
 
--- the checks in the order of rule A3: of the samples only the four neighbours of each cell that is read (rule A13; `tested` in tally/specs/Rules.antt says that it is those)
-unfoldable pub orientFault : List Float → ℕ → ℕ → RawKeypoint → ℕ
-orientFault img width height k =
+-- the checks in the order of rule A3: of the samples only the four neighbours of each cell that is read (rule A13; `tested` in orient_tally/specs/Rules.antt says that it is those)
+unfoldable pub orientFault : List Float → Size → RawKeypoint → ℕ
+orientFault img s k =
     firstFault
-    (line 1 (shapeWrong width height)
-    ∷ line 3 (lengthWrong (length img) (height * width))
-    ∷ line 5 (keypointWrong width height k)
-    ∷ line 6 (not (windowGood img (windowAt width height k)))
+    (line 1 (shapeWrong (s .width) (s .height))
+    ∷ line 3 (lengthWrong (length img) (s .height * s .width))
+    ∷ line 5 (keypointWrong s k)
+    ∷ line 6 (not (windowGood img (windowAt s k)))
     ∷ [])
 
 -- the angles of a keypoint, one for each peak of the tally of its window
-unfoldable pub anglesAt : List Float → ℕ → ℕ → RawKeypoint → List Float
-anglesAt img width height k = anglesOf (tallyOf img (windowAt width height k) .bins)
+unfoldable pub anglesAt : List Float → Size → RawKeypoint → List Float
+anglesAt img s k = anglesOf (tallyOf img (windowAt s k) .bins)
 
 -- the keypoint with an angle: all else passes through
 abbrev pub orientedOf : RawKeypoint → Float → OrientedKeypoint
@@ -43,8 +44,8 @@ orientedOf k angle =
     record { x = k .x; y = k .y; size = k .size; response = k .response; octave = k .octave; angle = angle }
 
 -- the oriented keypoints; none where there is no peak
-unfoldable pub orientedList : List Float → ℕ → ℕ → RawKeypoint → List OrientedKeypoint
-orientedList img width height k = map (orientedOf k) (anglesAt img width height k)
+unfoldable pub orientedList : List Float → Size → RawKeypoint → List OrientedKeypoint
+orientedList img s k = map (orientedOf k) (anglesAt img s k)
 
 -- an oriented keypoint goes out as so many words: rule A18
 abbrev pub orientedWords : ℕ
@@ -67,14 +68,14 @@ abbrev pub answeredWith : Answer → ℕ → OrientAnswer
 answeredWith a read = record { answer = a; samples = samplesWith a read }
 
 -- the number and the count, at `room` words lent: 7 counts oriented keypoints
-unfoldable pub givenBack : List Float → ℕ → ℕ → RawKeypoint → ℕ → Answer
-givenBack img width height k room =
-    answerOf (orientFault img width height k) (length (orientedList img width height k)) (orientedWords * length (orientedList img width height k)) room
+unfoldable pub givenBack : List Float → Size → RawKeypoint → ℕ → Answer
+givenBack img s k room =
+    answerOf (orientFault img s k) (length (orientedList img s k)) (orientedWords * length (orientedList img s k)) room
 
 -- the answer, with the number of cells read
-unfoldable pub orientAnswer : List Float → ℕ → ℕ → RawKeypoint → ℕ → OrientAnswer
-orientAnswer img width height k room = answeredWith (givenBack img width height k room) (cellsRead (windowAt width height k))
+unfoldable pub orientAnswer : List Float → Size → RawKeypoint → ℕ → OrientAnswer
+orientAnswer img s k room = answeredWith (givenBack img s k room) (cellsRead (windowAt s k))
 
 -- the lent words afterwards
-unfoldable pub orientOut : List Float → ℕ → ℕ → RawKeypoint → List ℕ → List ℕ
-orientOut img width height k out = landed (givenBack img width height k (length out)) (words (orientedList img width height k)) out
+unfoldable pub orientOut : List Float → Size → RawKeypoint → List ℕ → List ℕ
+orientOut img s k out = landed (givenBack img s k (length out)) (words (orientedList img s k)) out

@@ -1,10 +1,11 @@
--- The angles found and the cells read, and what the last step makes of them: the answer, and the lent words. Definitions only.
+-- Inner: the angles found and the cells read, and what the last step makes of them: the answer, and the lent words. No part of what a caller is promised. Definitions only.
 use Prim.Native.Nat.{ℕ, _*_}
 use mathlib.Core.List.{List, map}
 use lib.ListN.{length, take}
 use lib.Ieee.{Float}
 use Rattle.params.specs.Answers.{answerOf, landed}
 use Rattle.params.specs.declared.Answer.{Answer}
+use Rattle.picture.specs.declared.Size.{Size}
 use Rattle.detect_refine.specs.declared.RawKeypoint.{RawKeypoint}
 use Rattle.orient_tally.specs.Window.{cellsRead}
 use Rattle.orient_peaks.specs.Found.{heldOf}
@@ -12,8 +13,8 @@ use Rattle.orient.specs.Entry.{windowAt, anglesAt, orientedOf, orientedW
 use Rattle.orient.specs.declared.Directions.{Directions}
 use Rattle.orient.specs.declared.OrientAnswer.{OrientAnswer}
 
-unfoldable pub directionsOf : List Float → ℕ → ℕ → RawKeypoint → Directions
-directionsOf img width height k = record { angles = heldOf (anglesAt img width height k); read = cellsRead (windowAt width height k) }
+unfoldable pub directionsOf : List Float → Size → RawKeypoint → Directions
+directionsOf img s k = record { angles = heldOf (anglesAt img s k); read = cellsRead (windowAt s k) }
 
 unfoldable pub roomFor : Directions → ℕ → Answer
 roomFor d room = answerOf 0 (d .angles .count) (orientedWords * d .angles .count) room

@@ -8,11 +8,12 @@ use Rattle.ieee.specs.F32.{_⊗_, _⊘_, float}
 use Rattle.ieee.specs.Numbers.{half}
 use Rattle.params.specs.Limits.{maxOctave, maxLayers, scaleLow, scaleHigh}
 use Rattle.params.specs.Table.{within}
+use Rattle.picture.specs.declared.Size.{Size}
 use Rattle.detect_refine.specs.declared.RawKeypoint.{RawKeypoint}
 
 -- its cell is none of the picture's
-unfoldable pub cellWrong : ℕ → ℕ → RawKeypoint → Bool
-cellWrong width height k = not (ltb (k .rr) height && ltb (k .cc) width)
+unfoldable pub cellWrong : Size → RawKeypoint → Bool
+cellWrong s k = not (ltb (k .rr) (s .height) && ltb (k .cc) (s .width))
 
 -- the octave word's lowest bytes: rule A12
 abbrev pub octaveIn : ℕ → ℕ
@@ -36,5 +37,5 @@ unfoldable pub scaleWrong : RawKeypoint → Bool
 scaleWrong k = not (within scaleLow scaleHigh (scaleOf k))
 
 -- any of these; layer and moves are not looked at
-unfoldable pub keypointWrong : ℕ → ℕ → RawKeypoint → Bool
-keypointWrong width height k = cellWrong width height k || (octaveWrong (k .octave) || (floatsWrong k || scaleWrong k))
+unfoldable pub keypointWrong : Size → RawKeypoint → Bool
+keypointWrong s k = cellWrong s k || (octaveWrong (k .octave) || (floatsWrong k || scaleWrong k))

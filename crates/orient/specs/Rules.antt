@@ -1,4 +1,4 @@
--- What is proved of orientation beyond the entry's contract: proofs/Rules.antt proves each. Definitions only.
+-- Law: what is proved of orientation beyond the entry's contract: proofs/Rules.antt proves each. Definitions only.
 use Prim.Native.Nat.{ℕ, _*_, _<_, _≤_}
 use mathlib.Core.Path.{_≡_}
 use mathlib.Core.Bool.{false}
@@ -7,6 +7,7 @@ use lib.ListN.{length, getD}
 use lib.Ieee.{Float, nan}
 use Rattle.params.specs.Limits.{maxLayers, maxOctave}
 use Rattle.params.specs.declared.Settings.{Settings}
+use Rattle.picture.specs.declared.Size.{Size}
 use Rattle.detect_refine.specs.Sound.{Sound}
 use Rattle.detect_refine.specs.declared.RawKeypoint.{RawKeypoint}
 use Rattle.orient_tally.specs.Window.{cellsRead}
@@ -25,10 +26,10 @@ pub record Passed (k : RawKeypoint) (o : OrientedKeypoint) : Type 0 where
 
 pub record OrientRule : Type 0 where
   -- n, the number of cells read, is rows × columns
-  pub read : (width height : ℕ) (k : RawKeypoint) → cellsRead (windowAt width height k) ≡ windowAt width height k .rows * windowAt width height k .cols
+  pub read : (s : Size) (k : RawKeypoint) → cellsRead (windowAt s k) ≡ windowAt s k .rows * windowAt s k .cols
   -- at most 18 oriented keypoints
-  pub few : (img : List Float) (width height : ℕ) (k : RawKeypoint) → length (orientedList img width height k) ≤ maxPeaks
+  pub few : (img : List Float) (s : Size) (k : RawKeypoint) → length (orientedList img s k) ≤ maxPeaks
   -- x, y, size, response and octave pass through unchanged
-  pub passed : (img : List Float) (width height : ℕ) (k : RawKeypoint) (i : ℕ) → i < length (orientedList img width height k) → Passed k (getD (orientedList img width height k) i (orientedOf k nan))
+  pub passed : (img : List Float) (s : Size) (k : RawKeypoint) (i : ℕ) → i < length (orientedList img s k) → Passed k (getD (orientedList img s k) i (orientedOf k nan))
   -- every keypoint that detection can give for a picture of that size passes number 5
-  pub accepted : (width height octave : ℕ) (s : Settings) (k : RawKeypoint) → s .layers ≤ maxLayers → octave ≤ maxOctave → Sound width height s octave k → keypointWrong width height k ≡ false
+  pub accepted : (s : Size) (octave : ℕ) (settings : Settings) (k : RawKeypoint) → settings .layers ≤ maxLayers → octave ≤ maxOctave → Sound (s .width) (s .height) settings octave k → keypointWrong s k ≡ false

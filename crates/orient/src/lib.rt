@@ -4,6 +4,7 @@ use detect_refine::RawKeypoint;
 use orient_peaks::Angles;
 use orient_tally::Window;
 use params::Answer;
+use picture::Size;
 ghost use mathlib.Core.Path.{_≡_};
 ghost use mathlib.Core.Bool.{false};
 ghost use mathlib.Core.List.{List, map};
@@ -12,6 +13,7 @@ ghost use lib.Ieee.{Float};
 ghost use lib.ListN.{length, take};
 ghost use Rattle.lists.specs.Pasted.{pasted};
 ghost use Rattle.params.specs.Limits.{maxOctave};
+ghost use Rattle.orient_tally.specs.Sample.{bins};
 ghost use Rattle.orient.specs.Keypoint.{cellWrong, octaveIn, octaveWrong, floatsWrong, scaleOf, scaleWrong, keypointWrong};
 ghost use Rattle.orient.specs.Entry.{windowAt, orientFault, orientedOf, orientedWords, wordsOf, words, orientAnswer, orientOut};
 ghost use Rattle.orient.specs.Given.{directionsOf, givenWith, leftWith};
@@ -35,10 +37,10 @@ pub struct OrientAnswer {
 
 // ---- number 5
 
-fn cell_wrong(w: usize, h: usize, k: RawKeypoint) -> bool
-    ensures { λ b. ⌜ b ≡ cellWrong w h k ⌝ }
+fn cell_wrong(s: Size, k: RawKeypoint) -> bool
+    ensures { λ b. ⌜ b ≡ cellWrong s k ⌝ }
 {
-    !(((k.rr as usize) < h) & ((k.cc as usize) < w))
+    !(((k.rr as usize) < s.height) & ((k.cc as usize) < s.width))
 }
 
 fn octave_wrong(word: u32) -> bool
@@ -75,10 +77,10 @@ fn scale_wrong(k: RawKeypoint) -> bool
 }
 
 // A field is outside its range.
-pub fn keypoint_wrong(w: usize, h: usize, k: RawKeypoint) -> bool
-    ensures { λ b. ⌜ b ≡ keypointWrong w h k ⌝ }
+pub fn keypoint_wrong(s: Size, k: RawKeypoint) -> bool
+    ensures { λ b. ⌜ b ≡ keypointWrong s k ⌝ }
 {
-    if cell_wrong(w, h, k) {
+    if cell_wrong(s, k) {
         return true;
     }
     if octave_wrong(k.octave) {
@@ -87,28 +89,28 @@ pub fn keypoint_wrong(w: usize, h: usize, k: RawKeypoint) -> bool
     floats_wrong(k) | scale_wrong(k)
 }
 
-fn window_at(w: usize, h: usize, k: RawKeypoint) -> Window
-    requires { ⌜ Aimed w h k ⌝ }
-    ensures { λ r. ⌜ r ≡ windowAt w h k ⌝ }
+fn window_at(s: Size, k: RawKeypoint) -> Window
+    requires { ⌜ Aimed s k ⌝ }
+    ensures { λ r. ⌜ r ≡ windowAt s k ⌝ }
 {
-    orient_tally::window_of(w, h, k.rr as usize, k.cc as usize, scale_of(k))
+    orient_tally::window_of(s, k.rr as usize, k.cc as usize, scale_of(k))
 }
 
 // The first fault in the order of the table, 0 for none; room is tested later.
-fn fault_of(img: &[f32], w: usize, h: usize, k: RawKeypoint) -> u32
-    ensures { λ b. ⌜ b ≡ orientFault (now (img .entry)) w h k ⌝ }
-    ensures { λ b. ⌜ (b ≡ 0 → Ready (length (now (img .entry))) w h k) ⌝ }
+fn fault_of(img: &[f32], s: Size, k: RawKeypoint) -> u32
+    ensures { λ b. ⌜ b ≡ orientFault (now (img .entry)) s k ⌝ }
+    ensures { λ b. ⌜ (b ≡ 0 → Ready (length (now (img .entry))) s k) ⌝ }
 {
-    if params::shape_wrong(w, h) {
+    if params::shape_wrong(s.width, s.height) {
         return 1;
     }
-    if img.len() != h * w {
+    if img.len() != s.height * s.width {
         return 3;
     }
-    if keypoint_wrong(w, h, k) {
+    if keypoint_wrong(s, k) {
         return 5;
     }
-    if orient_tally::window_good(img, window_at(w, h, k)) {
+    if orient_tally::window_good(img, window_at(s, k)) {
         0
     } else {
         6
@@ -149,7 +151,7 @@ fn put(out: &mut [u32], at: usize, o: OrientedKeypoint)
 }
 
 fn put_all(k: RawKeypoint, all: &[f32; 36], count: usize, out: &mut [u32])
-    requires { ⌜ (count ≤ 36) × ((count ≤ length (now all)) × (orientedWords * count ≤ length (now out))) ⌝ }
+    requires { ⌜ (count ≤ bins) × ((count ≤ length (now all)) × (orientedWords * count ≤ length (now out))) ⌝ }
     ensures { λ _. ⌜ now (out .exit) ≡ pasted 0 (words (map (orientedOf k) (take count (now (all .entry))))) (now (out .entry)) ⌝ }
 {
     let mut i: usize = 0;
@@ -165,11 +167,11 @@ pub struct Directions {
     pub read: usize,
 }
 
-fn angles_about(img: &[f32], w: usize, h: usize, k: RawKeypoint) -> Directions
-    requires { ⌜ Ready (length (now img)) w h k ⌝ }
-    ensures { λ d. ⌜ d ≡ directionsOf (now (img .entry)) w h k ⌝ }
+fn angles_about(img: &[f32], s: Size, k: RawKeypoint) -> Directions
+    requires { ⌜ Ready (length (now img)) s k ⌝ }
+    ensures { λ d. ⌜ d ≡ directionsOf (now (img .entry)) s k ⌝ }
 {
-    let g = orient_tally::tally_of(img, window_at(w, h, k));
+    let g = orient_tally::tally_of(img, window_at(s, k));
     let t = g.tally;
     let b = t.bins;
     Directions {
@@ -180,7 +182,7 @@ fn angles_about(img: &[f32], w: usize, h: usize, k: RawKeypoint) -> Directions
 
 // Room is counted first: all words are written, or none.
 fn give(k: RawKeypoint, d: Directions, out: &mut [u32]) -> OrientAnswer
-    requires { ⌜ (d .angles .count ≤ 36) × (d .angles .count ≤ length (d .angles .all)) ⌝ }
+    requires { ⌜ (d .angles .count ≤ bins) × (d .angles .count ≤ length (d .angles .all)) ⌝ }
     ensures { λ a. ⌜ a ≡ givenWith d (length (now (out .entry))) ⌝ }
     ensures { λ _. ⌜ now (out .exit) ≡ leftWith k d (now (out .entry)) ⌝ }
 {
@@ -202,22 +204,16 @@ fn give(k: RawKeypoint, d: Directions, out: &mut [u32]) -> OrientAnswer
 }
 
 // An oriented keypoint for each peak of the gradients about a keypoint, as six words each, and the number of cells read.
-pub fn assign_orientations(
-    img: &[f32],
-    w: usize,
-    h: usize,
-    k: RawKeypoint,
-    out: &mut [u32],
-) -> OrientAnswer
-    ensures { λ a. ⌜ a ≡ orientAnswer (now (img .entry)) w h k (length (now (out .entry))) ⌝ }
-    ensures { λ _. ⌜ now (out .exit) ≡ orientOut (now (img .entry)) w h k (now (out .entry)) ⌝ }
+pub fn assign_orientations(img: &[f32], s: Size, k: RawKeypoint, out: &mut [u32]) -> OrientAnswer
+    ensures { λ a. ⌜ a ≡ orientAnswer (now (img .entry)) s k (length (now (out .entry))) ⌝ }
+    ensures { λ _. ⌜ now (out .exit) ≡ orientOut (now (img .entry)) s k (now (out .entry)) ⌝ }
 {
-    let fault = fault_of(img, w, h, k);
+    let fault = fault_of(img, s, k);
     if fault != 0 {
         return OrientAnswer {
             answer: Answer::Refused(fault),
             samples: 0,
         };
     }
-    give(k, angles_about(img, w, h, k), out)
+    give(k, angles_about(img, s, k), out)
 }

@@ -18,14 +18,15 @@ use Rattle.ieee_laws.proofs.Monotone.{nil}
 use Rattle.ieee_laws.proofs.Bounds.{Bounds, bounds-wider, bounds-point, add-bounds, mul-bounds, fma-bounds}
 use Rattle.ieee.proofs.Held.{fma-fits}
 use Rattle.lists.specs.Ranges.{joined}
-use Rattle.hal.specs.Numbers.{one}
+use Rattle.ieee.specs.Numbers.{one}
 use Rattle.orient_tally.specs.Tally.{sampleOf, shareOf, added, tallied, empty, tallyOf}
 use Rattle.orient_tally.specs.Place.{cellAt}
 use Rattle.orient_tally.specs.declared.Window.{Window}
 use Rattle.orient_tally.specs.declared.Sample.{Sample}
 use Rattle.orient_tally.specs.declared.Tally.{Tally}
 use Rattle.orient_tally.proofs.Cells.{part-at, after, after-none, after-more, after-all}
-use Rattle.orient_peaks.specs.Peaks.{bins, around, outer, inner, middle, smoothAt, smoothed}
+use Rattle.orient_tally.specs.Sample.{bins}
+use Rattle.orient_peaks.specs.Peaks.{around, outer, inner, middle, smoothAt, smoothed}
 
 -- A bin that holds at most `brim` still does after a sample of a magnitude up to `heap`, and after smoothing: what is worked out at the ends.
 pub record Ceiling (heap brim : Float) : Type 0 where

@@ -14,6 +14,7 @@ use lib.Ieee.Exact.{HasValue, round-exact}
 use lib.Ieee.Order.{round-mono}
 use lib.Ieee.Positive.{positive-of-value, mul-at, values-of-le}
 use lib.Ieee.Scale.{finite, grid, overflow, round-val, round-under}
+use Rattle.lists.proofs.Bools.{is-T}
 use Rattle.ieee.specs.F32.{_⊖_, _⊗_, _⊘_}
 use Rattle.ieee.specs.Numbers.{half, two}
 use Rattle.ieee_laws.proofs.Monotone.{nil}
@@ -49,10 +50,6 @@ value-finite : (x : Float) (a c : ℕ) → HasValue x false a c → finite x ≡
 value-finite nan a c h = absurd h
 value-finite (inf s) a c h = absurd h
 value-finite (fin s m e) a c h = refl
-
-pub of-true : (b : Bool) → b ≡ true → T b
-of-true true h = tt
-of-true false h = absurd (false≢true h)
 
 module _ (l m r : Float) (ul : Units l) (um : Units m) (ur : Units r) (lm : lt l m ≡ true) (rm : lt r m ≡ true)
     (cap : ℕ) (room : cap * 2 ≡ overflow binary32) (fine : 8 * (um .digits * 2 ^ um .place) < cap) where
@@ -194,7 +191,7 @@ module _ (l m r : Float) (ul : Units l) (um : Units m) (ur : Units r) (lm : lt l
 
     x-value : HasValue (half ⊗ n) false X U
     x-value =
-        rw x-is (round-val binary32 (1 * D') (2 * U) (round-under binary32 (1 * D') (2 * U) (of-true _ (subst (λ (y : Float). finite y ≡ true) x-is (bounds-finite x-bounds)))))
+        rw x-is (round-val binary32 (1 * D') (2 * U) (round-under binary32 (1 * D') (2 * U) (is-T _ (subst (λ (y : Float). finite y ≡ true) x-is (bounds-finite x-bounds)))))
 
     x-few : X ≤ D''
     x-few = ⊎-elim (λ z. omega arith) (λ p. le-of-mul-le-mul-right (values-of-le (half ⊗ n) (round binary32 false D' U) X U D'' U (positive-of-value (half ⊗ n) X U x-value p) (positive-of-value (round binary32 false D' U) D'' U again-value (omega (arith, again .low, some-n))) x-value again-value x-below) (pow-pos 149)) (eq-zero-or-pos X)

@@ -14,7 +14,7 @@ use lib.Ieee.Exact.{HasValue}
 use lib.Ieee.Fits.{nearest-le}
 use lib.Ieee.Nearest.{closest, closest-same, nearest-ge}
 use lib.Ieee.Scale.{grid, overflow, round-val}
-use Rattle.packing.proofs.Size.{le-or-lt}
+use Rattle.lists.proofs.Naturals.{le-or-lt}
 
 -- ---- the nearest whole number
 record Close (n u c : ℕ) : Type 0 where

@@ -12,6 +12,7 @@ use lib.Ieee.{Float, nan, inf, fin, binary32, up, down, unlike, round, sum, neg,
 use lib.Ieee.Fits.{up-pos, down-pos}
 use lib.Ieee.Exact.{HasValue}
 use lib.Ieee.Scale.{finite, overflow}
+use Rattle.lists.proofs.Bools.{not-not}
 use Rattle.packing.proofs.Sums.{sum-comm, order}
 use Rattle.ieee.specs.F32.{_⊕_, _⊖_, _⊗_, _⊘_}
 use Rattle.ieee.specs.Numbers.{half, two}
@@ -25,10 +26,6 @@ use Rattle.ieee_laws.proofs.Bounds.{Bounds}
 use Rattle.orient_laws.proofs.Near.{gap, divisor}
 use Rattle.orient_laws.proofs.Units.{At, Units, sub-units, sub-level}
 use Rattle.orient_laws.proofs.Crest as C
-
-not-not : (s : Bool) → not (not s) ≡ s
-not-not true = refl
-not-not false = refl
 
 neg-back : (x : Float) → Turned true (neg x) x
 unfolding neg

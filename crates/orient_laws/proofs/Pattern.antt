@@ -12,8 +12,8 @@ use lib.Pow.{pow-pos, pow-add, pow-mono}
 use lib.Ieee.{Float, inf, fin, binary32, hid, top, lt, ofBits, toBits}
 use lib.Ieee.Exact.{HasValue}
 use lib.Ieee.Scale.{finite}
+use Rattle.lists.proofs.Naturals.{le-or-lt}
 use Rattle.ieee.specs.Numbers.{wholeTurn}
-use Rattle.packing.proofs.Size.{le-or-lt}
 use Rattle.packing.proofs.Fields.{value-low, value-normal}
 use Rattle.ieee_laws.proofs.Order.{Marked, endless, ended}
 use Rattle.sheet.specs.Layout.{largestAngle}

@@ -1,48 +1,48 @@
 -- The law of orientation's angles that specs/Rules.antt states. Assumes nothing.
 use Prim.Native.Nat.{ℕ, zero, suc, _+_, _-_, _*_, _/_, _%_, _^_, _<_, _≤_}
 use mathlib.Core.Path.{_≡_, refl, sym, ap, _∙_, subst}
-use mathlib.Core.Bool.{Bool, true, false, not, _&&_, _||_, cond, Bool·beq, false≢true}
-use mathlib.Core.List.{List, [], _∷_, _++_, map}
+use mathlib.Core.Bool.{Bool, true, false, not, _&&_, _||_, Bool·beq, false≢true}
+use mathlib.Core.List.{List, [], _∷_, map}
 use mathlib.Core.Logic.{_⊎_, inl, inr, ⊎-elim}
 use native.Mathlib.Omega.{arith}
-use native.Mathlib.Nat.{one-mul, zero-mul, mul-pos, mul-right-comm, eq-of-mul-eq-mul-right}
+use native.Mathlib.Nat.{zero-mul, mul-pos, mul-right-comm, eq-of-mul-eq-mul-right}
 use borrow.Author.Tests.{eqb-true, not-false, le-ltb}
 use lib.Dec.{T, eqb, lit≤}
-use lib.ListN.{length, getD, length-append, List·getD-append, List·getD-map}
-use lib.Seq.{getD-append-add}
+use lib.ListN.{length, getD, List·getD-map}
 use lib.IntN.{ℤ, pos}
 use lib.Ieee.{Float, nan, inf, fin, binary32, up, down, sum, neg, add, sub, lt, le, eq, ofBits}
 use lib.Ieee.Bits.{is-true}
 use lib.Ieee.Fits.{down-pos}
 use lib.Ieee.Scale.{finite}
-use Rattle.packing.proofs.Size.{le-or-lt}
+use Rattle.lists.proofs.Bools.{and-both, is-T}
 use Rattle.ieee.specs.F32.{_⊖_, _<ᶠ_, _≤ᶠ_, absOf}
-use Rattle.ieee.specs.Numbers.{nought}
+use Rattle.ieee.specs.Numbers.{nought, one}
 use Rattle.ieee.proofs.SignedParts.{round-zero}
 use Rattle.ieee_laws.proofs.Monotone.{nil}
 use Rattle.ieee_laws.proofs.Order.{le-lt-trans, le-trans-float, lt-not-le, Marked, endless, ended}
 use Rattle.ieee_laws.proofs.Bounds.{Bounds, bounds-finite, bounds-point, marked-nonneg}
-use Rattle.lists.specs.Ranges.{joined}
-use Rattle.lists.proofs.Ranges.{joined-start, joined-more, joined-empty}
+use Rattle.lists.proofs.Ranges.{joined-empty}
 use Rattle.params.specs.Table.{firstFault, line, shapeWrong, lengthWrong}
 use Rattle.detect_refine.specs.declared.RawKeypoint.{RawKeypoint}
-use Rattle.hal.specs.Numbers.{one}
 use Rattle.hal.specs.Angle.{small, inAngle}
 use Rattle.hal.specs.Rules.{In}
 use Rattle.hal.proofs.AngleValues.{null}
 use Rattle.hal.proofs.Rules.{exp-rule, magnitude-rule}
-use Rattle.picture.specs.Stack.{sample}
-use Rattle.picture.proofs.Index.{index}
-use Rattle.orient_tally.specs.Window.{windowOf, cell}
-use Rattle.orient_tally.specs.Sample.{slopeAt, weightAt, windowGood}
+use Rattle.lists.specs.Each.{Each, none, more}
+use Rattle.lists.proofs.Each.{each-one, each-when, each-joined}
+use Rattle.picture.specs.Picture.{pixel, slopeAt}
+use Rattle.picture.specs.Place.{Around}
+use Rattle.picture.specs.declared.Size.{Size}
+use Rattle.picture.proofs.Index.{spot}
+use Rattle.orient_tally.specs.Window.{windowOf}
+use Rattle.orient_tally.specs.Sample.{bins, weightAt, windowGood}
 use Rattle.orient_tally.specs.Tally.{sampleOf, tallyOf}
-use Rattle.orient_tally.specs.Place.{Placed, cellAt}
+use Rattle.orient_tally.specs.Place.{Fits, cellAt}
 use Rattle.orient_tally.specs.declared.Window.{Window}
 use Rattle.orient_tally.proofs.Cells.{placed, placed-at}
 use Rattle.orient_tally.proofs.Cells as cells
 use Rattle.orient_tally.proofs.Rules.{tally-rule}
-use Rattle.orient_tally.proofs.Values.{and-both}
-use Rattle.orient_peaks.specs.Peaks.{bins, around, isPeak, leastOf, peakAngle, peakOf, anglesIn, anglesOf, smoothed, wrapped, crestOf}
+use Rattle.orient_peaks.specs.Peaks.{around, isPeak, leastOf, peakAngle, peakOf, anglesIn, anglesOf, smoothed, wrapped, crestOf}
 use Rattle.orient.specs.Keypoint.{keypointWrong, scaleOf}
 use Rattle.orient.specs.Accepted.{Aimed}
 use Rattle.orient.specs.Entry.{windowAt, orientFault, anglesAt, orientedOf, orientedList}
@@ -51,7 +51,6 @@ use Rattle.orient.proofs.Words.{length-map}
 use Rattle.orient.specs.declared.OrientedKeypoint.{OrientedKeypoint}
 use Rattle.orient_laws.specs.Rules.{Turn, Still, AnglesRule}
 use Rattle.orient_laws.proofs.Units.{At, Units, units-of, value-at, at-less}
-use Rattle.orient_laws.proofs.Crest.{of-true}
 use Rattle.orient_laws.proofs.Offset.{offset-in}
 use Rattle.orient_laws.proofs.Wrap.{Angle, crest-in, wrapped-in, degrees-in}
 use Rattle.orient_laws.proofs.Pattern.{angle-finite, pattern}
@@ -90,44 +89,20 @@ module _ (b : List Float) (f : Filled brim b) where
       degrees-in (wrapped (crestOf j x y z)) (wrapped-in (crestOf j x y z) (crest-in j x y z l o))
 
 -- ---- all of them
-Each : List Float → Type 0
-Each l = (i : ℕ) → i < length l → Angle (getD l i nan)
+each-at : {P : Float → Type 0} {l : List Float} → Each P l → (i : ℕ) → i < length l → P (getD l i nan)
+each-at none i h = absurd (omega arith)
+each-at (more p ps) zero h = p
+each-at (more p ps) (suc i) h = each-at ps i (omega arith)
 
-each-none : Each []
-unfolding Each
-each-none i l = absurd (omega arith)
-
-each-one : (a : Float) → Angle a → Each (a ∷ [])
-unfolding Each
-each-one a g zero l = g
-each-one a g (suc i) l = absurd (omega arith)
-
-each-append : (l m : List Float) → Each l → Each m → Each (l ++ m)
-unfolding Each
-each-append l m p q i h =
-    ⊎-elim
-    (λ s. let z : i ≡ length l + (i - length l) = omega arith in
-    subst (λ (k : ℕ). Angle (getD (l ++ m) k nan)) (sym z) (rw (getD-append-add l m (i - length l) nan) (q (i - length l) (omega (arith, simp length-append at h)))))
-    (λ s. rw (List·getD-append l m nan i s) (p i s))
-    (le-or-lt (length l) i)
-
-each-joined : (f : ℕ → List Float) (n : ℕ) → ((j : ℕ) → j < n → Each (f j)) → Each (joined 0 n f)
-each-joined f zero p = rw (joined-start 0 f) each-none
-each-joined f (suc n) p =
-    let z : suc n ≡ n + 1 = omega arith in
-    rw (z, joined-more 0 n f (omega arith)) (each-append (joined 0 n f) (f n) (each-joined f n (λ j l. p j (omega arith))) (p n (omega arith)))
-
-each-peak : (b : List Float) → Filled brim b → (j : ℕ) → j < bins → Each (peakOf (smoothed b) (leastOf (smoothed b)) j)
+each-peak : (b : List Float) → Filled brim b → (j : ℕ) → j < bins → Each Angle (peakOf (smoothed b) (leastOf (smoothed b)) j)
 unfolding peakOf
-each-peak b f j l = go (isPeak (smoothed b) (leastOf (smoothed b)) j) refl
-  where
-    go : (p : Bool) → isPeak (smoothed b) (leastOf (smoothed b)) j ≡ p → Each (cond p (peakAngle (smoothed b) j ∷ []) [])
-    go true e = each-one (peakAngle (smoothed b) j) (peak-angle b f (leastOf (smoothed b)) j l e)
-    go false e = each-none
+each-peak b f j l =
+    each-when (isPeak (smoothed b) (leastOf (smoothed b)) j) (peakAngle (smoothed b) j ∷ [])
+    (λ e. each-one (peak-angle b f (leastOf (smoothed b)) j l e))
 
-each-angle : (b : List Float) → Filled brim b → Each (anglesOf b)
+each-angle : (b : List Float) → Filled brim b → Each Angle (anglesOf b)
 unfolding anglesOf anglesIn
-each-angle b f = each-joined (peakOf (smoothed b) (leastOf (smoothed b))) bins (each-peak b f)
+each-angle b f = each-joined 0 bins (peakOf (smoothed b) (leastOf (smoothed b))) (λ j a l. each-peak b f j l)
 
 -- ---- no bin holds anything: no peak
 module _ (b : List Float) (f : Filled nil b) where
@@ -228,7 +203,7 @@ level-fin s m e t n d u o g p q =
     rw (sub-fin s m e t n d) (level-sum s t u (m * up e) (down e) (n * up d) (down d) (o * up g) (down g) (down-pos e) (down-pos d) (down-pos g) (eq-fin s m e u o g p) (eq-fin t n d u o g q))
 
 level-pair : (x y v : Float) → small (absOf (x ⊖ y)) ≡ true → eq x v ≡ true → eq y v ≡ true → eq (x ⊖ y) nought ≡ true
-unfolding sub neg add absOf le lt eq
+unfolding sub neg add absOf le lt eq ofBits
 level-pair nan y v r p q = absurd (false≢true p)
 level-pair (inf true) nan v r p q = absurd (false≢true q)
 level-pair (inf true) (inf true) v r p q = absurd (false≢true r)
@@ -249,53 +224,53 @@ level-pair (fin s m e) (fin t n d) (fin u o g) r p q = level-fin s m e t n d u o
 in-bounds : {lo hi r : Float} → finite lo ≡ true → finite hi ≡ true → In lo hi r → Bounds lo hi r
 in-bounds {lo} {hi} {r} p q i = record { from = p; to = q; low = is-true _ (i .least); high = is-true _ (i .most) }
 
-record Right (img : List Float) (w h : ℕ) (k : RawKeypoint) : Type 0 where
-  pub shape : shapeWrong w h ≡ false
-  pub whole : lengthWrong (length img) (h * w) ≡ false
-  pub keypoint : keypointWrong w h k ≡ false
-  pub good : windowGood img (windowAt w h k) ≡ true
+record Right (img : List Float) (s : Size) (k : RawKeypoint) : Type 0 where
+  pub shape : shapeWrong (s .width) (s .height) ≡ false
+  pub whole : lengthWrong (length img) (s .height * s .width) ≡ false
+  pub keypoint : keypointWrong s k ≡ false
+  pub good : windowGood img (windowAt s k) ≡ true
 
-right-of : (img : List Float) (w h : ℕ) (k : RawKeypoint) → orientFault img w h k ≡ 0 → Right img w h k
+right-of : (img : List Float) (s : Size) (k : RawKeypoint) → orientFault img s k ≡ 0 → Right img s k
 unfolding orientFault firstFault
-right-of img w h k e = go (shapeWrong w h) (lengthWrong (length img) (h * w)) (keypointWrong w h k) (windowGood img (windowAt w h k)) refl refl refl refl e
+right-of img s k e = go (shapeWrong (s .width) (s .height)) (lengthWrong (length img) (s .height * s .width)) (keypointWrong s k) (windowGood img (windowAt s k)) refl refl refl refl e
   where
-    go : (p q r s : Bool) → shapeWrong w h ≡ p → lengthWrong (length img) (h * w) ≡ q → keypointWrong w h k ≡ r → windowGood img (windowAt w h k) ≡ s
-        → firstFault (line 1 p ∷ line 3 q ∷ line 5 r ∷ line 6 (not s) ∷ []) ≡ 0 → Right img w h k
-    go true q r s a b c d f = absurd (omega arith)
-    go false true r s a b c d f = absurd (omega arith)
-    go false false true s a b c d f = absurd (omega arith)
+    go : (p q r g : Bool) → shapeWrong (s .width) (s .height) ≡ p → lengthWrong (length img) (s .height * s .width) ≡ q → keypointWrong s k ≡ r → windowGood img (windowAt s k) ≡ g
+        → firstFault (line 1 p ∷ line 3 q ∷ line 5 r ∷ line 6 (not g) ∷ []) ≡ 0 → Right img s k
+    go true q r g a b c d f = absurd (omega arith)
+    go false true r g a b c d f = absurd (omega arith)
+    go false false true g a b c d f = absurd (omega arith)
     go false false false false a b c d f = absurd (omega arith)
     go false false false true a b c d f = record { shape = a; whole = b; keypoint = c; good = d }
 
-module _ (img : List Float) (w h : ℕ) (k : RawKeypoint) (fine : orientFault img w h k ≡ 0) where
-  right : Right img w h k
-  right = right-of img w h k fine
+module _ (img : List Float) (s : Size) (k : RawKeypoint) (fine : orientFault img s k ≡ 0) where
+  right : Right img s k
+  right = right-of img s k fine
 
-  same-length : length img ≡ h * w
+  same-length : length img ≡ s .height * s .width
   unfolding lengthWrong
-  same-length = eqb-true (length img) (h * w) (not-false _ (right .whole))
+  same-length = eqb-true (length img) (s .height * s .width) (not-false _ (right .whole))
 
-  aim : Aimed w h k
-  aim = aimed w h k (right .shape) (right .keypoint)
+  aim : Aimed s k
+  aim = aimed s k (right .shape) (right .keypoint)
 
   abbrev win : Window
-  win = windowAt w h k
+  win = windowAt s k
 
   -- what is asked of each cell's sample
   place : (i : ℕ) → i < win .rows * win .cols → cells.At (length img) win i
-  place i l = placed-at (ready-fits w h k (length img) (record { whole = same-length; aimed = aim })) refl l
+  place i l = placed-at (ready-fits s k (length img) (record { whole = same-length; aimed = aim })) refl l
 
   weight-in : (i : ℕ) → i < win .rows * win .cols → Bounds nil one (weightAt win (cellAt win i))
-  unfolding windowAt weightAt
+  unfolding windowAt weightAt ofBits
   weight-in i l =
       let p = place i l in
-      in-bounds refl refl (exp-rule .within _ (of-true _ (tally-rule .exponents w h (k .rr) (k .cc) (scaleOf k) (i / win .cols) (i % win .cols) (aim .row) (aim .column) (aim .scale) (p .row) (p .col))))
+      in-bounds refl refl (exp-rule .within _ (is-T _ (tally-rule .exponents s (k .rr) (k .cc) (scaleOf k) (i / win .cols) (i % win .cols) (aim .row) (aim .column) (aim .scale) (p .row) (p .col))))
 
-  slope-in : (i : ℕ) → i < win .rows * win .cols → T (inAngle (slopeAt img win (cellAt win i) .dx) (slopeAt img win (cellAt win i) .dy))
-  slope-in i l = let p = place i l in of-true _ (tally-rule .slopes img win (i / win .cols) (i % win .cols) (right .good) (p .row) (p .col))
+  slope-in : (i : ℕ) → i < win .rows * win .cols → T (inAngle (slopeAt img (win .size .width) (cellAt win i .row) (cellAt win i .col) .dx) (slopeAt img (win .size .width) (cellAt win i .row) (cellAt win i .col) .dy))
+  slope-in i l = let p = place i l in is-T _ (tally-rule .slopes img win (i / win .cols) (i % win .cols) (right .good) (p .row) (p .col))
 
   heavy : (i : ℕ) → i < win .rows * win .cols → Weighed heap (sampleOf img win (win .rows * win .cols) i (cellAt win i))
-  unfolding sampleOf
+  unfolding sampleOf ofBits
   heavy i l = record { weight = weight-in i l; magnitude = in-bounds refl refl (magnitude-rule .within _ _ (slope-in i l)) }
 
   filled : Filled brim (tallyOf img win .bins)
@@ -310,62 +285,67 @@ module _ (img : List Float) (w h : ℕ) (k : RawKeypoint) (fine : orientFault im
   unfolding ofBits
   turn-of a g = record { least = marked-nonneg (g .clear); below = g .below; ends = angle-finite a (g .clear) (g .below); plain = plain (g .clear); held = g .held; bits = pattern a g }
 
-  angle : (i : ℕ) → i < length (orientedList img w h k) → Turn (getD (orientedList img w h k) i (orientedOf k nan) .angle)
-  unfolding orientedList anglesAt Each
+  angle : (i : ℕ) → i < length (orientedList img s k) → Turn (getD (orientedList img s k) i (orientedOf k nan) .angle)
+  unfolding orientedList anglesAt
   angle i l =
-      let e = List·getD-map (orientedOf k) (anglesAt img w h k) i nan in
-      subst (λ (o : OrientedKeypoint). Turn (o .angle)) (sym e) (turn-of _ (each-angle _ filled i (subst (λ (n : ℕ). i < n) (length-map k (anglesAt img w h k)) l)))
+      let e = List·getD-map (orientedOf k) (anglesAt img s k) i nan in
+      subst (λ (o : OrientedKeypoint). Turn (o .angle)) (sym e) (turn-of _ (each-at (each-angle _ filled) i (subst (λ (n : ℕ). i < n) (length-map k (anglesAt img s k)) l)))
 
   -- ---- nothing rises or falls
-  module _ (still : (i j : ℕ) → i < win .rows → j < win .cols → Still (slopeAt img win (cell (win .top + i) (win .left + j)))) where
+  module _ (still : (i j : ℕ) → i < win .rows → j < win .cols → Still (slopeAt img (win .size .width) (win .top + i) (win .left + j))) where
     light : (i : ℕ) → i < win .rows * win .cols → Weighed nil (sampleOf img win (win .rows * win .cols) i (cellAt win i))
     unfolding sampleOf ofBits
     light i l =
         let p = place i l in
         let z = still (i / win .cols) (i % win .cols) (p .row) (p .col) in
-        let e = magnitude-rule .none _ _ (slope-in i l) (of-true _ (z .dx)) (of-true _ (z .dy)) in
+        let e = magnitude-rule .none _ _ (slope-in i l) (is-T _ (z .dx)) (is-T _ (z .dy)) in
         record { weight = weight-in i l; magnitude = rw e (bounds-point nil refl) }
 
-    none-still : orientedList img w h k ≡ []
+    none-still : orientedList img s k ≡ []
     unfolding orientedList anglesAt
     none-still = ap (map (orientedOf k)) (no-angle (tallyOf img win .bins) (tally-filled nil nil bare img win light))
 
   -- ---- a level picture
   module _ (v : Float) (same : (i : ℕ) → i < length img → eq (getD img i nan) v ≡ true) where
-    one-plane : length img ≡ 1 * h * w
-    one-plane = same-length ∙ ap (λ (n : ℕ). n * w) (sym (one-mul h))
+    fits : Fits (length img) win
+    fits = ready-fits s k (length img) (record { whole = same-length; aimed = aim })
 
-    at : (y x : ℕ) → y < h → x < w → eq (sample img w h 0 y x) v ≡ true
-    unfolding sample
-    at y x c d = same ((0 * h + y) * w + x) (index {n = 1} {p = 0} {r = y} {c = x} (record { whole = one-plane; plane = omega arith; row = c; column = d }) .below)
+    at : (y x : ℕ) → y < win .size .height → x < win .size .width → eq (pixel img (win .size .width) y x) v ≡ true
+    unfolding pixel
+    at y x c d = same (y * win .size .width + x) (spot {s = win .size} {r = y} {c = x} (record { whole = fits .whole; row = c; column = d }) .below)
 
-    level-slope : (y x : ℕ) → Placed (length img) win y x → inAngle (slopeAt img win (cell y x) .dx) (slopeAt img win (cell y x) .dy) ≡ true → Still (slopeAt img win (cell y x))
-    unfolding slopeAt windowAt windowOf
+    level-slope : (y x : ℕ) → Around (length img) (win .size) y x → inAngle (slopeAt img (win .size .width) y x .dx) (slopeAt img (win .size .width) y x .dy) ≡ true → Still (slopeAt img (win .size .width) y x)
+    unfolding slopeAt
     level-slope y x p r =
+        let w = win .size .width in
         let up = p .up in
         let down = p .down in
         let left = p .left in
         let right = p .right in
-        let q = and-both (small (absOf (sample img w h 0 y (x + 1) ⊖ sample img w h 0 y (x - 1)))) (small (absOf (sample img w h 0 (y - 1) x ⊖ sample img w h 0 (y + 1) x))) r in
+        let q = and-both (small (absOf (pixel img w y (x + 1) ⊖ pixel img w y (x - 1)))) (small (absOf (pixel img w (y - 1) x ⊖ pixel img w (y + 1) x))) r in
         record {
           dx = level-pair _ _ v (q .0) (at y (x + 1) (omega arith) right) (at y (x - 1) (omega arith) (omega arith));
           dy = level-pair _ _ v (q .1) (at (y - 1) x (omega arith) (omega arith)) (at (y + 1) x down (omega arith));
         }
 
-    all-still : (i j : ℕ) → i < win .rows → j < win .cols → Still (slopeAt img win (cell (win .top + i) (win .left + j)))
+    all-still : (i j : ℕ) → i < win .rows → j < win .cols → Still (slopeAt img (win .size .width) (win .top + i) (win .left + j))
     all-still i j a b =
-        let f = ready-fits w h k (length img) (record { whole = same-length; aimed = aim }) in
-        level-slope (win .top + i) (win .left + j) (placed f i j a b) (tally-rule .slopes img win i j (right .good) a b)
+        level-slope (win .top + i) (win .left + j) (placed fits i j a b .around) (tally-rule .slopes img win i j (right .good) a b)
 
-    none-level : orientedList img w h k ≡ []
+    none-level : orientedList img s k ≡ []
     none-level = none-still all-still
+
+-- the window's picture is the one that it was asked of
+same-width : (s : Size) (k : RawKeypoint) → windowAt s k .size .width ≡ s .width
+unfolding windowAt windowOf
+same-width s k = refl
 
 pub angles-rule : AnglesRule
 unfolding ofBits
 angles-rule =
     record {
-      bin = λ img w h k i e l. let u = filled img w h k e .each i l in (u .low, u .high);
-      angle = λ img w h k i e l. angle img w h k e i l;
-      still = λ img w h k e z. none-still img w h k e z;
-      level = λ img w h k v e z. none-level img w h k e v z;
+      bin = λ img s k i e l. let u = filled img s k e .each i l in (u .low, u .high);
+      angle = λ img s k i e l. angle img s k e i l;
+      still = λ img s k e z. none-still img s k e (λ i j a b. rw (same-width s k) (z i j a b));
+      level = λ img s k v e z. none-level img s k e v z;
     }

@@ -12,7 +12,7 @@ use lib.Ieee.{Float, nan, inf, fin, binary32, up, down, round, neg, add, sub, le
 use lib.Ieee.Fits.{up-pos, down-pos}
 use lib.Ieee.Exact.{HasValue}
 use lib.Ieee.Scale.{finite, round-same}
-use Rattle.packing.proofs.Size.{le-or-lt}
+use Rattle.lists.proofs.Naturals.{le-or-lt}
 use Rattle.packing.proofs.Sums.{diff-mul}
 use Rattle.ieee.proofs.SignedParts.{round-zero}
 use Rattle.ieee.proofs.SignedParts.{plus, minus}

@@ -17,7 +17,8 @@ use Rattle.ieee_laws.proofs.Order.{lt-le, le-number, le-or-lt-float, le-lt-tran
 use Rattle.ieee_laws.proofs.Monotone.{nil, neg-finite, fma-le-left}
 use Rattle.ieee_laws.proofs.Bounds.{Bounds, bounds-finite, bounds-wider, bounds-point, add-bounds, sub-bounds, ofInt-bounds}
 use Rattle.ieee.proofs.Held.{fma-fits}
-use Rattle.orient_peaks.specs.Peaks.{bins, circle, crestOf, wrapped, closed, degreesOf}
+use Rattle.orient_tally.specs.Sample.{bins}
+use Rattle.orient_peaks.specs.Peaks.{circle, crestOf, wrapped, closed, degreesOf}
 use Rattle.orient_laws.proofs.Offset.{low, high, offsetOf}
 
 -- ---- the top, in bins
@@ -104,11 +105,11 @@ sum-clear f s a b c h = rw sum-is (go s (ltb a b) (ltb b a) (le-ltb b a h))
     go true true q e = round-marked f false (b - a) c
     go true false q e = rw e (round-marked f false (a - b) c)
 
-clear-at : (t : Bool) (n : ℕ) (d : ℤ) → n * up d ≤ 36 * down d → Marked false (fma binary32 (fin true 5 (pos 1)) (fin t n d) (fin false 45 (pos 3)))
+clear-at : (t : Bool) (n : ℕ) (d : ℤ) → n * up d ≤ bins * down d → Marked false (fma binary32 (fin true 5 (pos 1)) (fin t n d) (fin false 45 (pos 3)))
 unfolding fma
 clear-at t n d h = sum-clear binary32 (unlike true t) (5 * 2 ^ 1 * (n * up d) * 1) (45 * 2 ^ 3 * (1 * down d)) (1 * down d * 1) (omega arith)
 
-up-to : (t : Bool) (n : ℕ) (d : ℤ) → le nil (fin t n d) ≡ true → le (fin t n d) (fin false 9 (pos 2)) ≡ true → n * up d ≤ 36 * down d
+up-to : (t : Bool) (n : ℕ) (d : ℤ) → le nil (fin t n d) ≡ true → le (fin t n d) (fin false 9 (pos 2)) ≡ true → n * up d ≤ bins * down d
 up-to false n d a b = let c = le-fin false n d false 9 (pos 2) b .cross in omega arith
 up-to true n d a b = let c = le-fin false 0 (pos 0) true n d a .cross in omega arith
 

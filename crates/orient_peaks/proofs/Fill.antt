@@ -13,7 +13,8 @@ use Rattle.lists.specs.Ranges.{joined}
 use Rattle.lists.specs.Pasted.{pasted}
 use Rattle.lists.proofs.Ranges.{joined-start, joined-more}
 use Rattle.lists.proofs.Pasted.{pasted-none, pasted-append, pasted-one, length-pasted}
-use Rattle.orient_peaks.specs.Peaks.{bins, largestTo, largerOf, leastOf, isPeak, peakAngle, peakOf, anglesIn}
+use Rattle.orient_tally.specs.Sample.{bins}
+use Rattle.orient_peaks.specs.Peaks.{largestTo, largerOf, leastOf, isPeak, peakAngle, peakOf, anglesIn}
 use Rattle.orient_peaks.specs.Found.{heldOf, Holds}
 use Rattle.orient_peaks.specs.declared.Angles.{Angles}
 

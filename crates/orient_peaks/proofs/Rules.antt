@@ -6,10 +6,12 @@ use mathlib.Core.List.{List, [], _∷_, _++_}
 use native.Mathlib.Omega.{arith}
 use lib.ListN.{length, getD, length-append}
 use lib.Ieee.{Float, nan, lt}
+use Rattle.lists.proofs.Bools.{and-left, and-right}
 use Rattle.lists.specs.Ranges.{joined}
 use Rattle.lists.proofs.Ranges.{joined-start, joined-more}
 use Rattle.ieee_laws.proofs.Order.{lt-le, lt-not-le}
-use Rattle.orient_peaks.specs.Peaks.{bins, around, leastOf, isPeak, peakAngle, peakOf, anglesIn, anglesOf, smoothed}
+use Rattle.orient_tally.specs.Sample.{bins}
+use Rattle.orient_peaks.specs.Peaks.{around, leastOf, isPeak, peakAngle, peakOf, anglesIn, anglesOf, smoothed}
 use Rattle.orient_peaks.specs.Rules.{maxPeaks, PeakRule}
 use Rattle.orient_peaks.proofs.Fill.{peak-short, held-holds}
 
@@ -18,19 +20,11 @@ same-place : (h : List Float) (j : ℕ) → around h (j + 1 + bins - 1) ≡ arou
 unfolding around
 same-place h j = let z : (j + 1 + bins - 1) % bins ≡ j % bins = omega arith in ap (λ (k : ℕ). getD h k nan) z
 
-first-of : (a b : Bool) → (a && b) ≡ true → a ≡ true
-first-of true b e = refl
-first-of false b e = absurd (false≢true e)
-
-second-of : (a b : Bool) → (a && b) ≡ true → b ≡ true
-second-of true b e = e
-second-of false b e = absurd (false≢true e)
-
 not-both : (h : List Float) (least : Float) (j : ℕ) → isPeak h least j ≡ true → isPeak h least (j + 1) ≡ true → ⊥
 unfolding isPeak
 not-both h least j p q =
-    let a : lt (around h (j + 1)) (around h j) ≡ true = first-of (lt (around h (j + 1)) (around h j)) _ (second-of (lt (around h (j + bins - 1)) (around h j)) _ p) in
-    let b : lt (around h (j + 1 + bins - 1)) (around h (j + 1)) ≡ true = first-of (lt (around h (j + 1 + bins - 1)) (around h (j + 1))) _ q in
+    let a : lt (around h (j + 1)) (around h j) ≡ true = and-left (lt (around h (j + 1)) (around h j)) _ (and-right (lt (around h (j + bins - 1)) (around h j)) _ p) in
+    let b : lt (around h (j + 1 + bins - 1)) (around h (j + 1)) ≡ true = and-left (lt (around h (j + 1 + bins - 1)) (around h (j + 1))) _ q in
     let c : lt (around h j) (around h (j + 1)) ≡ true = subst (λ (x : Float). lt x (around h (j + 1)) ≡ true) (same-place h j) b in
     lt-not-le (around h (j + 1)) (around h j) a (lt-le (around h j) (around h (j + 1)) c)
 

@@ -1,4 +1,4 @@
--- How a list of angles is handed on: in the first places of an array, with +0 in the others, and how many they are. Definitions only.
+-- Inner: how a list of angles is handed on: in the first places of an array, with +0 in the others, and how many they are. Definitions only.
 use Prim.Native.Nat.{ℕ, _≤_}
 use mathlib.Core.Path.{_≡_}
 use mathlib.Core.List.{List}
@@ -6,7 +6,7 @@ use lib.ListN.{length, take, replicate}
 use lib.Ieee.{Float}
 use Rattle.ieee.specs.Numbers.{nought}
 use Rattle.lists.specs.Pasted.{pasted}
-use Rattle.orient_peaks.specs.Peaks.{bins}
+use Rattle.orient_tally.specs.Sample.{bins}
 use Rattle.orient_peaks.specs.declared.Angles.{Angles}
 
 unfoldable pub heldOf : List Float → Angles

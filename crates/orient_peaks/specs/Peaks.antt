@@ -8,10 +8,7 @@ use lib.Ieee.{Float, nan, binary32, ofInt, neg}
 use Rattle.ieee.specs.F32.{_⊕_, _⊖_, _⊗_, _⊘_, _<ᶠ_, _≤ᶠ_, f32, fused, absOf}
 use Rattle.ieee.specs.Numbers.{nought, half, two, ten, wholeTurn, epsilon}
 use Rattle.lists.specs.Ranges.{joined}
-
--- the number of bins, one for each 10 degrees
-abbrev pub bins : ℕ
-bins = 36
+use Rattle.orient_tally.specs.Sample.{bins}
 
 -- what a circle of bins has k places after its first
 unfoldable pub around : List Float → ℕ → Float

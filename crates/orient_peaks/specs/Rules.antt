@@ -1,4 +1,4 @@
--- What is proved of the peaks: proofs/Rules.antt proves each. Definitions only.
+-- Law: what is proved of the peaks: proofs/Rules.antt proves each. Definitions only.
 use Prim.Native.Nat.{ℕ, _≤_}
 use mathlib.Core.List.{List}
 use lib.ListN.{length}

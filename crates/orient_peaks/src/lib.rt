@@ -2,6 +2,7 @@
 
 ghost use mathlib.Core.Path.{_≡_};
 ghost use Prim.Native.Nat.{_<_, _≤_};
+ghost use Rattle.orient_tally.specs.Sample.{bins};
 ghost use Rattle.orient_peaks.specs.Peaks.{around, smoothAt, smoothed, largerOf, largestTo, leastOf, isPeak, crestOf, wrapped, closed, degreesOf, peakAngle, anglesIn, anglesOf};
 ghost use Rattle.orient_peaks.specs.Found.{heldOf};
 
@@ -18,7 +19,7 @@ fn bin_around(b: &[f32; 36], k: usize) -> f32
 }
 
 fn smooth_at(b: &[f32; 36], i: usize) -> f32
-    requires { ⌜ i < 36 ⌝ }
+    requires { ⌜ i < bins ⌝ }
     ensures { λ r. ⌜ r ≡ smoothAt (now (b .entry)) i ⌝ }
 {
     let far = bin_around(b, i + 36 - 2) + bin_around(b, i + 2);
@@ -59,7 +60,7 @@ fn least_of(h: &[f32; 36]) -> f32
 }
 
 fn is_peak(h: &[f32; 36], least: f32, j: usize) -> bool
-    requires { ⌜ j < 36 ⌝ }
+    requires { ⌜ j < bins ⌝ }
     ensures { λ r. ⌜ r ≡ isPeak (now (h .entry)) least j ⌝ }
 {
     let m = bin_around(h, j);
@@ -70,7 +71,7 @@ fn is_peak(h: &[f32; 36], least: f32, j: usize) -> bool
 
 // The top of the parabola through a peak at bin j and its neighbours.
 fn crest(j: usize, l: f32, m: f32, r: f32) -> f32
-    requires { ⌜ j < 36 ⌝ }
+    requires { ⌜ j < bins ⌝ }
     ensures { λ b. ⌜ b ≡ crestOf j l m r ⌝ }
 {
     let den = l - 2.0 * m + r;
@@ -101,7 +102,7 @@ fn closed_at(a: f32) -> f32
 }
 
 fn peak_angle(h: &[f32; 36], j: usize) -> f32
-    requires { ⌜ j < 36 ⌝ }
+    requires { ⌜ j < bins ⌝ }
     ensures { λ r. ⌜ r ≡ peakAngle (now (h .entry)) j ⌝ }
 {
     let l = bin_around(h, j + 36 - 1);

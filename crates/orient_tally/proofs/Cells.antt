@@ -9,6 +9,7 @@ use native.Mathlib.Omega.{arith}
 use lib.ListN.{length, take, getD, length-append, length-take, List·getD-append}
 use lib.Seq.{take-suc, take-length, getD-append-add}
 use lib.Ieee.{Float}
+use Rattle.lists.proofs.Naturals.{packed}
 use Rattle.lists.specs.Ranges.{joined}
 use Rattle.lists.proofs.Ranges.{joined-start, joined-more}
 use Rattle.orient_tally.specs.Window.{Cell, cell, rowOf, cellsOf, cellsRead}
@@ -17,9 +18,6 @@ use Rattle.orient_tally.specs.Place.{Fits, Placed, cellAt}
 use Rattle.orient_tally.specs.declared.Tally.{Tally}
 use Rattle.orient_tally.specs.declared.Sample.{Sample}
 use Rattle.orient_tally.specs.declared.Window.{Window}
-
-pub packed : {q m c w : ℕ} → q < m → c < w → q * w + c < m * w
-packed {q} {m} {c} {w} a b = omega (arith, mul-le-mul-right w a, suc-mul q w)
 
 -- ---- parts of one length, joined
 module _ {A : Type 0} (lo m : ℕ) (f : ℕ → List A) (e : (i : ℕ) → length (f i) ≡ m) where
@@ -77,7 +75,11 @@ cell-at win k d h =
 -- ---- the cells lie in the picture, with their neighbours
 pub placed : {len : ℕ} {win : Window} → Fits len win → (i j : ℕ) → i < win .rows → j < win .cols → Placed len win (win .top + i) (win .left + j)
 placed {len} {win} f i j a b =
-    record { whole = f .whole; up = omega arith; down = omega arith; left = omega arith; right = omega arith; rows = omega arith; cols = omega arith }
+    record {
+      around = record { whole = f .whole; up = omega arith; down = omega arith; left = omega arith; right = omega arith };
+      rows = omega arith;
+      cols = omega arith;
+    }
 
 pub record At (len : ℕ) (win : Window) (k : ℕ) : Type 0 where
   pub some : 0 < win .cols

@@ -6,6 +6,7 @@ use mathlib.Core.Logic.{⊎-elim}
 use native.Mathlib.Nat.{eq-or-lt-of-le, le-of-suc-le-suc}
 use native.Mathlib.Numerals.{add-one}
 use native.Mathlib.Omega.{arith}
+use Rattle.lists.proofs.Bools.{and-false}
 use Rattle.lists.specs.Ranges.{every}
 
 pub every-none : (t : ℕ → Bool) → true ≡ every 0 t
@@ -15,10 +16,6 @@ every-none t = refl
 pub every-more : (n : ℕ) (t : ℕ → Bool) → every n t && t n ≡ every (n + 1) t
 unfolding every
 every-more n t = rw add-one
-
-and-false : (b : Bool) → (b && false) ≡ false
-and-false true = refl
-and-false false = refl
 
 -- one that fails is enough
 pub every-fails : (n i : ℕ) (t : ℕ → Bool) → i < n → t i ≡ false → every n t ≡ false

@@ -11,35 +11,41 @@ use lib.ListN.{length, getD}
 use lib.IntN.{pos}
 use lib.Ieee.{Float, nan, inf, fin, binary32, ofBits, ofInt, neg, sub, mul, div, lt, le, eq, toUnsigned, isNan}
 use lib.Ieee.Scale.{finite}
+use Rattle.lists.proofs.Naturals.{packed}
+use Rattle.lists.proofs.Bools.{and-both, or-true}
 use Rattle.ieee.specs.F32.{_⊖_, _⊗_, _⊘_, f32, rounded, absOf}
 use Rattle.ieee.specs.Whole.{roundEven}
-use Rattle.ieee.specs.Numbers.{threeHalves, one, two}
+use Rattle.ieee.specs.Numbers.{nought, threeHalves, one, two}
 use Rattle.ieee_laws.specs.Sign.{Turned, of-inf, of-fin, turned, nought as no-sign}
 use Rattle.ieee_laws.proofs.Order.{le-or-lt-float, lt-le, le-number, lt-not-le, lt-le-trans}
 use Rattle.ieee_laws.proofs.Monotone.{nil, toUnsigned-le}
 use Rattle.ieee_laws.proofs.Bounds.{Bounds, bounds-point, bounds-wider, sub-bounds, mul-bounds, div-bounds, roundEven-bounds, ofInt-bounds}
 use Rattle.ieee_laws.proofs.Turned.{neg-opp, mul-turned, div-turned, le-turned, nonzero}
 use Rattle.ieee_laws.proofs.TurnedOps.{same, nonzero-of}
-use Rattle.params.proofs.Bools.{or-true}
 use Rattle.params.specs.Limits.{sampleLimit, scaleLow, scaleHigh}
-use Rattle.params.specs.Table.{within, goodSample}
-use Rattle.hal.specs.Numbers.{nought, minus32, furthest}
+use Rattle.params.specs.Table.{within, goodSample, allGood}
+use Rattle.picture.specs.Picture.{pixel, slopeAt, fourAt, firstIn, pastIn}
+use Rattle.picture.specs.declared.Size.{Size}
+use Rattle.picture.proofs.Slopes.{good-slope}
+use Rattle.hal.specs.Numbers.{minus32, furthest}
 use Rattle.hal.specs.Exp.{inDown}
 use Rattle.hal.specs.Angle.{small, inAngle}
 use Rattle.lists.specs.Ranges.{every}
-use Rattle.orient_tally.specs.Window.{radiusFactor, radiusOf, sigmaOf, falloffOf, spanOf, windowOf, cell, cellsOf, cellsRead}
-use Rattle.orient_tally.specs.Sample.{pixel, slopeAt, squareAt, apart, fourGood, rowGood, windowGood}
-use Rattle.orient_tally.specs.Rules.{TallyRule}
+use Rattle.orient_tally.specs.Window.{radiusFactor, radiusOf, sigmaOf, falloffOf, windowOf, Cell, cell, cellsRead}
+use Rattle.orient_tally.specs.Sample.{squareAt, apart, rowGood, windowGood}
+use Rattle.orient_tally.specs.Rules.{readAt, TallyRule}
 use Rattle.orient_tally.specs.declared.Window.{Window}
-use Rattle.orient_tally.proofs.Values.{and-both}
-use Rattle.orient_tally.proofs.Cells.{read-is, cell-at, cell-in, some-cols, packed}
+use Rattle.orient_tally.proofs.Cells.{read-is, cell-at, cell-in, some-cols}
 use Rattle.orient_tally.proofs.Spans.{Spans, spans}
 use Rattle.orient_tally.proofs.Every.{every-at, every-all}
 
 -- ---- what is tested is what is read
 module _ (img : List Float) (win : Window) where
+  abbrev goodAbout : Cell → Bool
+  goodAbout c = allGood (fourAt img (win .size .width) (c .row) (c .col))
+
   abbrev cellsTest : ℕ → Bool
-  cellsTest k = fourGood img win (getD (cellsOf win) k (cell 0 0))
+  cellsTest k = goodAbout (readAt win k)
 
   read-good : windowGood img win ≡ true → every (cellsRead win) cellsTest ≡ true
   unfolding windowGood rowGood
@@ -49,59 +55,30 @@ module _ (img : List Float) (win : Window) where
       each k h =
           let c = some-cols (win .rows) (win .cols) k h in
           let r = every-at (win .rows) (k / win .cols) (λ i. rowGood img win (win .top + i)) g (div-lt-iff-lt-mul c .1 h) in
-          ap (fourGood img win) (cell-at win k (cell 0 0) h) ∙ every-at (win .cols) (k % win .cols) (λ j. fourGood img win (cell (win .top + k / win .cols) (win .left + j))) r (mod-lt k c)
+          ap goodAbout (cell-at win k (cell 0 0) h) ∙ every-at (win .cols) (k % win .cols) (λ j. goodAbout (cell (win .top + k / win .cols) (win .left + j))) r (mod-lt k c)
 
   good-read : every (cellsRead win) cellsTest ≡ true → windowGood img win ≡ true
   unfolding windowGood rowGood
   good-read g = every-all (win .rows) _ (λ i a. every-all (win .cols) _ (λ j b. each i j a b))
     where
-      each : (i j : ℕ) → i < win .rows → j < win .cols → fourGood img win (cell (win .top + i) (win .left + j)) ≡ true
+      each : (i j : ℕ) → i < win .rows → j < win .cols → goodAbout (cell (win .top + i) (win .left + j)) ≡ true
       each i j a b =
           let h : i * win .cols + j < cellsRead win = subst (λ (n : ℕ). i * win .cols + j < n) (sym (read-is win)) (packed a b) in
-          ap (fourGood img win) (sym (cell-in win i j (cell 0 0) a b)) ∙ every-at (cellsRead win) (i * win .cols + j) cellsTest g h
+          ap goodAbout (sym (cell-in win i j (cell 0 0) a b)) ∙ every-at (cellsRead win) (i * win .cols + j) cellsTest g h
 
 same-test : (a b : Bool) → (a ≡ true → b ≡ true) → (b ≡ true → a ≡ true) → a ≡ b
 same-test true b f g = sym (f refl)
 same-test false true f g = g refl
 same-test false false f g = refl
 
--- ---- differences of good samples
-abbrev nearest : Float
-nearest = fin true 1 (pos 21)
-
-far-opp : Turned true nearest furthest
-far-opp = of-fin (turned refl)
-
-small-of : (x : Float) → le nearest x ≡ true → le x furthest ≡ true → small (absOf x) ≡ true
-unfolding absOf isNan
-small-of nan a b = absurd (le-number nan furthest b .0)
-small-of (inf true) a b = le-turned {b = true} (of-inf refl) far-opp ∙ a
-small-of (inf false) a b = b
-small-of (fin true m e) a b = le-turned {b = true} (of-fin (turned refl)) far-opp ∙ a
-small-of (fin false m e) a b = b
-
-good-bounds : (x : Float) → goodSample x ≡ true → Bounds (neg sampleLimit) sampleLimit x
-unfolding ofBits neg
-good-bounds x h = let p = and-both (le (neg sampleLimit) x) (le x sampleLimit) h in record { from = refl; to = refl; low = p .0; high = p .1 }
-
-difference : (x y : Float) → goodSample x ≡ true → goodSample y ≡ true → small (absOf (x ⊖ y)) ≡ true
-unfolding ofBits neg sub le
-difference x y a b =
-    let u = bounds-wider nearest furthest refl refl refl refl (sub-bounds binary32 refl refl (good-bounds x a) (good-bounds y b)) in
-    small-of (x ⊖ y) (u .low) (u .high)
-
 slopes : (img : List Float) (win : Window) (i j : ℕ) → windowGood img win ≡ true → i < win .rows → j < win .cols
-    → inAngle (slopeAt img win (cell (win .top + i) (win .left + j)) .dx) (slopeAt img win (cell (win .top + i) (win .left + j)) .dy) ≡ true
-unfolding windowGood rowGood fourGood slopeAt
+    → inAngle (slopeAt img (win .size .width) (win .top + i) (win .left + j) .dx) (slopeAt img (win .size .width) (win .top + i) (win .left + j) .dy) ≡ true
+unfolding windowGood rowGood
 slopes img win i j g a b =
+    let w = win .size .width in
     let y = win .top + i in
-    let x = win .left + j in
     let r = every-at (win .rows) i (λ i. rowGood img win (win .top + i)) g a in
-    let f = every-at (win .cols) j (λ j. fourGood img win (cell y (win .left + j))) r b in
-    let p = and-both (goodSample (pixel img win y (x + 1)) && goodSample (pixel img win y (x - 1))) _ f in
-    let q = and-both (goodSample (pixel img win y (x + 1))) (goodSample (pixel img win y (x - 1))) (p .0) in
-    let s = and-both (goodSample (pixel img win (y - 1) x)) (goodSample (pixel img win (y + 1) x)) (p .1) in
-    rw (difference (pixel img win y (x + 1)) (pixel img win y (x - 1)) (q .0) (q .1), difference (pixel img win (y - 1) x) (pixel img win (y + 1) x) (s .0) (s .1))
+    good-slope img w y (win .left + j) (every-at (win .cols) j (λ j. allGood (fourAt img w y (win .left + j))) r b)
 
 -- ---- the exponent: over a piece of the scales from a to b
 abbrev spread : Float → Float
@@ -251,7 +228,7 @@ unfolding ofBits mul eq lt
 spread-some s w = nonzero-of (spread s) (above-not-zero (spread s) (lt-le-trans (f32 0) (spread scaleLow) (spread s) refl (spread-bounds s w .low)))
 
 down-in : (s : Float) (n : ℕ) → within scaleLow scaleHigh s ≡ true → n ≤ most s → inDown (ofInt binary32 (pos n) ⊗ falloffOf s) ≡ true
-unfolding falloffOf
+unfolding falloffOf ofBits
 down-in s n w h =
     let u = share-bounds s n w h in
     let q = div-turned {a = true} {b = false} binary32 one-opp (same (spread s)) (spread-some s w) in
@@ -261,19 +238,24 @@ down-in s n w h =
     rw (a, b)
 
 -- the cells of a span are no further than the radius
-reach : (at radius size i : ℕ) → at < size → i < spanOf at radius size .count → apart (spanOf at radius size .start + i) at ≤ radius
-reach at radius size i h l = let s = spans at radius size h in omega (arith, s .back, s .forth)
+near : (at radius first count i : ℕ) → at ≤ first + radius → first + count ≤ suc (at + radius) → i < count → apart (first + i) at ≤ radius
+near at radius first count i a b l = omega arith
 
-exponents : (width height row col : ℕ) (scale : Float) (i j : ℕ) → row < height → col < width → within scaleLow scaleHigh scale ≡ true
-    → i < windowOf width height row col scale .rows → j < windowOf width height row col scale .cols
-    → inDown (ofInt binary32 (pos (squareAt (windowOf width height row col scale) (cell (windowOf width height row col scale .top + i) (windowOf width height row col scale .left + j)))) ⊗ windowOf width height row col scale .falloff) ≡ true
+reach : (at radius side i : ℕ) → at < side → i < pastIn at radius side - firstIn at radius → apart (firstIn at radius + i) at ≤ radius
+reach at radius side i h l =
+    let s = spans at radius side h in
+    near at radius (firstIn at radius) (pastIn at radius side - firstIn at radius) i (s .back) (s .forth) l
+
+exponents : (s : Size) (row col : ℕ) (scale : Float) (i j : ℕ) → row < s .height → col < s .width → within scaleLow scaleHigh scale ≡ true
+    → i < windowOf s row col scale .rows → j < windowOf s row col scale .cols
+    → inDown (ofInt binary32 (pos (squareAt (windowOf s row col scale) (cell (windowOf s row col scale .top + i) (windowOf s row col scale .left + j)))) ⊗ windowOf s row col scale .falloff) ≡ true
 unfolding windowOf squareAt
-exponents width height row col scale i j r c w a b =
+exponents s row col scale i j r c w a b =
     let rad = radiusOf scale in
-    let y = reach row rad height i r a in
-    let x = reach col rad width j c b in
-    let dy = apart (spanOf row rad height .start + i) row in
-    let dx = apart (spanOf col rad width .start + j) col in
+    let y = reach row rad (s .height) i r a in
+    let x = reach col rad (s .width) j c b in
+    let dy = apart (firstIn row rad + i) row in
+    let dx = apart (firstIn col rad + j) col in
     let n : dy * dy + dx * dx ≤ most scale = omega (arith, mul-le-mul {n₁ = dy} {m₁ = dy} {n₂ = rad} {m₂ = rad} y y, mul-le-mul {n₁ = dx} {m₁ = dx} {n₂ = rad} {m₂ = rad} x x) in
     down-in scale (dy * dy + dx * dx) w n
 

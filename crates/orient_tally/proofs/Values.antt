@@ -8,6 +8,7 @@ use borrow.Author.Tests.{le-leb, lt-leb}
 use lib.Dec.{T}
 use lib.IntN.{pos}
 use lib.Ieee.{Float, nan, fin, binary32, ofBits, mul, lt, le, toUnsigned, inUnsigned}
+use Rattle.lists.proofs.Bools.{and-both, is-T}
 use Rattle.ieee.specs.F32.{_⊕_, _⊗_, f32, rounded}
 use Rattle.ieee.specs.Whole.{roundEven}
 use Rattle.ieee_laws.proofs.Order.{lt-le-trans, le-lt-trans, lt-le}
@@ -21,15 +22,6 @@ use Rattle.orient_tally.specs.Window.{radiusFactor}
 use Rattle.orient_tally.specs.Sample.{bins, tenth, binOf}
 use Rattle.orient_tally.specs.Place.{maxReach}
 use Rattle.orient_tally.proofs.Lifted.{significand, place, lifts, amount, lift, lifted, lifted-back}
-
-pub and-both : (a b : Bool) → (a && b) ≡ true → (a ≡ true) × (b ≡ true)
-and-both true true h = (refl, refl)
-and-both true false h = absurd (false≢true h)
-and-both false b h = absurd (false≢true h)
-
-is-T : (b : Bool) → b ≡ true → T b
-is-T true h = tt
-is-T false h = absurd (false≢true h)
 
 of-T : (b : Bool) → T b → b ≡ true
 of-T true h = refl
@@ -108,6 +100,7 @@ abbrev pub Direction : Float → Type 0
 Direction a = (a ≡ nan) ⊎ (T (le (fin false 0 (pos 0)) a) × T (lt a turn))
 
 pub direction : (dx dy : Float) → Direction (angleOf dx dy)
+unfolding ofBits
 direction dx dy = go (inAngle dx dy) refl
   where
     go : (b : Bool) → inAngle dx dy ≡ b → Direction (angleOf dx dy)

@@ -1,7 +1,8 @@
--- What the code asks of a window and of a cell in it. Definitions only.
-use Prim.Native.Nat.{ℕ, suc, _+_, _-_, _*_, _/_, _%_, _<_, _≤_, max}
+-- Inner: what the code asks of a window and of a cell in it, no part of what a caller is promised. Definitions only.
+use Prim.Native.Nat.{ℕ, suc, _+_, _-_, _*_, _/_, _%_, _≤_, max}
 use mathlib.Core.Path.{_≡_}
 use Rattle.params.specs.Limits.{maxSide}
+use Rattle.picture.specs.Place.{Around}
 use Rattle.orient_tally.specs.Window.{Cell, cell}
 use Rattle.orient_tally.specs.Sample.{apart}
 use Rattle.orient_tally.specs.declared.Window.{Window}
@@ -12,13 +13,13 @@ maxReach = 288
 
 -- the window lies inside a picture, whose list is `len` long: neither in its first or last row nor in its first or last column
 pub record Fits (len : ℕ) (win : Window) : Type 0 where
-  pub whole : len ≡ 1 * win .height * win .width
-  pub high : win .height ≤ maxSide
-  pub wide : win .width ≤ maxSide
+  pub whole : len ≡ win .size .height * win .size .width
+  pub high : win .size .height ≤ maxSide
+  pub wide : win .size .width ≤ maxSide
   pub top : 1 ≤ win .top
   pub left : 1 ≤ win .left
-  pub bottom : win .top + win .rows ≤ max 1 (win .height - 1)
-  pub right : win .left + win .cols ≤ max 1 (win .width - 1)
+  pub bottom : win .top + win .rows ≤ max 1 (win .size .height - 1)
+  pub right : win .left + win .cols ≤ max 1 (win .size .width - 1)
   pub above : win .row ≤ win .top + maxReach
   pub below : win .top + win .rows ≤ suc (win .row + maxReach)
   pub before : win .col ≤ win .left + maxReach
@@ -26,11 +27,7 @@ pub record Fits (len : ℕ) (win : Window) : Type 0 where
 
 -- (y, x) and its four neighbours lie in the picture, and it is near the window's middle
 pub record Placed (len : ℕ) (win : Window) (y x : ℕ) : Type 0 where
-  pub whole : len ≡ 1 * win .height * win .width
-  pub up : 1 ≤ y
-  pub down : y + 1 < win .height
-  pub left : 1 ≤ x
-  pub right : x + 1 < win .width
+  pub around : Around len (win .size) y x
   pub rows : apart y (win .row) ≤ maxReach
   pub cols : apart x (win .col) ≤ maxReach
 

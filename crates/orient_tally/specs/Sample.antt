@@ -1,34 +1,21 @@
 -- What one cell of a window gives: a direction's bin, a weight and a magnitude (rules O3 and O4). Definitions only.
 use Prim.Native.Nat.{ℕ, _+_, _-_, _*_}
-use mathlib.Core.Bool.{Bool, _&&_, cond}
+use mathlib.Core.Bool.{Bool, cond}
 use mathlib.Core.List.{List}
 use lib.Dec.{leb}
 use lib.IntN.{pos}
 use lib.Ieee.{Float, binary32, ofInt, toUnsigned}
-use Rattle.ieee.specs.F32.{_⊖_, _⊗_, f32, rounded}
+use Rattle.ieee.specs.F32.{_⊗_, f32, rounded}
 use Rattle.lists.specs.Ranges.{every}
-use Rattle.params.specs.Table.{goodSample}
-use Rattle.picture.specs.Stack.{sample}
+use Rattle.params.specs.Table.{allGood}
+use Rattle.picture.specs.Picture.{fourAt}
 use Rattle.hal.specs.Exp.{expOf}
-use Rattle.orient_tally.specs.Window.{Cell, cell}
+use Rattle.orient_tally.specs.Window.{Cell}
 use Rattle.orient_tally.specs.declared.Window.{Window}
-use Rattle.orient_tally.specs.declared.Slope.{Slope}
 
 -- the number of bins, one for each 10 degrees
 abbrev pub bins : ℕ
 bins = 36
-
--- the picture's sample at a row and a column
-abbrev pub pixel : List Float → Window → ℕ → ℕ → Float
-pixel img win y x = sample img (win .width) (win .height) 0 y x
-
--- right less left, and up less down
-unfoldable pub slopeAt : List Float → Window → Cell → Slope
-slopeAt img win c =
-    record {
-      dx = pixel img win (c .row) (c .col + 1) ⊖ pixel img win (c .row) (c .col - 1);
-      dy = pixel img win (c .row - 1) (c .col) ⊖ pixel img win (c .row + 1) (c .col);
-    }
 
 -- how far apart two places are
 abbrev pub apart : ℕ → ℕ → ℕ
@@ -52,15 +39,10 @@ binOf angle =
     let b = toUnsigned 64 (rounded (tenth ⊗ angle)) in
     cond (leb bins b) (b - bins) b
 
--- number 6 (rule A13): the four neighbours of a cell are good samples
-unfoldable pub fourGood : List Float → Window → Cell → Bool
-fourGood img win c =
-    (goodSample (pixel img win (c .row) (c .col + 1)) && goodSample (pixel img win (c .row) (c .col - 1)))
-    && (goodSample (pixel img win (c .row - 1) (c .col)) && goodSample (pixel img win (c .row + 1) (c .col)))
+-- number 6 (rule A13): the four neighbours of each cell of row y are good samples
+unfoldable pub rowGood : List Float → Window → ℕ → Bool
+rowGood img win y = every (win .cols) (λ j. allGood (fourAt img (win .size .width) y (win .left + j)))
 
 -- so are those of each cell of the window
-unfoldable pub rowGood : List Float → Window → ℕ → Bool
-rowGood img win y = every (win .cols) (λ j. fourGood img win (cell y (win .left + j)))
-
 unfoldable pub windowGood : List Float → Window → Bool
 windowGood img win = every (win .rows) (λ i. rowGood img win (win .top + i))

@@ -8,8 +8,9 @@ use lib.Ieee.{Float, nan}
 use Rattle.ieee.specs.F32.{_⊕_, _⊗_, f32, fused}
 use Rattle.hal.specs.Angle.{angleOf}
 use Rattle.hal.specs.Magnitude.{magnitudeOf}
+use Rattle.picture.specs.Picture.{slopeAt}
 use Rattle.orient_tally.specs.Window.{Cell, cellsOf, cellsRead}
-use Rattle.orient_tally.specs.Sample.{bins, slopeAt, weightAt, binOf}
+use Rattle.orient_tally.specs.Sample.{bins, weightAt, binOf}
 use Rattle.orient_tally.specs.declared.Window.{Window}
 use Rattle.orient_tally.specs.declared.Sample.{Sample}
 use Rattle.orient_tally.specs.declared.Tally.{Tally}
@@ -22,7 +23,7 @@ early n = n - n % 4
 -- the sample of a cell, of n cells read the one after k others: whether it is late goes by the cells read
 unfoldable pub sampleOf : List Float → Window → ℕ → ℕ → Cell → Sample
 sampleOf img win n k c =
-    let s = slopeAt img win c in
+    let s = slopeAt img (win .size .width) (c .row) (c .col) in
     record {
       bin = binOf (angleOf (s .dx) (s .dy));
       weight = weightAt win c;

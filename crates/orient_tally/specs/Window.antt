@@ -1,12 +1,13 @@
 -- The cells about a keypoint that are read: those within the radius and not on the picture's edge (rule O2). Definitions only.
-use Prim.Native.Nat.{ℕ, _+_, _-_, min, max}
+use Prim.Native.Nat.{ℕ, _+_, _-_}
 use mathlib.Core.List.{List, [], _∷_}
 use lib.ListN.{length}
 use lib.Ieee.{Float, neg, toUnsigned}
 use Rattle.ieee.specs.F32.{_⊗_, _⊘_, f32, rounded}
 use Rattle.ieee.specs.Numbers.{threeHalves, one, two}
 use Rattle.lists.specs.Ranges.{joined}
-use Rattle.orient_tally.specs.declared.Span.{Span}
+use Rattle.picture.specs.Picture.{firstIn, pastIn}
+use Rattle.picture.specs.declared.Size.{Size}
 use Rattle.orient_tally.specs.declared.Window.{Window}
 
 -- 4.5
@@ -24,24 +25,18 @@ sigmaOf scale = threeHalves ⊗ scale
 unfoldable pub falloffOf : Float → Float
 falloffOf scale = neg one ⊘ (two ⊗ sigmaOf scale ⊗ sigmaOf scale)
 
--- the places within the radius of one, that are neither the first nor the last of so many: where they start, and how many there are
-unfoldable pub spanOf : ℕ → ℕ → ℕ → Span
-spanOf at radius size = record { start = max 1 (at - radius); count = min (at + radius + 1) (size - 1) - max 1 (at - radius) }
-
--- the window about (row, col) of a picture of height rows of width
-unfoldable pub windowOf : ℕ → ℕ → ℕ → ℕ → Float → Window
-windowOf width height row col scale =
-    let y = spanOf row (radiusOf scale) height in
-    let x = spanOf col (radiusOf scale) width in
+-- the window about (row, col) of a picture: the rows and the columns within the radius, but for those on the edge
+unfoldable pub windowOf : Size → ℕ → ℕ → Float → Window
+windowOf s row col scale =
+    let radius = radiusOf scale in
     record {
-      width = width;
-      height = height;
+      size = s;
       row = row;
       col = col;
-      top = y .start;
-      left = x .start;
-      rows = y .count;
-      cols = x .count;
+      top = firstIn row radius;
+      left = firstIn col radius;
+      rows = pastIn row radius (s .height) - firstIn row radius;
+      cols = pastIn col radius (s .width) - firstIn col radius;
       falloff = falloffOf scale;
     }
 

@@ -1,17 +1,18 @@
 // The tally of 36 bins about a keypoint: the window of cells, a sample of each, and the tally that is lent from sample to sample.
 
+use picture::Size;
 ghost use mathlib.Core.Path.{_≡_};
 ghost use mathlib.Core.Bool.{true};
-ghost use Prim.Native.Nat.{_+_, _*_, _<_, _≤_};
+ghost use Prim.Native.Nat.{_+_, _-_, _*_, _<_, _≤_};
 ghost use lib.ListN.{length};
 ghost use Rattle.params.specs.Limits.{maxSide, scaleLow, scaleHigh};
 ghost use Rattle.params.specs.Table.{within};
 ghost use Rattle.hal.specs.Powers.{powers as table};
 ghost use Rattle.hal.specs.Angle.{angleOf};
-ghost use Rattle.orient_tally.specs.Window.{radiusOf, falloffOf, spanOf, windowOf, cell, cellsRead};
-ghost use Rattle.orient_tally.specs.Sample.{bins, apart, slopeAt, squareAt, weightAt, binOf, fourGood, rowGood, windowGood};
+ghost use Rattle.orient_tally.specs.Window.{radiusOf, falloffOf, windowOf, cell};
+ghost use Rattle.orient_tally.specs.Sample.{bins, apart, weightAt, binOf, rowGood, windowGood};
 ghost use Rattle.orient_tally.specs.Tally.{early, sampleOf, shareOf, added, tallied, empty, tallyOf, gatheredOf};
-ghost use Rattle.orient_tally.specs.Place.{maxReach, Fits, Placed, cellAt};
+ghost use Rattle.orient_tally.specs.Place.{maxReach, Fits, cellAt};
 
 // The tally: a sum of weighted magnitudes for each 10 degrees of direction.
 pub struct Tally {
@@ -26,10 +27,9 @@ pub struct Sample {
     pub late: bool,
 }
 
-// The cells about the cell (row, col) that are read: so many rows from the top one, so many columns from the left one.
+// The cells about the cell (row, col) of a picture that are read: so many rows from the top one, so many columns from the left one.
 pub struct Window {
-    pub width: usize,
-    pub height: usize,
+    pub size: Size,
     pub row: usize,
     pub col: usize,
     pub top: usize,
@@ -37,17 +37,6 @@ pub struct Window {
     pub rows: usize,
     pub cols: usize,
     pub falloff: f32,
-}
-
-pub struct Span {
-    pub start: usize,
-    pub count: usize,
-}
-
-// The differences across a cell.
-pub struct Slope {
-    pub dx: f32,
-    pub dy: f32,
 }
 
 // The tally of a window, and the number of cells read for it.
@@ -72,54 +61,34 @@ fn falloff(scale: f32) -> f32
     -1.0 / (2.0 * sigma * sigma)
 }
 
-fn span_of(at: usize, radius: usize, size: usize) -> Span
-    requires { ⌜ (at < size) × ((size ≤ maxSide) × (radius ≤ maxReach)) ⌝ }
-    ensures { λ r. ⌜ r ≡ spanOf at radius size ⌝ }
+// How many places there are from one to below another.
+fn count(from: usize, past: usize) -> usize
+    ensures { λ n. ⌜ n ≡ past - from ⌝ }
 {
-    let start = if radius < at { at - radius } else { 1 };
-    let past = at + radius + 1;
-    let end = if past < size - 1 { past } else { size - 1 };
-    let count = if start < end { end - start } else { 0 };
-    Span {
-        start: start,
-        count: count,
-    }
+    if from < past { past - from } else { 0 }
 }
 
 // The window about a cell.
-pub fn window_of(width: usize, height: usize, row: usize, col: usize, scale: f32) -> Window
-    requires { ⌜ (row < height) × ((col < width) × ((height ≤ maxSide) × ((width ≤ maxSide) × (within scaleLow scaleHigh scale ≡ true)))) ⌝ }
-    ensures { λ r. ⌜ r ≡ windowOf width height row col scale ⌝ }
+pub fn window_of(s: Size, row: usize, col: usize, scale: f32) -> Window
+    requires { ⌜ (row < s .height) × ((col < s .width) × ((s .height ≤ maxSide) × ((s .width ≤ maxSide) × (within scaleLow scaleHigh scale ≡ true)))) ⌝ }
+    ensures { λ r. ⌜ r ≡ windowOf s row col scale ⌝ }
 {
     let radius = radius_of(scale);
-    let y = span_of(row, radius, height);
-    let x = span_of(col, radius, width);
+    let top = picture::first_in(row, radius);
+    let left = picture::first_in(col, radius);
     Window {
-        width: width,
-        height: height,
+        size: s,
         row: row,
         col: col,
-        top: y.start,
-        left: x.start,
-        rows: y.count,
-        cols: x.count,
+        top: top,
+        left: left,
+        rows: count(top, picture::past_in(row, radius, s.height)),
+        cols: count(left, picture::past_in(col, radius, s.width)),
         falloff: falloff(scale),
     }
 }
 
 // ---- a sample
-
-fn slope_at(img: &[f32], win: Window, y: usize, x: usize) -> Slope
-    requires { ⌜ Placed (length (now img)) win y x ⌝ }
-    ensures { λ r. ⌜ r ≡ slopeAt (now (img .entry)) win (cell y x) ⌝ }
-{
-    let w = win.width;
-    let h = win.height;
-    Slope {
-        dx: picture::at(img, w, h, 1, 0, y, x + 1) - picture::at(img, w, h, 1, 0, y, x - 1),
-        dy: picture::at(img, w, h, 1, 0, y - 1, x) - picture::at(img, w, h, 1, 0, y + 1, x),
-    }
-}
 
 fn distance(a: usize, b: usize) -> usize
     ensures { λ r. ⌜ r ≡ apart a b ⌝ }
@@ -165,7 +134,7 @@ fn sample_at<'a>(img: &'a [f32], powers: &'a [u32; 256], win: Window, n: usize, 
 {
     let y = win.top + k / win.cols;
     let x = win.left + k % win.cols;
-    let s = slope_at(img, win, y, x);
+    let s = picture::slope_at(img, win.size, y, x);
     let late = early_of(n) <= k;
     Sample {
         bin: bin_of(s.dx, s.dy),
@@ -237,19 +206,6 @@ pub fn tally_of(img: &[f32], win: Window) -> Gathered
 
 // ---- the samples' neighbours
 
-fn four_good(img: &[f32], win: Window, y: usize, x: usize) -> bool
-    requires { ⌜ Placed (length (now img)) win y x ⌝ }
-    ensures { λ r. ⌜ r ≡ fourGood (now (img .entry)) win (cell y x) ⌝ }
-{
-    let w = win.width;
-    let h = win.height;
-    let right = picture::good_sample(picture::at(img, w, h, 1, 0, y, x + 1));
-    let left = picture::good_sample(picture::at(img, w, h, 1, 0, y, x - 1));
-    let up = picture::good_sample(picture::at(img, w, h, 1, 0, y - 1, x));
-    let down = picture::good_sample(picture::at(img, w, h, 1, 0, y + 1, x));
-    (right & left) & (up & down)
-}
-
 // Row i of the window.
 fn row_good(img: &[f32], win: Window, i: usize) -> bool
     requires { ⌜ Fits (length (now img)) win × (i < win .rows) ⌝ }
@@ -259,7 +215,7 @@ fn row_good(img: &[f32], win: Window, i: usize) -> bool
     let mut ok = true;
     let mut j: usize = 0;
     while j < win.cols {
-        ok = ok & four_good(img, win, y, win.left + j);
+        ok = ok & picture::four_good(img, win.size, y, win.left + j);
         j += 1;
     }
     ok

@@ -1,4 +1,4 @@
--- What `magnitude` returns, by the case of its code: m has its highest digit at place j, and z zeros above it. Assumes nothing.
+-- What `unsigned_bits` returns, by the case of its code: m has its highest digit at place j, and z zeros above it. Assumes nothing.
 use mathlib.Core.Path.{_≡_, refl, sym, ap, _∙_, subst}
 use mathlib.Core.Logic.{_⊎_, inl, inr}
 use Prim.Native.Nat.{ℕ, zero, suc, _+_, _-_, _*_, _/_, _%_, _^_, _≤_, _<_}
@@ -10,7 +10,8 @@ use lib.Arith.{le-zero}
 use lib.Pow.{pow-add, pow-pos, pow-mono, pow-lt, shl-lt}
 use lib.Ieee.{Float, fin, inf, binary32, size, units, round, ofBits, top}
 use lib.Ieee.Nearest.{closest, closest-mono}
-use Rattle.packing.proofs.Size.{size-frac, le-or-lt}
+use Rattle.lists.proofs.Naturals.{le-or-lt}
+use Rattle.packing.proofs.Size.{size-frac}
 use Rattle.packing.proofs.Scaled.{round-shift}
 use Rattle.packing.proofs.Units.{units-bits, units-inf, inf-bits, zero-bits}
 

@@ -1,5 +1,5 @@
 -- A fraction that lies strictly between two neighbouring multiples of a power of two rounds as any other fraction there does, as long as the lower one of the two is
--- a multiple by an i of more than `prec` digits. So lost digits may be kept as one odd digit (`round-jam`). Assumes nothing.
+-- a multiple by an i of more than `prec` digits. So lost digits may be kept as one odd digit (`round-sticky`). Assumes nothing.
 use mathlib.Core.Path.{_≡_, refl, sym, ap, _∙_, subst}
 use mathlib.Core.Logic.{_⊎_, inl, inr}
 use Prim.Native.Nat.{ℕ, zero, suc, _+_, _-_, _*_, _/_, _%_, _^_, _≤_, _<_}
@@ -11,7 +11,8 @@ use lib.Ieee.{Float, Format, prec, low, size, units, round}
 use lib.Ieee.Fits.{round-is}
 use lib.Ieee.Digits.{size-lt, size-reaches}
 use lib.Ieee.Nearest.{closest, closest-same}
-use Rattle.packing.proofs.Size.{size-frac, size-gt, le-or-lt}
+use Rattle.lists.proofs.Naturals.{le-or-lt}
+use Rattle.packing.proofs.Size.{size-frac, size-gt}
 use Rattle.packing.proofs.Half.{closest-even, closest-up}
 
 -- ---- strictly between h and h + 1 halves
@@ -103,8 +104,8 @@ module _ (f : Format) (s : Bool) (i y b a : ℕ) (lo : 2 ^ a ≤ i) (hi : i < 2 
         ∙ closest-open (num * 2 ^ low f * 2) p (i / 2 ^ gap) below above)
 
 -- ---- the odd number j = 2 * i + 1 stands for what lies strictly between j - 1 and j + 1
-pub round-jam : (f : Format) (s : Bool) (i x b num den : ℕ) → 0 < den → 2 ^ prec f ≤ i → Between i (suc x) b num den → round f s num den ≡ round f s ((i * 2 + 1) * 2 ^ x) (2 ^ b)
-round-jam f s i x b num den D keep w =
+pub round-sticky : (f : Format) (s : Bool) (i x b num den : ℕ) → 0 < den → 2 ^ prec f ≤ i → Between i (suc x) b num den → round f s num den ≡ round f s ((i * 2 + 1) * 2 ^ x) (2 ^ b)
+round-sticky f s i x b num den D keep w =
     let z = size i in
     let lo : 2 ^ (size i - 1) ≤ i = size-reaches i (size i - 1) (omega (arith, size-gt i (prec f) keep)) in
     let hi : i < 2 ^ suc (size i - 1) = subst (λ (y : ℕ). i < 2 ^ y) (omega (arith, size-gt i (prec f) keep)) (size-lt i) in

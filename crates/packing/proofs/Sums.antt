@@ -10,7 +10,8 @@ use lib.Arith.{le→nltb}
 use lib.Ieee.{Float, Format, round, sum}
 use lib.Ieee.Bits.{is-true, is-false}
 use lib.Ieee.Scale.{round-same}
-use Rattle.packing.proofs.Size.{le-or-lt}
+use Rattle.lists.proofs.Naturals.{le-or-lt}
+use Rattle.lists.proofs.Bools.{and-false, and-true}
 
 yes : (a b : ℕ) → a < b → ltb a b ≡ true
 yes a b h = is-true (ltb a b) (lt→ltb a b h)
@@ -28,14 +29,6 @@ sum-is f s a t b c = refl
 beq-refl : (s : Bool) → Bool·beq s s ≡ true
 beq-refl true = refl
 beq-refl false = refl
-
-and-true : (s : Bool) → (s && true) ≡ s
-and-true true = refl
-and-true false = refl
-
-and-false : (s : Bool) → (s && false) ≡ false
-and-false true = refl
-and-false false = refl
 
 module _ (f : Format) (s : Bool) (a : ℕ) (t : Bool) (b c : ℕ) where
   pub sum-like : Bool·beq s t ≡ true → sum f s a t b c ≡ round f s (a + b) c

@@ -14,7 +14,8 @@ use lib.Ieee.{Float, inf, fin, Format, binary32, prec, emax, low, up, down, minu
 use lib.Ieee.Digits.{Equals, odd-val, size-le}
 use lib.Ieee.Fits.{down-pos, odd-fits}
 use lib.Ieee.Bits.{ofBits-toBits, cond-no}
-use Rattle.packing.proofs.Size.{size-exact, le-or-lt}
+use Rattle.lists.proofs.Naturals.{le-or-lt}
+use Rattle.packing.proofs.Size.{size-exact}
 
 pub cond-yes : {X : Type 0} (b : Bool) (x y : X) → T b → cond b x y ≡ x
 cond-yes true x y t = refl

@@ -7,29 +7,29 @@ ghost use Prim.Native.Nat.{ℕ, _+_, _-_, _*_, _%_, _^_, _<_, _≤_};
 ghost use lib.Ieee.{binary32, round, sum, ofBits, top};
 ghost use lib.Ieee.Nearest.{closest};
 ghost use lib.Ieee.Scale.{finite};
-ghost use Rattle.packing.specs.Parts.{Splits, Jammed, Aligned, Raised};
+ghost use Rattle.packing.specs.Parts.{Splits, Sticky, Aligned, Normalized};
 
 // n / 2^sh to the nearest whole number: roundTiesToEven, IEEE 754-2019, 4.3.1 (rule I1).
 fn half_even(n: u64, sh: u32) -> u64
     requires { ⌜ (1 ≤ sh) × (sh ≤ 64) ⌝ }
     ensures { λ r. ⌜ r ≡ closest n (2 ^ sh) ⌝ }
 {
-    let s = sh - 1;
-    let h = n >> s;
-    let q = h / 2;
-    if h % 2 == 0 {
-        q
-    } else if h << s == n {
-        q + q % 2
+    let shorter = sh - 1;
+    let halves = n >> shorter;
+    let cut = halves / 2;
+    if halves % 2 == 0 {
+        cut
+    } else if halves << shorter == n {
+        cut + cut % 2
     } else {
-        q + 1
+        cut + 1
     }
 }
 
 // The bits below the sign of m * 2^x / 2^1074, rounded to binary32. The leading zeros of the significand set its shift and the exponent (rule I11). The
 // exponent's field is added to the significand, leading digit and all: so a significand that rounds up to the next power of two carries into the exponent, a subnormal one
 // into the normal numbers, and the largest one into the infinity.
-fn magnitude(m: u64, x: u32) -> u32
+fn unsigned_bits(m: u64, x: u32) -> u32
     requires { ⌜ x ≤ 4096 ⌝ }
     ensures small { λ r. ⌜ r ≤ 2139095040 ⌝ }
     ensures value { λ r. ⌜ ((s : Bool) → ofBits binary32 (cond s (top binary32) 0 + r) ≡ round binary32 s (m * 2 ^ x) (2 ^ 1074)) ⌝ }
@@ -81,21 +81,21 @@ pub fn pack(s: bool, m: u64, x: u32) -> f32
     requires { ⌜ x ≤ 4096 ⌝ }
     ensures { λ r. ⌜ r ≡ round binary32 s (m * 2 ^ x) (2 ^ 1074) ⌝ }
 {
-    with_sign(s, magnitude(m, x))
+    with_sign(s, unsigned_bits(m, x))
 }
 
-// A finite float: its sign, and its size m * 2^x in units of the format's smallest value.
+// A finite float: its sign, and its size, significand * 2^exponent units of the format's smallest value.
 pub struct Parts {
-    pub s: bool,
-    pub m: u64,
-    pub x: u32,
+    pub sign: bool,
+    pub significand: u64,
+    pub exponent: u32,
 }
 
 // A finite f32: 24 digits, and an exponent's field of at most 254, which is 253 above the smallest. A field of 0 is a zero or a subnormal: no leading digit, and the
 // exponent of field 1.
 pub fn unpack(v: f32) -> Parts
     requires { ⌜ finite v ≡ true ⌝ }
-    ensures { λ r. ⌜ Splits 149 24 253 v (r .s) (r .m) (r .x) ⌝ }
+    ensures { λ r. ⌜ Splits 149 24 253 v (r .sign) (r .significand) (r .exponent) ⌝ }
 {
     let b = f32::to_bits(v);
     let s = b >= 0x8000_0000;
@@ -103,15 +103,15 @@ pub fn unpack(v: f32) -> Parts
     let d = b % 0x80_0000;
     if e == 0 {
         Parts {
-            s: s,
-            m: d as u64,
-            x: 0,
+            sign: s,
+            significand: d as u64,
+            exponent: 0,
         }
     } else {
         Parts {
-            s: s,
-            m: (0x80_0000 + d) as u64,
-            x: e - 1,
+            sign: s,
+            significand: (0x80_0000 + d) as u64,
+            exponent: e - 1,
         }
     }
 }
@@ -119,28 +119,32 @@ pub fn unpack(v: f32) -> Parts
 // A finite f64: 53 digits, and a field of at most 2046.
 pub fn unpack64(v: f64) -> Parts
     requires { ⌜ finite v ≡ true ⌝ }
-    ensures { λ r. ⌜ Splits 1074 53 2045 v (r .s) (r .m) (r .x) ⌝ }
+    ensures { λ r. ⌜ Splits 1074 53 2045 v (r .sign) (r .significand) (r .exponent) ⌝ }
 {
     let b = f64::to_bits(v);
     let s = b >= 0x8000_0000_0000_0000;
     let e = b % 0x8000_0000_0000_0000 / 0x10_0000_0000_0000;
     let d = b % 0x10_0000_0000_0000;
     if e == 0 {
-        Parts { s: s, m: d, x: 0 }
+        Parts {
+            sign: s,
+            significand: d,
+            exponent: 0,
+        }
     } else {
         Parts {
-            s: s,
-            m: 0x10_0000_0000_0000 + d,
-            x: (e - 1) as u32,
+            sign: s,
+            significand: 0x10_0000_0000_0000 + d,
+            exponent: (e - 1) as u32,
         }
     }
 }
 
 // b / 2^d, with what is lost kept as an odd last digit (the sticky bit). As b is below 2^62, nothing else is left of it from a shift by 62 on; 63 is the longest that a
 // u64 has. The 14 zeros at b's end (48 digits raised to 62) keep the odd digit far below the leading one.
-fn jam(b: u64, d: u32) -> u64
+fn shift_sticky(b: u64, d: u32) -> u64
     requires { ⌜ (0 < b) × (b < 2 ^ 62) × (b % 2 ^ 14 ≡ 0) ⌝ }
-    ensures { λ r. ⌜ Jammed b d r ⌝ }
+    ensures { λ r. ⌜ Sticky b d r ⌝ }
 {
     if d >= 63 {
         return 1;
@@ -150,11 +154,11 @@ fn jam(b: u64, d: u32) -> u64
 }
 
 // ±a * 2^e ± b * 2^(e - d), over 2^1074, rounded once. A sum that cancels to nothing is +0 (IEEE 754-2019, 6.3; rule I1).
-fn combine(s: bool, a: u64, t: bool, b: u64, d: u32, e: u32) -> f32
+fn add_aligned(s: bool, a: u64, t: bool, b: u64, d: u32, e: u32) -> f32
     requires { ⌜ Aligned a b d e ⌝ }
     ensures { λ r. ⌜ r ≡ sum binary32 s (a * 2 ^ e) t (b * 2 ^ (e - d)) (2 ^ 1074) ⌝ }
 {
-    let c = jam(b, d);
+    let c = shift_sticky(b, d);
     if s == t {
         pack(s, a + c, e)
     } else if c < a {
@@ -167,9 +171,9 @@ fn combine(s: bool, a: u64, t: bool, b: u64, d: u32, e: u32) -> f32
 }
 
 // The shift that brings m's leading digit to place 61 (63 - 2), which leaves room for a carry above and 14 digits below (62 - 48).
-pub fn raise(m: u64) -> u32
+pub fn normalizing_shift(m: u64) -> u32
     requires { ⌜ (0 < m) × (m < 2 ^ 48) ⌝ }
-    ensures { λ r. ⌜ Raised m r ⌝ }
+    ensures { λ r. ⌜ Normalized m r ⌝ }
 {
     u64::leading_zeros(m) - 2
 }
@@ -189,15 +193,15 @@ pub fn add_scaled(s: bool, m: u64, x: u32, t: bool, n: u64, y: u32) -> f32
     if n == 0 {
         return pack(s, m, x + 776);
     }
-    let z = raise(m);
-    let w = raise(n);
+    let z = normalizing_shift(m);
+    let w = normalizing_shift(n);
     let a = m << z;
     let b = n << w;
     let i = x + 776 - z;
     let j = y + 776 - w;
     if j <= i {
-        combine(s, a, t, b, i - j, i)
+        add_aligned(s, a, t, b, i - j, i)
     } else {
-        combine(t, b, s, a, j - i, j)
+        add_aligned(t, b, s, a, j - i, j)
     }
 }

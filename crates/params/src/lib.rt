@@ -8,7 +8,8 @@ ghost use lib.Ieee.{fin, binary64, le, lt};
 ghost use Rattle.ieee.specs.Whole.{floor};
 ghost use Rattle.params.specs.Limits.{maxLayers};
 ghost use Rattle.params.specs.Table.{shapeWrong, layersWrong, within, contrastWrong, settingsWrong};
-ghost use Rattle.params.specs.Threshold.{levelOf, thresholdOf, thresholdAnswer};
+ghost use Rattle.params.specs.Answers.{numberOf, countOf};
+ghost use Rattle.params.specs.Threshold.{levelOf, thresholdOf, thresholdAnswer, thresholdNumber, thresholdValue};
 
 // What a frame is searched with.
 pub struct Settings {
@@ -118,4 +119,45 @@ pub fn extrema_threshold(contrast: f64, layers: usize) -> Threshold
         return Threshold::Refused(4);
     }
     Threshold::Given(threshold_of(contrast, layers))
+}
+
+// The number of an answer (rule A2).
+pub fn number_of(a: Answer) -> u32
+    ensures { λ r. ⌜ r ≡ numberOf a ⌝ }
+{
+    match a {
+        Answer::Done(_) => 0,
+        Answer::Short(_) => 7,
+        Answer::Refused(k) => k,
+    }
+}
+
+// The count beside it (rule A17).
+pub fn count_of(a: Answer) -> usize
+    ensures { λ r. ⌜ r ≡ countOf a ⌝ }
+{
+    match a {
+        Answer::Done(n) => n,
+        Answer::Short(n) => n,
+        Answer::Refused(_) => 0,
+    }
+}
+
+// The number of the threshold's answer, and the threshold beside it, 0 where it is refused.
+pub fn threshold_number(t: Threshold) -> u32
+    ensures { λ r. ⌜ r ≡ thresholdNumber t ⌝ }
+{
+    match t {
+        Threshold::Given(_) => 0,
+        Threshold::Refused(k) => k,
+    }
+}
+
+pub fn threshold_value(t: Threshold) -> f32
+    ensures { λ r. ⌜ r ≡ thresholdValue t ⌝ }
+{
+    match t {
+        Threshold::Given(x) => x,
+        Threshold::Refused(_) => 0.0,
+    }
 }

@@ -1,5 +1,5 @@
 -- Good samples, one more at a time and one run more at a time. Assumes nothing.
-use Prim.Native.Nat.{ℕ, zero, suc, _+_, _*_, _<_, _≤_}
+use Prim.Native.Nat.{ℕ, zero, suc, _+_, _-_, _*_, _<_, _≤_}
 use mathlib.Core.Path.{_≡_, refl, sym, ap, _∙_}
 use mathlib.Core.Bool.{Bool, true, false, _&&_, false≢true}
 use mathlib.Core.List.{List, [], _∷_, _++_}
@@ -8,24 +8,21 @@ use native.Mathlib.Omega.{arith}
 use lib.ListN.{length, getD, take, drop, take-append-drop, drop-of-length-le, length-take}
 use lib.Seq.{drop-cons, drop-append-le, length-take-le, getD-take}
 use lib.Ieee.{Float, nan}
+use Rattle.lists.proofs.Bools.{and-assoc, and-left, and-right, and-true}
 use Rattle.params.specs.Table.{goodSample, allGood}
-use Rattle.picture.specs.Stack.{sample, Inside}
+use Rattle.picture.specs.Picture.{pixel, fourAt}
+use Rattle.picture.specs.Stack.{sample}
+use Rattle.picture.specs.Place.{Inside, Within, Around}
+use Rattle.picture.specs.declared.Shape.{Shape}
+use Rattle.picture.specs.declared.Size.{Size}
 use Rattle.picture.specs.Samples.{goodFrom}
-use Rattle.picture.proofs.Index.{index}
-
-and-assoc : (a b c : Bool) → ((a && b) && c) ≡ (a && (b && c))
-and-assoc true b c = refl
-and-assoc false b c = refl
-
-and-true : (a : Bool) → (a && true) ≡ a
-and-true true = refl
-and-true false = refl
+use Rattle.picture.proofs.Index.{index, spot}
 
 good-cons : (x : Float) (xs : List Float) → allGood (x ∷ xs) ≡ (goodSample x && allGood xs)
 unfolding allGood
 good-cons x xs = refl
 
-good-append : (xs ys : List Float) → allGood (xs ++ ys) ≡ (allGood xs && allGood ys)
+pub good-append : (xs ys : List Float) → allGood (xs ++ ys) ≡ (allGood xs && allGood ys)
 unfolding allGood
 good-append [] ys = refl
 good-append (x ∷ xs) ys =
@@ -73,21 +70,29 @@ module _ (d : List Float) (i to : ℕ) (b : Bool) (order : i ≤ to) (inside : t
 
 -- ---- one sample of all
 
-good-head : (a b : Bool) → (a && b) ≡ true → a ≡ true
-good-head true b e = refl
-good-head false b e = absurd (false≢true e)
-
-good-rest : (a b : Bool) → (a && b) ≡ true → b ≡ true
-good-rest true b e = e
-good-rest false b e = absurd (false≢true e)
-
 good-each : (d : List Float) (i : ℕ) → allGood d ≡ true → i < length d → goodSample (getD d i nan) ≡ true
 unfolding allGood
 good-each [] i e h = absurd (omega arith)
-good-each (x ∷ xs) zero e h = good-head (goodSample x) (allGood xs) e
-good-each (x ∷ xs) (suc i) e h = good-each xs i (good-rest (goodSample x) (allGood xs) e) (omega arith)
+good-each (x ∷ xs) zero e h = and-left (goodSample x) (allGood xs) e
+good-each (x ∷ xs) (suc i) e h = good-each xs i (and-right (goodSample x) (allGood xs) e) (omega arith)
 
 -- a place of a stack whose samples are all good
-pub good-at : (d : List Float) (w h n p r c : ℕ) → allGood d ≡ true → Inside (length d) w h n p r c → goodSample (sample d w h p r c) ≡ true
-unfolding sample
-good-at d w h n p r c e i = good-each d ((p * h + r) * w + c) e (index i .below)
+pub good-at : (d : List Float) (t : Shape) (p r c : ℕ) → allGood d ≡ true → Inside (length d) t p r c → goodSample (sample d t p r c) ≡ true
+unfolding sample pixel
+good-at d t p r c e i = good-each d ((p * t .height + r) * t .width + c) e (index i .below)
+
+-- four samples, tested one by one
+pub four-good : (a b c d : Float) → (goodSample a && (goodSample b && (goodSample c && goodSample d))) ≡ allGood (a ∷ b ∷ c ∷ d ∷ [])
+unfolding allGood
+four-good a b c d = rw (and-true (goodSample d))
+
+-- a cell of a picture whose samples are all good, and a cell's four neighbours
+pub good-pixel : (img : List Float) (s : Size) (r c : ℕ) → allGood img ≡ true → Within (length img) s r c → goodSample (pixel img (s .width) r c) ≡ true
+unfolding pixel
+good-pixel img s r c e i = good-each img (r * s .width + c) e (spot i .below)
+
+pub good-four : (img : List Float) (s : Size) (r c : ℕ) → allGood img ≡ true → Around (length img) s r c → allGood (fourAt img (s .width) r c) ≡ true
+unfolding fourAt
+good-four img s r c e a =
+    sym (four-good _ _ _ _)
+    ∙ rw (good-pixel img s r (c + 1) e (record { whole = a .whole; row = omega arith; column = a .right }), good-pixel img s r (c - 1) e (record { whole = a .whole; row = omega arith; column = omega arith }), good-pixel img s (r - 1) c e (record { whole = a .whole; row = omega arith; column = omega arith }), good-pixel img s (r + 1) c e (record { whole = a .whole; row = a .down; column = omega arith }))

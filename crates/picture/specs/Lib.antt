@@ -1,2 +1,4 @@
+pub mod Picture
 pub mod Stack
 pub mod Samples
+pub mod Place

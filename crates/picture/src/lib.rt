@@ -1,12 +1,15 @@
-// A stack of planes and a picture, as lists of samples: how a sample is read, and whether all are in range.
+// A stack of planes and a picture, as lists of samples: how a sample and a slope are read, and whether samples are in range.
 
 ghost use mathlib.Core.Path.{_≡_};
 ghost use mathlib.Core.Bool.{_&&_};
 ghost use Prim.Native.Nat.{_+_, _*_, _<_, _≤_, min};
 ghost use lib.ListN.{length};
+ghost use Rattle.params.specs.Limits.{maxSide};
 ghost use Rattle.params.specs.Table.{goodSample, allGood};
-ghost use Rattle.picture.specs.Stack.{sample, Inside};
-ghost use Rattle.picture.specs.Samples.{goodFrom};
+ghost use Rattle.picture.specs.Picture.{pixel, slopeAt, fourAt, firstIn, pastIn};
+ghost use Rattle.picture.specs.Stack.{sample};
+ghost use Rattle.picture.specs.Place.{Inside, Within, Around};
+ghost use Rattle.picture.specs.Samples.{block, goodFrom};
 
 // The largest magnitude of a sample, 2^20.
 const LIMIT: f32 = 1048576.0;
@@ -15,12 +18,78 @@ const LIMIT: f32 = 1048576.0;
 // Any number above 0 would do.
 const BLOCK: usize = 1024;
 
-// The sample of plane p at row r, column c of n planes of h rows of w.
-pub fn at(d: &[f32], w: usize, h: usize, n: usize, p: usize, r: usize, c: usize) -> f32
-    requires { ⌜ Inside (length (now d)) w h n p r c ⌝ }
-    ensures { λ x. ⌜ x ≡ sample (now (d .entry)) w h p r c ⌝ }
+// So many planes, one after the other, each so many rows of so many samples.
+pub struct Shape {
+    pub width: usize,
+    pub height: usize,
+    pub planes: usize,
+}
+
+// A picture is so many rows of so many samples.
+pub struct Size {
+    pub width: usize,
+    pub height: usize,
+}
+
+// The differences across a cell.
+pub struct Slope {
+    pub dx: f32,
+    pub dy: f32,
+}
+
+// The sample of plane p at row r, column c of a stack.
+pub fn at(d: &[f32], t: Shape, p: usize, r: usize, c: usize) -> f32
+    requires { ⌜ Inside (length (now d)) t p r c ⌝ }
+    ensures { λ x. ⌜ x ≡ sample (now (d .entry)) t p r c ⌝ }
 {
-    d[(p * h + r) * w + c]
+    d[(p * t.height + r) * t.width + c]
+}
+
+// The sample at row r, column c of a picture.
+pub fn pixel_at(img: &[f32], s: Size, r: usize, c: usize) -> f32
+    requires { ⌜ Within (length (now img)) s r c ⌝ }
+    ensures { λ x. ⌜ x ≡ pixel (now (img .entry)) (s .width) r c ⌝ }
+{
+    img[r * s.width + c]
+}
+
+// The slope at the cell (r, c) of a picture.
+pub fn slope_at(img: &[f32], s: Size, r: usize, c: usize) -> Slope
+    requires { ⌜ Around (length (now img)) s r c ⌝ }
+    ensures { λ g. ⌜ g ≡ slopeAt (now (img .entry)) (s .width) r c ⌝ }
+{
+    Slope {
+        dx: pixel_at(img, s, r, c + 1) - pixel_at(img, s, r, c - 1),
+        dy: pixel_at(img, s, r - 1, c) - pixel_at(img, s, r + 1, c),
+    }
+}
+
+// Whether the four neighbours of the cell (r, c) are good samples.
+pub fn four_good(img: &[f32], s: Size, r: usize, c: usize) -> bool
+    requires { ⌜ Around (length (now img)) s r c ⌝ }
+    ensures { λ b. ⌜ b ≡ allGood (fourAt (now (img .entry)) (s .width) r c) ⌝ }
+{
+    let right = good_sample(pixel_at(img, s, r, c + 1));
+    let left = good_sample(pixel_at(img, s, r, c - 1));
+    let up = good_sample(pixel_at(img, s, r - 1, c));
+    let down = good_sample(pixel_at(img, s, r + 1, c));
+    right & (left & (up & down))
+}
+
+// The first place within the radius that is not on the edge.
+pub fn first_in(at: usize, radius: usize) -> usize
+    ensures { λ r. ⌜ r ≡ firstIn at radius ⌝ }
+{
+    if radius < at { at - radius } else { 1 }
+}
+
+// The one after the last, of a side.
+pub fn past_in(at: usize, radius: usize, side: usize) -> usize
+    requires { ⌜ (at < side) × ((side ≤ maxSide) × (radius ≤ maxSide)) ⌝ }
+    ensures { λ r. ⌜ r ≡ pastIn at radius side ⌝ }
+{
+    let past = at + radius + 1;
+    if past < side - 1 { past } else { side - 1 }
 }
 
 // Whether a sample is a number, and at most the limit in magnitude.
@@ -47,7 +116,7 @@ fn block_good(d: &[f32], from: usize, to: usize) -> bool
 // Where the block that starts at `from` ends: a whole block on, or at the end of all.
 fn block_end(from: usize, len: usize) -> usize
     requires { ⌜ from < len ⌝ }
-    ensures { λ to. ⌜ (to ≡ min (from + 1024) len) × (from < to) × (to ≤ len) ⌝ }
+    ensures { λ to. ⌜ (to ≡ min (from + block) len) × (from < to) × (to ≤ len) ⌝ }
 {
     if len - from > BLOCK {
         from + BLOCK

@@ -20,6 +20,9 @@ use Rattle.params.specs.Limits.{maxSide, maxOctave}
 use Rattle.params.specs.Table.{allGood, within}
 use Rattle.params.specs.declared.Settings.{Settings}
 use Rattle.params.proofs.Bools.{or-neither}
+use Rattle.picture.specs.Picture.{fourAt, firstIn, pastIn}
+use Rattle.picture.specs.declared.Size.{Size}
+use Rattle.picture.proofs.Runs.{good-append, good-four}
 use Rattle.detect_refine.specs.Sound.{Sound}
 use Rattle.detect_refine.specs.declared.RawKeypoint.{RawKeypoint}
 use Rattle.orient.specs.Entry.{orientedOf, orientedList}
@@ -31,16 +34,16 @@ use Rattle.descriptor_inputs.specs.Inputs.{shrinkOf, givenOf, inputsOf}
 use Rattle.descriptor_inputs.specs.Rules.{Taken}
 use Rattle.descriptor_inputs.specs.declared.Inputs.{Inputs}
 use Rattle.descriptor_inputs.proofs.Rules.{input-rule}
-use Rattle.descriptor_patch.specs.Patch.{cellOf, usedAt, fourAt, overCells, readsOf, first, past}
-use Rattle.descriptor_patch.specs.declared.Turn as patchTurn
-use Rattle.descriptor_patch.proofs.Good.{good-append}
+use Rattle.descriptor_patch.specs.Patch.{cellOf, usedAt, overCells, readsOf}
+use Rattle.descriptor_patch.specs.declared.Patch.{Patch}
 use Rattle.descriptor.specs.Place.{onSide, spotWrong, turnWrong, turnAt}
+use Rattle.descriptor.specs.declared.Spot.{Spot}
 use Rattle.descriptor.specs.Entry.{faultOf}
-use Rattle.descriptor.specs.Rules.{Inside}
+use Rattle.descriptor.specs.Rules.{Inside, spotOf}
 use Rattle.descriptor.proofs.Checks.{fault-sample, fault-none}
 use Rattle.descriptor.proofs.Rules.{descriptor-rule}
 use Rattle.road.specs.Rules.{sixUnless}
-use Rattle.road.proofs.Oriented.{sides-right, sample-good}
+use Rattle.road.proofs.Oriented.{sides-right}
 use Rattle.road.proofs.Position.{position-finite, position-on}
 
 -- ---- what is read is good
@@ -60,40 +63,42 @@ unfolding allGood
 good-cond true xs h = h
 good-cond false xs h = refl
 
-from-first : (at radius r : ℕ) → first at radius ≤ r → 1 ≤ r
+from-first : (at radius r : ℕ) → firstIn at radius ≤ r → 1 ≤ r
 from-first at radius r l = omega (arith, l)
 
-before-past : (at radius side r : ℕ) → r < past at radius side → r < side - 1
+before-past : (at radius side r : ℕ) → r < pastIn at radius side → r + 1 < side
 before-past at radius side r l = omega (arith, l)
 
-module _ (img : List Float) (w h : ℕ) (whole : length img ≡ h * w) (good : allGood img ≡ true) where
-  four-good : (r c : ℕ) → 1 ≤ r → r < h - 1 → 1 ≤ c → c < w - 1 → allGood (fourAt img w h r c) ≡ true
-  unfolding fourAt allGood
-  four-good r c a b d e =
-      rw (sample-good img w h whole good r (c + 1) (omega (arith, b)) (omega (arith, e)), sample-good img w h whole good r (c - 1) (omega (arith, b)) (omega (arith, e)), sample-good img w h whole good (r - 1) c (omega (arith, b)) (omega (arith, e)), sample-good img w h whole good (r + 1) c (omega (arith, b)) (omega (arith, e)))
-
-  pub reads-good : (t : patchTurn.Turn) → allGood (readsOf img w h t) ≡ true
+module _ (img : List Float) (good : allGood img ≡ true) where
+  pub reads-good : (t : Patch) → length img ≡ t .size .height * t .size .width → allGood (readsOf img t) ≡ true
   unfolding readsOf overCells
-  reads-good t =
-      good-joined (first (t .py) (t .radius)) (past (t .py) (t .radius) h) _ (λ r a b.
-      good-joined (first (t .px) (t .radius)) (past (t .px) (t .radius) w) _ (λ c d e.
-      good-cond (usedAt t r c) (fourAt img w h r c) (four-good r c (from-first (t .py) (t .radius) r a) (before-past (t .py) (t .radius) h r b) (from-first (t .px) (t .radius) c d) (before-past (t .px) (t .radius) w c e))))
+  reads-good t whole =
+      good-joined (firstIn (t .py) (t .radius)) (pastIn (t .py) (t .radius) (t .size .height)) _ (λ r a b.
+      good-joined (firstIn (t .px) (t .radius)) (pastIn (t .px) (t .radius) (t .size .width)) _ (λ c d e.
+      good-cond (usedAt t r c) (fourAt img (t .size .width) r c)
+      (good-four img (t .size) r c good (record {
+        whole = whole;
+        up = from-first (t .py) (t .radius) r a;
+        down = before-past (t .py) (t .radius) (t .size .height) r b;
+        left = from-first (t .px) (t .radius) c d;
+        right = before-past (t .px) (t .radius) (t .size .width) c e;
+      }))))
 
 -- ---- an oriented keypoint of a sound one
 
-module _ (img : List Float) (w h octave : ℕ) (s : Settings) (k : RawKeypoint) (wide : w ≤ maxSide) (high : h ≤ maxSide) (low : octave ≤ maxOctave) (good : Sound w h s octave k) (i : ℕ) (l : i < length (orientedList img w h k)) where
+module _ (img : List Float) (z : Size) (octave : ℕ) (s : Settings) (k : RawKeypoint) (wide : z .width ≤ maxSide) (high : z .height ≤ maxSide) (low : octave ≤ maxOctave) (good : Sound (z .width) (z .height) s octave k) (i : ℕ) (l : i < length (orientedList img z k)) where
   abbrev given : OrientedKeypoint
-  given = getD (orientedList img w h k) i (orientedOf k nan)
+  given = getD (orientedList img z k) i (orientedOf k nan)
 
   passed : Passed k given
-  passed = orient-rule .passed img w h k i l
+  passed = orient-rule .passed img z k i l
 
   module _ (turn : Turn (given .angle)) where
     turn-in : within nought wholeTurn (given .angle) ≡ true
     turn-in = rw (turn .least, lt-le (given .angle) wholeTurn (turn .below))
 
     taken : Taken given octave
-    taken = input-rule .taken img w h octave s k i low good l turn-in
+    taken = input-rule .taken img z octave s k i low good l turn-in
 
     abbrev inputs : Inputs
     inputs = inputsOf given (pos octave)
@@ -113,24 +118,27 @@ module _ (img : List Float) (w h octave : ℕ) (s : Settings) (k : RawKeypoint) 
     above : (x : Float) → lt nought x ≡ true → lt nil x ≡ true
     above x p = subst (λ (z : Float). lt z x ≡ true) (zero-is binary32) p
 
-    inside : Inside w h inputs
+    inside : Inside z inputs
     inside = record {
-      x-ends = ap finite x-is ∙ position-finite (k .cc) octave w (k .x) (good .left) (good .right) wide low (good .x-near) (good .x-number .ends) (above (k .x) (good .x-above));
-      y-ends = ap finite y-is ∙ position-finite (k .rr) octave h (k .y) (good .top) (good .bottom) high low (good .y-near) (good .y-number .ends) (above (k .y) (good .y-above));
-      column = ap (λ (z : Float). onSide w (cellOf z)) x-is ∙ position-on (k .cc) octave w (k .x) (good .left) (good .right) wide low (good .x-near) (good .x-number .ends) (above (k .x) (good .x-above));
-      row = ap (λ (z : Float). onSide h (cellOf z)) y-is ∙ position-on (k .rr) octave h (k .y) (good .top) (good .bottom) high low (good .y-near) (good .y-number .ends) (above (k .y) (good .y-above));
+      x-ends = ap finite x-is ∙ position-finite (k .cc) octave (z .width) (k .x) (good .left) (good .right) wide low (good .x-near) (good .x-number .ends) (above (k .x) (good .x-above));
+      y-ends = ap finite y-is ∙ position-finite (k .rr) octave (z .height) (k .y) (good .top) (good .bottom) high low (good .y-near) (good .y-number .ends) (above (k .y) (good .y-above));
+      column = ap (λ (v : Float). onSide (z .width) (cellOf v)) x-is ∙ position-on (k .cc) octave (z .width) (k .x) (good .left) (good .right) wide low (good .x-near) (good .x-number .ends) (above (k .x) (good .x-above));
+      row = ap (λ (v : Float). onSide (z .height) (cellOf v)) y-is ∙ position-on (k .rr) octave (z .height) (k .y) (good .top) (good .bottom) high low (good .y-near) (good .y-number .ends) (above (k .y) (good .y-above));
     }
 
+    abbrev spot : Spot
+    spot = spotOf inputs
+
     abbrev reads : List Float
-    reads = readsOf img w h (turnAt w h (inputs .x) (inputs .y) (inputs .scale) (inputs .angle))
+    reads = readsOf img (turnAt z spot)
 
     -- only a bad sample that is read is refused
-    pub describe-answers : length img ≡ h * w → faultOf img w h (inputs .x) (inputs .y) (inputs .scale) (inputs .angle) ≡ sixUnless (allGood reads)
+    pub describe-answers : length img ≡ z .height * z .width → faultOf img z spot ≡ sixUnless (allGood reads)
     describe-answers whole = go (allGood reads) refl
       where
-        apart : (spotWrong w h (inputs .x) (inputs .y) ≡ false) × (turnWrong (inputs .scale) (inputs .angle) ≡ false)
-        apart = or-neither (spotWrong w h (inputs .x) (inputs .y)) (turnWrong (inputs .scale) (inputs .angle)) (descriptor-rule .accepted w h octave given taken inside)
+        apart : (spotWrong z spot ≡ false) × (turnWrong spot ≡ false)
+        apart = or-neither (spotWrong z spot) (turnWrong spot) (descriptor-rule .accepted z octave given taken inside)
 
-        go : (b : Bool) → allGood reads ≡ b → faultOf img w h (inputs .x) (inputs .y) (inputs .scale) (inputs .angle) ≡ sixUnless b
-        go true e = sym (fault-none w h (inputs .x) (inputs .y) (inputs .scale) (inputs .angle) img (sides-right w h octave s k wide high good) whole (apart .0) (apart .1) e)
-        go false e = sym (fault-sample w h (inputs .x) (inputs .y) (inputs .scale) (inputs .angle) img (sides-right w h octave s k wide high good) whole (apart .0) (apart .1) e)
+        go : (b : Bool) → allGood reads ≡ b → faultOf img z spot ≡ sixUnless b
+        go true e = sym (fault-none z spot img (sides-right (z .width) (z .height) octave s k wide high good) whole (apart .0) (apart .1) e)
+        go false e = sym (fault-sample z spot img (sides-right (z .width) (z .height) octave s k wide high good) whole (apart .0) (apart .1) e)

@@ -22,7 +22,7 @@ use Rattle.detect_refine.specs.declared.RawKeypoint.{RawKeypoint}
 use Rattle.orient.specs.Keypoint.{layerIn}
 use Rattle.orient.specs.Entry.{orientedOf}
 use Rattle.orient_laws.specs.Rules.{Turn}
-use Rattle.descriptor_values_laws.specs.Rules.{Byte}
+use Rattle.descriptor_laws.specs.ValuesRules.{Byte}
 use Rattle.sheet.specs.Pack.{Slot, slot, sound}
 use Rattle.sheet.specs.Layout.{Frame, edition1, valueCount, valueSlots, headSlots, floatSlots, largestFinite, leastPositive}
 use Rattle.sheet.specs.Sheet.{recordRight}

@@ -11,14 +11,15 @@ use lib.Ieee.{Float}
 use Rattle.params.specs.declared.Settings.{Settings}
 use Rattle.detect_refine.specs.Sound.{Sound}
 use Rattle.detect_refine.specs.declared.RawKeypoint.{RawKeypoint}
-use Rattle.detect_extrema.specs.Places.{Stack}
+use Rattle.detect_refine.specs.Search.{searchOf}
+use Rattle.detect_refine.specs.Place.{Searched}
 use Rattle.orient.specs.declared.OrientedKeypoint.{OrientedKeypoint}
 use Rattle.orient_laws.specs.Rules.{Turn}
-use Rattle.descriptor_inputs.specs.declared.Inputs.{Inputs}
 use Rattle.descriptor_patch.specs.Patch.{samplesOf}
 use Rattle.descriptor_grid.specs.Grid.{gathered}
-use Rattle.descriptor_values_laws.proofs.Rules.{value-rule}
+use Rattle.descriptor_laws.proofs.ValuesRules.{value-rule}
 use Rattle.descriptor.specs.Place.{turnAt}
+use Rattle.descriptor.specs.declared.Spot.{Spot}
 use Rattle.descriptor.specs.Entry.{valuesAt}
 use Rattle.descriptor.proofs.Rules.{descriptor-rule}
 use Rattle.sheet.specs.Layout.{edition1}
@@ -27,7 +28,7 @@ use Rattle.sheet.specs.Words.{plainWords}
 use Rattle.sheet.specs.Writes.{frameOf, wordsRight, layerRight}
 use Rattle.sheet.proofs.Parts.{pass-both}
 use Rattle.road.specs.Record.{recordOf, Filled}
-use Rattle.road.specs.Road.{Among, Octave, foundIn, directionsOf, inputsFor, valuesFor, pictureFor, recordFor, OfFrame, recordsFor, recordsIn, octaveRecords, sheetRecords, Smooth}
+use Rattle.road.specs.Road.{Among, Octave, foundIn, directionsOf, spotFor, sizeIn, valuesFor, pictureFor, recordFor, OfFrame, recordsFor, recordsIn, octaveRecords, sheetRecords, Smooth}
 use Rattle.road.proofs.Members.{from-flat, from-map, from-joined, pass-all}
 use Rattle.road.proofs.Stages.{stack, sound, turn, through}
 use Rattle.road.proofs.Record.{record-right, record-layer, record-long}
@@ -47,16 +48,16 @@ module _ (wide high : ℕ) (s : Settings) (r : List ℕ) (f : OfFrame wide high 
   abbrev o : OrientedKeypoint
   o = f .direction
 
-  abbrev inputs : Inputs
-  inputs = inputsFor q o
+  abbrev spot : Spot
+  spot = spotFor q o
 
   abbrev values : List Float
   values = valuesFor (pictureFor q k) q o
 
-  held : Stack (length (q .stack)) (q .width) (q .height) (q .planes) (s .layers) (q .number) (f .layer)
+  held : Searched (length (q .stack)) (q .shape) (searchOf (f .layer) (q .number) s)
   held = stack s q (f .layer) (f .searched) k (f .found)
 
-  good : Sound (q .width) (q .height) s (q .number) k
+  good : Sound (q .shape .width) (q .shape .height) s (q .number) k
   good = sound s q (f .layer) (f .searched) k (f .found)
 
   turned : Turn (o .angle)
@@ -65,16 +66,16 @@ module _ (wide high : ℕ) (s : Settings) (r : List ℕ) (f : OfFrame wide high 
   filled : Filled values
   unfolding valuesAt
   filled = record {
-    all = value-rule .count (gathered (inputs .angle) (samplesOf (pictureFor q k) (q .width) (q .height) (turnAt (q .width) (q .height) (inputs .x) (inputs .y) (inputs .scale) (inputs .angle))));
-    each = descriptor-rule .whole (pictureFor q k) (q .width) (q .height) (inputs .x) (inputs .y) (inputs .scale) (inputs .angle) (f .described);
+    all = value-rule .count (gathered (spot .angle) (samplesOf (pictureFor q k) (turnAt (sizeIn q) spot)));
+    each = descriptor-rule .whole (pictureFor q k) (sizeIn q) spot (f .described);
   }
 
   keeps-rules : keeps wide high (s .layers) (recordFor q k o) ≡ true
   keeps-rules =
       rw (
-        eq-eqb (length (recordFor q k o)) plainWords (record-long (q .width) (q .height) s (q .number) k good (o .angle) turned values filled wide high (f .sized .across) (f .sized .down) (held .low)),
-        record-right (q .width) (q .height) s (q .number) k good (o .angle) turned values filled wide high (f .sized .across) (f .sized .down) (held .low),
-        record-layer (q .width) (q .height) s (q .number) k good (o .angle) turned values filled wide high (f .sized .across) (f .sized .down) (held .low),
+        eq-eqb (length (recordFor q k o)) plainWords (record-long (q .shape .width) (q .shape .height) s (q .number) k good (o .angle) turned values filled wide high (f .sized .across) (f .sized .down) (held .low)),
+        record-right (q .shape .width) (q .shape .height) s (q .number) k good (o .angle) turned values filled wide high (f .sized .across) (f .sized .down) (held .low),
+        record-layer (q .shape .width) (q .shape .height) s (q .number) k good (o .angle) turned values filled wide high (f .sized .across) (f .sized .down) (held .low),
       )
 
   kept : keeps wide high (s .layers) r ≡ true

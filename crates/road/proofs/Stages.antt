@@ -9,7 +9,8 @@ use Rattle.params.specs.Table.{shapeWrong, allGood}
 use Rattle.params.specs.declared.Settings.{Settings}
 use Rattle.detect_refine.specs.Sound.{Sound}
 use Rattle.detect_refine.specs.declared.RawKeypoint.{RawKeypoint}
-use Rattle.detect_extrema.specs.Places.{Stack}
+use Rattle.detect_refine.specs.Search.{searchOf}
+use Rattle.detect_refine.specs.Place.{Searched}
 use Rattle.detect.proofs.Faults as DetectFaults
 use Rattle.detect.proofs.Rules.{detect-rule}
 use Rattle.orient_tally.specs.Sample.{windowGood}
@@ -19,8 +20,9 @@ use Rattle.orient.specs.declared.OrientedKeypoint.{OrientedKeypoint}
 use Rattle.orient.proofs.Rules.{orient-rule}
 use Rattle.orient_laws.specs.Rules.{Turn}
 use Rattle.orient_laws.proofs.Rules.{angles-rule}
+use Rattle.descriptor_patch.specs.Patch.{patchOf}
 use Rattle.descriptor.specs.Place.{turnAt}
-use Rattle.road.specs.Road.{Among, Octave, searchFault, foundIn, turnFault, directionsOf, inputsFor, patchFault, patchReads}
+use Rattle.road.specs.Road.{Among, Octave, sizeIn, searchFault, foundIn, turnFault, directionsOf, spotFor}
 use Rattle.road.specs.Rules.{sixUnless, Served, Through}
 use Rattle.road.proofs.Members.{place}
 use Rattle.road.proofs.Oriented.{sides-right, orient-answers, window-good}
@@ -31,43 +33,44 @@ past : RawKeypoint
 past = record { x = nan; y = nan; size = nan; response = nan; octave = 0; layer = 0; xi = nan; cc = 0; rr = 0; moves = 0 }
 
 module _ (s : Settings) (q : Octave) (layer : ℕ) (z : searchFault s q layer ≡ 0) (k : RawKeypoint) (m : Among k (foundIn s q layer)) where
-  pub stack : Stack (length (q .stack)) (q .width) (q .height) (q .planes) (s .layers) (q .number) layer
-  stack = DetectFaults.right (q .stack) (q .width) (q .height) (q .planes) layer (q .number) s z .stack
+  pub stack : Searched (length (q .stack)) (q .shape) (searchOf layer (q .number) s)
+  stack = DetectFaults.right (q .stack) (q .shape) layer (q .number) s z .searched
 
-  pub sound : Sound (q .width) (q .height) s (q .number) k
+  pub sound : Sound (q .shape .width) (q .shape .height) s (q .number) k
   sound =
       let p = place m in
-      subst (λ (x : RawKeypoint). Sound (q .width) (q .height) s (q .number) x) (p .is past)
-      (detect-rule .sound (q .stack) (q .width) (q .height) (q .planes) layer (q .number) s z past (p .at) (p .below))
+      subst (λ (x : RawKeypoint). Sound (q .shape .width) (q .shape .height) s (q .number) x) (p .is past)
+      (detect-rule .sound (q .stack) (q .shape) layer (q .number) s z past (p .at) (p .below))
 
-  shape : shapeWrong (q .width) (q .height) ≡ false
-  shape = sides-right (q .width) (q .height) (q .number) s k (stack .wide) (stack .high) sound
+  shape : shapeWrong (q .shape .width) (q .shape .height) ≡ false
+  shape = sides-right (q .shape .width) (q .shape .height) (q .number) s k (stack .wide) (stack .high) sound
 
-  right : keypointWrong (q .width) (q .height) k ≡ false
-  right = orient-rule .accepted (q .width) (q .height) (q .number) s k (stack .many) (stack .low) sound
+  right : keypointWrong (sizeIn q) k ≡ false
+  right = orient-rule .accepted (sizeIn q) (q .number) s k (stack .many) (stack .low) sound
 
-  module _ (img : List Float) (whole : length img ≡ q .height * q .width) where
-    pub oriented : turnFault img q k ≡ sixUnless (windowGood img (windowAt (q .width) (q .height) k))
-    oriented = orient-answers img (q .width) (q .height) whole k shape right
+  module _ (img : List Float) (whole : length img ≡ q .shape .height * q .shape .width) where
+    pub oriented : turnFault img q k ≡ sixUnless (windowGood img (windowAt (sizeIn q) k))
+    oriented = orient-answers img (sizeIn q) whole k shape right
 
     module _ (t : turnFault img q k ≡ 0) (o : OrientedKeypoint) (n : Among o (directionsOf img q k)) where
       pub turn : Turn (o .angle)
-      turn = let p = place n in subst (λ (x : OrientedKeypoint). Turn (x .angle)) (p .is (orientedOf k nan)) (angles-rule .angle img (q .width) (q .height) k (p .at) t (p .below))
+      turn = let p = place n in subst (λ (x : OrientedKeypoint). Turn (x .angle)) (p .is (orientedOf k nan)) (angles-rule .angle img (sizeIn q) k (p .at) t (p .below))
 
       pub described : Served img q o
       described =
           let p = place n in
-          let a = angles-rule .angle img (q .width) (q .height) k (p .at) t (p .below) in
+          let a = angles-rule .angle img (sizeIn q) k (p .at) t (p .below) in
           subst (λ (x : OrientedKeypoint). Served img q x) (p .is (orientedOf k nan))
           (record {
-            taken = describe-answers img (q .width) (q .height) (q .number) s k (stack .wide) (stack .high) (stack .low) sound (p .at) (p .below) a whole;
-            given = number-given img (q .width) (q .height) (q .number) s k (stack .wide) (stack .high) (stack .low) sound (p .at) (p .below) a;
+            taken = describe-answers img (sizeIn q) (q .number) s k (stack .wide) (stack .high) (stack .low) sound (p .at) (p .below) a whole;
+            given = number-given img (sizeIn q) (q .number) s k (stack .wide) (stack .high) (stack .low) sound (p .at) (p .below) a;
           })
 
     pub through : allGood img ≡ true → Through img q k
+    unfolding turnAt patchOf
     through g =
-        let t = oriented ∙ ap sixUnless (window-good img (q .width) (q .height) whole g k shape right) in
+        let t = oriented ∙ ap sixUnless (window-good img (sizeIn q) whole g k shape right) in
         record {
           turned = t;
-          described = λ o n. described t o n .taken ∙ ap sixUnless (reads-good img (q .width) (q .height) whole g _);
+          described = λ o n. described t o n .taken ∙ ap sixUnless (reads-good img g (turnAt (sizeIn q) (spotFor q o)) whole);
         }

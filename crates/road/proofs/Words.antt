@@ -20,7 +20,7 @@ use Rattle.words.specs.Keypoint.{keypointIn}
 use Rattle.words.specs.Oriented.{orientedIn}
 use Rattle.words.specs.Rules.{Held, OrientedHeld}
 use Rattle.words.proofs.Rules.{words-rule}
-use Rattle.road.specs.Road.{Among, Octave, searchFault, foundIn, turnFault, directionsOf}
+use Rattle.road.specs.Road.{Among, Octave, sizeIn, searchFault, foundIn, turnFault, directionsOf}
 use Rattle.road.proofs.Stages.{sound}
 
 -- what stands past the end does not matter before it
@@ -33,23 +33,23 @@ module _ (s : Settings) (q : Octave) (layer : ℕ) (z : searchFault s q layer �
   pub keypoint-words : (past : RawKeypoint) (i : ℕ) → i < length (foundIn s q layer)
       → keypointIn (take Raw.keypointWords (drop (Raw.keypointWords * i) (Raw.words (foundIn s q layer)))) ≡ getD (foundIn s q layer) i past
   keypoint-words past i l =
-      let good = detect-rule .sound (q .stack) (q .width) (q .height) (q .planes) layer (q .number) s z past i l in
+      let good = detect-rule .sound (q .stack) (q .shape) layer (q .number) s z past i l in
       ap keypointIn (words-rule .keypoint-at (foundIn s q layer) i past l)
-      ∙ words-rule .keypoint (getD (foundIn s q layer) i past) (words-rule .found (q .width) (q .height) (q .number) s (getD (foundIn s q layer) i past) good)
+      ∙ words-rule .keypoint (getD (foundIn s q layer) i past) (words-rule .found (q .shape .width) (q .shape .height) (q .number) s (getD (foundIn s q layer) i past) good)
 
   module _ (k : RawKeypoint) (m : Among k (foundIn s q layer)) (img : List Float) (t : turnFault img q k ≡ 0) (past : OrientedKeypoint) (i : ℕ) (l : i < length (directionsOf img q k)) where
     abbrev given : OrientedKeypoint
     given = getD (directionsOf img q k) i (Oriented.orientedOf k nan)
 
     passed : Passed k given
-    passed = orient-rule .passed img (q .width) (q .height) k i l
+    passed = orient-rule .passed img (sizeIn q) k i l
 
     turn : Turn (given .angle)
-    turn = angles-rule .angle img (q .width) (q .height) k i t l
+    turn = angles-rule .angle img (sizeIn q) k i t l
 
     held : OrientedHeld given
     held =
-        let of = words-rule .found (q .width) (q .height) (q .number) s k (sound s q layer z k m) in
+        let of = words-rule .found (q .shape .width) (q .shape .height) (q .number) s k (sound s q layer z k m) in
         record {
           x = subst (λ (v : Float). T (fits binary32 v)) (sym (passed .x)) (of .x);
           y = subst (λ (v : Float). T (fits binary32 v)) (sym (passed .y)) (of .y);

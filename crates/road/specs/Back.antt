@@ -1,4 +1,4 @@
--- Records on a sheet and back: what `write_sheet` is handed, and what it and `read_sheet` then answer and leave. Definitions only.
+-- Law: Records on a sheet and back: what `write_sheet` is handed, and what it and `read_sheet` then answer and leave. Definitions only.
 use Prim.Native.Nat.{ℕ, _+_, _*_, _≤_}
 use mathlib.Core.Path.{_≡_}
 use mathlib.Core.List.{List, _++_, flatMap}

@@ -1,4 +1,4 @@
--- The sheet's record of a keypoint with an angle and its 128 values, as the words that the writer takes. Definitions only.
+-- Law: the sheet's record of a keypoint with an angle and its 128 values, as the words that the writer takes. Definitions only.
 use Prim.Native.Nat.{ℕ, _/_, _^_, _<_}
 use mathlib.Core.Path.{_≡_}
 use mathlib.Core.List.{List, [], _∷_, _++_, map}
@@ -9,7 +9,7 @@ use Rattle.detect_refine.specs.declared.RawKeypoint.{RawKeypoint}
 use Rattle.orient.specs.Keypoint.{octaveIn, layerIn}
 use Rattle.orient.specs.Entry.{orientedOf}
 use Rattle.orient.specs.declared.OrientedKeypoint.{OrientedKeypoint}
-use Rattle.descriptor_values_laws.specs.Rules.{Byte}
+use Rattle.descriptor_laws.specs.ValuesRules.{Byte}
 use Rattle.sheet.specs.Layout.{valueCount}
 
 -- the code is the octave word's third byte, above which nothing stands (rule A12)

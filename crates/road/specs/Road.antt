@@ -1,4 +1,4 @@
--- The road from an octave's planes to the records of a frame, and the order that a sheet has them in. Definitions only.
+-- Law: the road from an octave's planes to the records of a frame, and the order that a sheet has them in. Definitions only.
 use Prim.Native.Nat.{ℕ, _+_, _*_, _≤_}
 use mathlib.Core.Path.{_≡_}
 use mathlib.Core.Bool.{true}
@@ -9,6 +9,8 @@ use lib.Ieee.{Float}
 use Rattle.lists.specs.Ranges.{joined}
 use Rattle.params.specs.Table.{allGood}
 use Rattle.params.specs.declared.Settings.{Settings}
+use Rattle.picture.specs.declared.Shape.{Shape}
+use Rattle.picture.specs.declared.Size.{Size}
 use Rattle.detect_refine.specs.declared.RawKeypoint.{RawKeypoint}
 use Rattle.detect.specs.Entry as Detection
 use Rattle.orient.specs.Entry.{orientFault, orientedList}
@@ -17,6 +19,8 @@ use Rattle.descriptor_inputs.specs.Inputs.{inputsOf}
 use Rattle.descriptor_inputs.specs.declared.Inputs.{Inputs}
 use Rattle.descriptor_patch.specs.Patch.{readsOf}
 use Rattle.descriptor.specs.Place.{turnAt}
+use Rattle.descriptor.specs.declared.Spot.{Spot}
+use Rattle.descriptor.specs.Rules.{spotOf}
 use Rattle.descriptor.specs.Entry as Descriptor
 use Rattle.road.specs.Record.{recordOf}
 
@@ -29,38 +33,43 @@ Among x xs = List·Memᴰ x xs
 -- an octave of a frame: its difference planes, and for each layer the picture on which a keypoint that settled there is turned and described
 pub record Octave : Type 0 where
   pub number : ℕ
-  pub width : ℕ
-  pub height : ℕ
-  pub planes : ℕ
+  pub shape : Shape
   pub stack : List Float
   pub picture : ℕ → List Float
 
+-- the size of its pictures
+abbrev pub sizeIn : Octave → Size
+sizeIn q = record { width = q .shape .width; height = q .shape .height }
+
 -- detection on a layer: the number that it answers, and the keypoints that it finds
 abbrev pub searchFault : Settings → Octave → ℕ → ℕ
-searchFault s q layer = Detection.faultOf (q .stack) (q .width) (q .height) (q .planes) layer (q .number) s
+searchFault s q layer = Detection.faultOf (q .stack) (q .shape) layer (q .number) s
 
 abbrev pub foundIn : Settings → Octave → ℕ → List RawKeypoint
-foundIn s q layer = Detection.listOf (q .stack) (q .width) (q .height) layer (q .number) s
+foundIn s q layer = Detection.listOf (q .stack) (q .shape) layer (q .number) s
 
 -- orientation of a keypoint on a picture of the octave: its number, and the directions
 abbrev pub turnFault : List Float → Octave → RawKeypoint → ℕ
-turnFault img q k = orientFault img (q .width) (q .height) k
+turnFault img q k = orientFault img (sizeIn q) k
 
 abbrev pub directionsOf : List Float → Octave → RawKeypoint → List OrientedKeypoint
-directionsOf img q k = orientedList img (q .width) (q .height) k
+directionsOf img q k = orientedList img (sizeIn q) k
 
 -- the descriptor of a direction: what it is asked with, its number, what it reads, and the 128 values
 abbrev pub inputsFor : Octave → OrientedKeypoint → Inputs
 inputsFor q o = inputsOf o (pos (q .number))
 
+abbrev pub spotFor : Octave → OrientedKeypoint → Spot
+spotFor q o = spotOf (inputsFor q o)
+
 abbrev pub patchFault : List Float → Octave → OrientedKeypoint → ℕ
-patchFault img q o = let i = inputsFor q o in Descriptor.faultOf img (q .width) (q .height) (i .x) (i .y) (i .scale) (i .angle)
+patchFault img q o = Descriptor.faultOf img (sizeIn q) (spotFor q o)
 
 abbrev pub patchReads : List Float → Octave → OrientedKeypoint → List Float
-patchReads img q o = let i = inputsFor q o in readsOf img (q .width) (q .height) (turnAt (q .width) (q .height) (i .x) (i .y) (i .scale) (i .angle))
+patchReads img q o = readsOf img (turnAt (sizeIn q) (spotFor q o))
 
 abbrev pub valuesFor : List Float → Octave → OrientedKeypoint → List Float
-valuesFor img q o = let i = inputsFor q o in Descriptor.valuesAt img (q .width) (q .height) (i .x) (i .y) (i .scale) (i .angle)
+valuesFor img q o = Descriptor.valuesAt img (sizeIn q) (spotFor q o)
 
 -- a keypoint's picture is that of the layer where it settled, which may be another than the one searched
 abbrev pub pictureFor : Octave → RawKeypoint → List Float
@@ -74,9 +83,9 @@ recordFor q k o = recordOf k (o .angle) (valuesFor (pictureFor q k) q o)
 
 -- the pictures of all layers have the octave's size, whatever their samples, and the frame is no smaller
 pub record Sized (wide high : ℕ) (s : Settings) (q : Octave) : Type 0 where
-  pub picture : (layer : ℕ) → 1 ≤ layer → layer ≤ s .layers → length (q .picture layer) ≡ q .height * q .width
-  pub across : q .width ≤ wide
-  pub down : q .height ≤ high
+  pub picture : (layer : ℕ) → 1 ≤ layer → layer ≤ s .layers → length (q .picture layer) ≡ q .shape .height * q .shape .width
+  pub across : q .shape .width ≤ wide
+  pub down : q .shape .height ≤ high
 
 -- r is a record of the frame: that of some direction of some keypoint that was found in some layer of some octave, no stage refusing
 pub record OfFrame (wide high : ℕ) (s : Settings) (r : List ℕ) : Type 0 where

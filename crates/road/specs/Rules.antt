@@ -1,4 +1,4 @@
--- The stages fit, from the planes of a frame to a sheet that reads back. proofs/Rules.antt proves each. Definitions only.
+-- Law: the stages fit, from the planes of a frame to a sheet that reads back. proofs/Rules.antt proves each. Definitions only.
 use Prim.Native.Nat.{ℕ, _*_, _<_, _≤_}
 use mathlib.Core.Path.{_≡_}
 use mathlib.Core.Bool.{Bool, true, cond}
@@ -22,7 +22,7 @@ use Rattle.words.specs.Oriented.{orientedIn}
 use Rattle.sheet.specs.Layout.{edition1, maxCount}
 use Rattle.sheet.specs.Writes.{frameOf, wordsRight}
 use Rattle.road.specs.Record.{recordOf, Filled}
-use Rattle.road.specs.Road.{Among, Octave, searchFault, foundIn, turnFault, directionsOf, inputsFor, patchFault, patchReads, OfFrame, Smooth, sheetRecords}
+use Rattle.road.specs.Road.{Among, Octave, sizeIn, searchFault, foundIn, turnFault, directionsOf, inputsFor, patchFault, patchReads, OfFrame, Smooth, sheetRecords}
 use Rattle.road.specs.Back.{Framed, ReadsBack}
 
 -- the number where no line but 6 can be given: 0 if all that is read is good, and else 6
@@ -42,15 +42,15 @@ pub record Through (img : List Float) (q : Octave) (k : RawKeypoint) : Type 0 wh
 pub record RoadRule : Type 0 where
   -- a keypoint of an accepted search, on a picture of that size with whatever samples: orientation can refuse it by 6 alone, and does exactly where a cell that it reads is bad
   pub oriented : (s : Settings) (q : Octave) (layer : ℕ) → searchFault s q layer ≡ 0 → (k : RawKeypoint) → Among k (foundIn s q layer)
-      → (img : List Float) → length img ≡ q .height * q .width
-      → turnFault img q k ≡ sixUnless (windowGood img (windowAt (q .width) (q .height) k))
+      → (img : List Float) → length img ≡ q .shape .height * q .shape .width
+      → turnFault img q k ≡ sixUnless (windowGood img (windowAt (sizeIn q) k))
   -- so it is with the descriptor and each direction that orientation gave
   pub described : (s : Settings) (q : Octave) (layer : ℕ) → searchFault s q layer ≡ 0 → (k : RawKeypoint) → Among k (foundIn s q layer)
-      → (img : List Float) → length img ≡ q .height * q .width
+      → (img : List Float) → length img ≡ q .shape .height * q .shape .width
       → turnFault img q k ≡ 0 → (o : OrientedKeypoint) → Among o (directionsOf img q k) → Served img q o
   -- on a picture of good samples neither refuses anything
   pub through : (s : Settings) (q : Octave) (layer : ℕ) → searchFault s q layer ≡ 0 → (k : RawKeypoint) → Among k (foundIn s q layer)
-      → (img : List Float) → length img ≡ q .height * q .width → allGood img ≡ true → Through img q k
+      → (img : List Float) → length img ≡ q .shape .height * q .shape .width → allGood img ≡ true → Through img q k
   -- what C passes on is what is spoken of here: ten words of what detection wrote, from the place 10 × i on, read back as the keypoint i
   pub keypoint-words : (s : Settings) (q : Octave) (layer : ℕ) → searchFault s q layer ≡ 0 → (past : RawKeypoint) (i : ℕ) → i < length (foundIn s q layer)
       → keypointIn (take keypointWords (drop (keypointWords * i) (Raw.words (foundIn s q layer)))) ≡ getD (foundIn s q layer) i past

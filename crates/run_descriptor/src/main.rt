@@ -1,7 +1,10 @@
 // Replays places of pictures with the published Rust's answers (host/record/src/descriptor.rs says how they are laid out) through `compute_descriptor`, and says how many
 // cases, descriptors and words were compared and how many differ.
 ghost use Prim.Native.Nat.{_≤_};
+ghost use Rattle.run_descriptor.specs.Room.{mostRoom};
 use descriptor::Described;
+use descriptor::Spot;
+use picture::Size;
 
 // How the file begins: "BCL3".
 const MARK: u32 = 0x4243_4c33;
@@ -14,12 +17,8 @@ const ROOM: usize = 256;
 
 // A case's head.
 struct Case {
-    width: usize,
-    height: usize,
-    x: f32,
-    y: f32,
-    scale: f32,
-    angle: f32,
+    size: Size,
+    spot: Spot,
     room: usize,
     number: u32,
     count: usize,
@@ -37,13 +36,19 @@ fn next_case(fd: i32, counts: &mut [u64; 9]) -> Case {
     let number = run_replay::next(fd, counts);
     let count = run_replay::next_size(fd, counts);
     let samples = run_replay::next_size(fd, counts);
-    Case {
+    let size = Size {
         width: width,
         height: height,
+    };
+    let spot = Spot {
         x: x,
         y: y,
         scale: scale,
         angle: angle,
+    };
+    Case {
+        size: size,
+        spot: spot,
         room: room,
         number: number,
         count: count,
@@ -93,7 +98,7 @@ fn compare_answer(counts: &mut [u64; 9], a: Described, c: Case) {
 
 // Compares the n lent words, as they stand after the call, with the file's.
 fn compare_values(fd: i32, counts: &mut [u64; 9], out: &[u32; 256], n: usize)
-    requires { ⌜ n ≤ 256 ⌝ }
+    requires { ⌜ n ≤ mostRoom ⌝ }
 {
     for i in 0..n {
         let want = run_replay::next(fd, counts);
@@ -106,20 +111,13 @@ fn compare_values(fd: i32, counts: &mut [u64; 9], out: &[u32; 256], n: usize)
 
 // Replays a case of n samples, whose head is read.
 fn replay_case(fd: i32, counts: &mut [u64; 9], c: Case, n: usize, room: usize)
-    requires { ⌜ (n ≤ 65536) × (room ≤ 256) ⌝ }
+    requires { ⌜ (n ≤ 65536) × (room ≤ mostRoom) ⌝ }
 {
     let samples = run_replay::read_samples(fd, counts, n);
     let mut out = [PATTERN; 256];
-    let a = descriptor::compute_descriptor(
-        &samples[..n],
-        c.width,
-        c.height,
-        c.x,
-        c.y,
-        c.scale,
-        c.angle,
-        &mut out[..room],
-    );
+    let s = c.size;
+    let p = c.spot;
+    let a = descriptor::compute_descriptor(&samples[..n], s, p, &mut out[..room]);
     compare_answer(counts, a, c);
     compare_values(fd, counts, &out, room);
 }
@@ -127,7 +125,8 @@ fn replay_case(fd: i32, counts: &mut [u64; 9], c: Case, n: usize, room: usize)
 // Reads a case and replays it, if it fits the buffers.
 fn step(fd: i32, counts: &mut [u64; 9]) {
     let c = next_case(fd, counts);
-    let n = run_replay::product(c.width, c.height);
+    let s = c.size;
+    let n = run_replay::product(s.width, s.height);
     let room = c.room;
     if n > run_replay::MOST_SAMPLES {
         run_replay::add(counts, run_replay::UNREADABLE, 1);

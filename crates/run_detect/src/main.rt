@@ -2,6 +2,7 @@
 // words were compared and how many differ.
 ghost use Prim.Native.Nat.{_<_, _≤_};
 use params::Settings;
+use picture::Shape;
 
 const MARK: u32 = 0x4243_4c31;
 
@@ -9,9 +10,7 @@ const PATTERN: u32 = 0xa5a5_a5a5;
 
 // A case's head.
 struct Case {
-    width: usize,
-    height: usize,
-    planes: usize,
+    shape: Shape,
     layer: usize,
     octave: u32,
     settings: Settings,
@@ -45,10 +44,13 @@ fn next_case(fd: i32, counts: &mut [u64; 9]) -> Case {
         sigma: sigma,
         layers: layers,
     };
-    Case {
+    let shape = Shape {
         width: width,
         height: height,
         planes: planes,
+    };
+    Case {
+        shape: shape,
         layer: layer,
         octave: octave,
         settings: settings,
@@ -73,9 +75,7 @@ fn replay_case(fd: i32, counts: &mut [u64; 9], c: Case, n: usize, room: usize)
     let mut out = [PATTERN; 4096];
     let a = detect::find_extrema(
         &samples[..n],
-        c.width,
-        c.height,
-        c.planes,
+        c.shape,
         c.layer,
         c.octave,
         c.settings,
@@ -89,7 +89,10 @@ fn replay_case(fd: i32, counts: &mut [u64; 9], c: Case, n: usize, room: usize)
 // Reads a case and replays it, if it fits the buffers.
 fn step(fd: i32, counts: &mut [u64; 9]) {
     let c = next_case(fd, counts);
-    let n = run_replay::product(run_replay::product(c.width, c.height), c.planes);
+    let n = run_replay::product(
+        run_replay::product(c.shape.width, c.shape.height),
+        c.shape.planes,
+    );
     let room = c.room;
     if n > run_replay::MOST_SAMPLES {
         run_replay::add(counts, run_replay::UNREADABLE, 1);

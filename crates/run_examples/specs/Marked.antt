@@ -1,4 +1,4 @@
--- The marked examples that are proved, rules E1 to E4, as one table under one statement. Definitions only.
+-- Law: the marked examples that are proved, rules E1 to E4, as one table under one statement. Definitions only.
 use Prim.Native.Nat.{ℕ}
 use mathlib.Core.Path.{_≡_}
 use mathlib.Core.Bool.{true}

@@ -2,13 +2,17 @@
 ghost use mathlib.Core.Path.{_≡_};
 ghost use Prim.Native.Nat.{_<_, _≤_};
 use descriptor::Described;
-use detect_refine::Offset;
-use detect_refine::Patch;
+use descriptor::Spot;
+use detect_fit::Offset;
+use detect_fit::Patch;
+use detect_refine::Cell;
 use detect_refine::Step;
 use libc::STDOUT_FILENO;
 use params::Answer;
 use params::Settings;
 use params::Threshold;
+use picture::Shape;
+use picture::Size;
 
 fn print(text: &[u8]) {
     io::write_all(STDOUT_FILENO, text);
@@ -104,7 +108,12 @@ fn settings() -> Settings
 
 // Detection in those planes, 11 × 11 each, at octave 0.
 fn detect_in(samples: &[f32; 363], out: &mut [u32; 10]) -> Answer {
-    detect::find_extrema(samples, 11, 11, 3, 1, 0, settings(), out)
+    let t = Shape {
+        width: 11,
+        height: 11,
+        planes: 3,
+    };
+    detect::find_extrema(samples, t, 1, 0, settings(), out)
 }
 
 // A line: the example, how many keypoints there are and how many are expected, and a mark where the two differ.
@@ -139,29 +148,35 @@ enum Fate {
 
 // How far the middle plane's cell (5, 5) comes with the threshold: asked of the very functions that detection calls, one after the other.
 fn fate_with(samples: &[f32; 363], threshold: f32) -> Fate {
-    if !detect_extrema::is_loud(threshold, picture::at(samples, 11, 11, 3, 1, 5, 5)) {
+    let t = Shape {
+        width: 11,
+        height: 11,
+        planes: 3,
+    };
+    if !detect_extrema::is_loud(threshold, picture::at(samples, t, 1, 5, 5)) {
         return Fate::Quiet;
     }
-    if !detect_extrema::is_extremum(samples, 11, 11, 3, 1, 5, 5) {
+    if !detect_extrema::is_extremum(samples, t, 1, 5, 5) {
         return Fate::Beaten;
     }
-    let t = detect_refine::patch_at(samples, 11, 11, 3, 1, 5, 5);
-    if detect_refine::det_of(detect_refine::bend_of(t)) == 0.0 {
+    let patch = detect_fit::patch_at(samples, t, 1, 5, 5);
+    if detect_fit::det_of(detect_fit::bend_of(patch)) == 0.0 {
         return Fate::Singular;
     }
-    match detect_refine::step_of(11, 11, 1, 1, 5, 5, t) {
+    let middle = Cell { p: 1, r: 5, c: 5 };
+    match detect_refine::step_of(t, 1, middle, patch) {
         Step::Lost => Fate::Astray,
-        Step::Go(_, _, _) => Fate::Astray,
-        Step::Stay(o) => settled(t, o),
+        Step::Go(_) => Fate::Astray,
+        Step::Stay(o) => settled(patch, o),
     }
 }
 
 // How far a cell comes that settles with the offset o.
-fn settled(t: Patch, o: Offset) -> Fate {
-    if detect_refine::is_dim(settings(), detect_refine::contrast_of(t, o)) {
+fn settled(patch: Patch, o: Offset) -> Fate {
+    if detect_refine::is_dim(settings(), detect_refine::contrast_of(patch, o)) {
         return Fate::Dim;
     }
-    if detect_refine::is_edgy(settings(), t) {
+    if detect_refine::is_edgy(settings(), patch) {
         return Fate::Edge;
     }
     Fate::Found
@@ -243,9 +258,14 @@ fn detection() {
     let mut out = [0u32; 10];
     let mut narrow = [0.0f32; 330];
     narrow[165] = 100.0;
+    let ten = Shape {
+        width: 10,
+        height: 11,
+        planes: 3,
+    };
     show_count(
         b"width 10, 100 in the middle plane's cell (5, 5)",
-        detect::find_extrema(&narrow, 10, 11, 3, 1, 0, settings(), &mut out),
+        detect::find_extrema(&narrow, ten, 1, 0, settings(), &mut out),
         0,
     );
     show_count(
@@ -309,7 +329,17 @@ fn show_described(example: &[u8], got: Described, expected: usize) {
 fn described() {
     let picture = [1.0f32, 2.0, 3.0, 4.0];
     let mut values = [7u32; 128];
-    let a = descriptor::compute_descriptor(&picture, 2, 2, 1.0, 0.0, 1.6, 30.0, &mut values);
+    let size = Size {
+        width: 2,
+        height: 2,
+    };
+    let spot = Spot {
+        x: 1.0,
+        y: 0.0,
+        scale: 1.6,
+        angle: 30.0,
+    };
+    let a = descriptor::compute_descriptor(&picture, size, spot, &mut values);
     show_described(b"a 2 x 2 picture, samples", a, 0);
     show_count(
         b" values that are not zero",

@@ -3,17 +3,22 @@
 // (data/README.md says how they were made). What is printed: a line for each record as the reader gives it, and the sheet's bytes, the header first and then a record a line.
 ghost use Prim.Native.Nat.{_+_, _<_, _≤_};
 use descriptor::Described;
+use descriptor::Spot;
 use detect_refine::RawKeypoint;
 use libc::STDOUT_FILENO;
 use orient::OrientedKeypoint;
 use params::Answer;
 use params::Settings;
+use picture::Shape;
+use picture::Size;
 
 const WIDTH: usize = 56;
 
 const HEIGHT: usize = 44;
 
 const LAYERS: usize = 3;
+
+const PLANES: usize = 5;
 
 // The most records that there is room for; the coast of the file has 18, and the program says so where there are more.
 const MOST: usize = 64;
@@ -22,6 +27,21 @@ const MOST: usize = 64;
 //     2,464 = 44 × 56, the samples of a plane; 12,320 = 5 × 2,464, those of the difference planes
 //     320 = 10 × 32, the words of 32 keypoints, the most that a layer's list has room for; 108 = 6 × 18, those of 18 oriented keypoints, the most that a keypoint has
 //     8,832 = 138 × 64, the words of 64 records; 8,896 = 139 × 64, the same as the reader gives them; 9,864 = 8 + 154 × 64, the bytes of their sheet
+
+fn shape() -> Shape {
+    Shape {
+        width: WIDTH,
+        height: HEIGHT,
+        planes: PLANES,
+    }
+}
+
+fn size() -> Size {
+    Size {
+        width: WIDTH,
+        height: HEIGHT,
+    }
+}
 
 fn settings() -> Settings {
     Settings {
@@ -114,7 +134,7 @@ fn hundredths(bits: u32) {
 fn find(dog: &[f32], layer: usize, found: &mut [u32; 320]) -> usize
     ensures { λ r. ⌜ r ≤ 32 ⌝ }
 {
-    let a = detect::find_extrema(dog, WIDTH, HEIGHT, 5, layer, 0, settings(), found);
+    let a = detect::find_extrema(dog, shape(), layer, 0, settings(), found);
     let n = told(b"detection", a);
     if n > 32 {
         return 0;
@@ -195,16 +215,13 @@ fn describe(picture: &[f32], o: OrientedKeypoint) -> [u32; 128] {
         told(b"the descriptor's inputs", Answer::Refused(i.number));
         return values;
     }
-    let d = descriptor::compute_descriptor(
-        picture,
-        WIDTH,
-        HEIGHT,
-        i.x,
-        i.y,
-        i.scale,
-        i.angle,
-        &mut values,
-    );
+    let p = Spot {
+        x: i.x,
+        y: i.y,
+        scale: i.scale,
+        angle: i.angle,
+    };
+    let d = descriptor::compute_descriptor(picture, size(), p, &mut values);
     match d {
         Described::Done(_) => values,
         Described::Short => values,
@@ -229,27 +246,25 @@ fn oriented_at(out: &[u32; 108], j: usize) -> OrientedKeypoint
     }
 }
 
-// Adds the record of a keypoint's direction j, if it has so many, and answers how many records there are now.
+// Adds the record of a keypoint's direction, if there is one, and answers how many records there are now.
 fn add_record(
     picture: &[f32],
     k: RawKeypoint,
-    out: &[u32; 108],
-    peaks: usize,
-    j: usize,
+    o: OrientedKeypoint,
+    there: bool,
     records: &mut [u32; 8832],
     written: usize,
 ) -> usize
-    requires { ⌜ (j < 18) × (written ≤ 64) ⌝ }
+    requires { ⌜ written ≤ 64 ⌝ }
     ensures { λ r. ⌜ r ≤ 64 ⌝ }
 {
-    if j >= peaks {
+    if !there {
         return written;
     }
     if written >= MOST {
         print(b"more records than there is room for\n");
         return MOST;
     }
-    let o = oriented_at(out, j);
     let values = describe(picture, o);
     put_record(records, 138 * written, k, o, &values);
     written + 1
@@ -268,7 +283,7 @@ fn add_peaks(
 {
     let mut n = written;
     for j in 0..18 {
-        n = add_record(picture, k, out, peaks, j, records, n);
+        n = add_record(picture, k, oriented_at(out, j), j < peaks, records, n);
     }
     n
 }
@@ -279,7 +294,7 @@ fn add_on(picture: &[f32], k: RawKeypoint, records: &mut [u32; 8832], written: u
     ensures { λ r. ⌜ r ≤ 64 ⌝ }
 {
     let mut out = [0u32; 108];
-    let r = orient::assign_orientations(picture, WIDTH, HEIGHT, k, &mut out);
+    let r = orient::assign_orientations(picture, size(), k, &mut out);
     let a = r.answer;
     let peaks = told(b"orientation", a);
     add_peaks(picture, k, &out, peaks, records, written)

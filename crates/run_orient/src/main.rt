@@ -2,6 +2,7 @@
 // oriented keypoints and words were compared and how many differ.
 ghost use Prim.Native.Nat.{_≤_};
 use detect_refine::RawKeypoint;
+use picture::Size;
 
 const MARK: u32 = 0x4243_4c32;
 
@@ -9,8 +10,7 @@ const PATTERN: u32 = 0xa5a5_a5a5;
 
 // A case's head.
 struct Case {
-    width: usize,
-    height: usize,
+    size: Size,
     keypoint: RawKeypoint,
     room: usize,
     number: u32,
@@ -51,9 +51,12 @@ fn next_case(fd: i32, counts: &mut [u64; 9]) -> Case {
     let number = run_replay::next(fd, counts);
     let count = run_replay::next_size(fd, counts);
     let samples = run_replay::next_size(fd, counts);
-    Case {
+    let size = Size {
         width: width,
         height: height,
+    };
+    Case {
+        size: size,
         keypoint: keypoint,
         room: room,
         number: number,
@@ -75,7 +78,8 @@ fn replay_case(fd: i32, counts: &mut [u64; 9], c: Case, n: usize, room: usize)
     let samples = run_replay::read_samples(fd, counts, n);
     let mut out = [PATTERN; 4096];
     let k = c.keypoint;
-    let a = orient::assign_orientations(&samples[..n], c.width, c.height, k, &mut out[..room]);
+    let s = c.size;
+    let a = orient::assign_orientations(&samples[..n], s, k, &mut out[..room]);
     let answer = a.answer;
     run_replay::compare_answer(counts, answer, c.number, c.count);
     compare_cells(counts, a.samples, c.samples);
@@ -85,7 +89,8 @@ fn replay_case(fd: i32, counts: &mut [u64; 9], c: Case, n: usize, room: usize)
 // Reads a case and replays it, if it fits the buffers.
 fn step(fd: i32, counts: &mut [u64; 9]) {
     let c = next_case(fd, counts);
-    let n = run_replay::product(c.width, c.height);
+    let s = c.size;
+    let n = run_replay::product(s.width, s.height);
     let room = c.room;
     if n > run_replay::MOST_SAMPLES {
         run_replay::add(counts, run_replay::UNREADABLE, 1);

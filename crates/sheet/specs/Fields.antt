@@ -1,4 +1,4 @@
--- A header's fields, and a record's whole numbers and floats, as the values of their slots at edition 1, and what has room there; and a frame for where only the widths of slots matter. Definitions only.
+-- Inner: a header's fields, and a record's whole numbers and floats, as the values of their slots at edition 1, and what has room there; and a frame for where only the widths of slots matter. Definitions only.
 use mathlib.Core.Bool.{Bool}
 use mathlib.Core.List.{List, [], _∷_, _++_}
 use Prim.Native.Nat.{ℕ, _-_, _^_, _≤_, _<_}

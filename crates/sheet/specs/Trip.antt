@@ -1,4 +1,4 @@
--- The return trip, rule S11, as statements: first of any lawful layout, then of what the public entries answer and leave. `TripRule`, at the end, has them all;
+-- Law: the return trip, rule S11, as statements: first of any lawful layout, then of what the public entries answer and leave. `TripRule`, at the end, has them all;
 -- `proofs/Rules` proves it. Definitions only.
 use mathlib.Core.Path.{_≡_}
 use mathlib.Core.List.{List, _++_, flatMap}

@@ -13,8 +13,8 @@ use lib.Ieee.Bits.{is-true, is-false, ofBits-toBits}
 use lib.Ieee.Exact.{HasValue, odd-sign}
 use lib.Ieee.Order.{le-of-values}
 use lib.Ieee.Scale.{finite}
+use Rattle.lists.proofs.Naturals.{le-or-lt}
 use Rattle.packing.proofs.Fields.{ofBits-is, normal-is, value-low, value-normal, field-ne}
-use Rattle.packing.proofs.Size.{le-or-lt}
 use Rattle.ieee.specs.F32.{f32, bitsOf, absOf}
 use Rattle.ieee_laws.proofs.Order.{lt-not-le}
 use Rattle.ieee_laws.proofs.Monotone.{nil}

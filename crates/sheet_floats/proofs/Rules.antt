@@ -15,8 +15,8 @@ use lib.Ieee.Exact.{HasValue, odd-sign}
 use lib.Ieee.Order.{le-of-values}
 use lib.Ieee.Positive.{first-pos}
 use lib.Ieee.Fits.{down-pos}
+use Rattle.lists.proofs.Naturals.{le-or-lt}
 use Rattle.packing.proofs.Fields.{ofBits-is, finite-no-nan}
-use Rattle.packing.proofs.Size.{le-or-lt}
 use Rattle.ieee.specs.F32.{f32, bitsOf, absOf}
 use Rattle.ieee.specs.Numbers.{nought, wholeTurn}
 use Rattle.ieee_laws.proofs.Monotone.{nil}

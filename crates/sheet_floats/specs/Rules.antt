@@ -1,4 +1,4 @@
--- The sheet holds floats to ranges of bits. These are the same as rule S5 on the floats themselves, both ways: finite with the sign bit clear, a size above 0, an angle below 360. proofs/Rules.antt proves each. Definitions only.
+-- Law: the sheet holds floats to ranges of bits. These are the same as rule S5 on the floats themselves, both ways: finite with the sign bit clear, a size above 0, an angle below 360. proofs/Rules.antt proves each. Definitions only.
 use Prim.Native.Nat.{ℕ, _^_, _<_, _≤_}
 use mathlib.Core.Path.{_≡_}
 use mathlib.Core.Bool.{true}

@@ -1,3 +1,4 @@
 pub mod Keypoint
 pub mod Oriented
 pub mod Rules
+pub mod Inputs

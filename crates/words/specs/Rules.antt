@@ -1,4 +1,4 @@
--- A keypoint's words read back as the keypoint, and so do those of an oriented one: what C passes from one entry to the next is what the first one gave.
+-- Law: a keypoint's words read back as the keypoint, and so do those of an oriented one: what C passes from one entry to the next is what the first one gave.
 -- proofs/Rules.antt proves each. Definitions only.
 use Prim.Native.Nat.{ℕ, _*_, _<_}
 use mathlib.Core.Path.{_≡_}

@@ -1,9 +1,11 @@
-// A keypoint and an oriented keypoint of the words that they went out as. Any other number of words stands for a keypoint that no entry takes.
+// A keypoint and an oriented keypoint of the words that they went out as, and the descriptor's inputs as words. Any other number of words stands for a keypoint that no entry takes.
 ghost use mathlib.Core.Path.{_≡_};
 ghost use lib.ListN.{length};
 ghost use lib.Ieee.{nan};
 ghost use Rattle.words.specs.Keypoint.{wordsIn, broken, keypointIn};
+ghost use Rattle.words.specs.Inputs.{inputWords, wordsOut, inputsNumber, inputsLeft};
 ghost use Rattle.words.specs.Oriented.{sixIn, unoriented, orientedIn};
+use descriptor_inputs::Inputs;
 use detect_refine::RawKeypoint;
 use orient::OrientedKeypoint;
 
@@ -101,4 +103,31 @@ pub fn oriented_in(o: &[u32]) -> OrientedKeypoint
     } else {
         unoriented_keypoint()
     }
+}
+
+// The inputs of a descriptor go out as so many words.
+const INPUT_WORDS: usize = 4;
+
+fn put_inputs(i: Inputs, out: &mut [u32])
+    requires { ⌜ length (now out) ≡ inputWords ⌝ }
+    ensures { λ _. ⌜ now (out .exit) ≡ wordsOut i ⌝ }
+{
+    out[0] = ieee::bits_of(i.x);
+    out[1] = ieee::bits_of(i.y);
+    out[2] = ieee::bits_of(i.scale);
+    out[3] = ieee::bits_of(i.angle);
+}
+
+// The inputs as words: their number, then 7 where not so many words are lent.
+pub fn give_inputs(i: Inputs, out: &mut [u32]) -> u32
+    ensures { λ r. ⌜ (r ≡ inputsNumber i (length (now (out .entry)))) × (now (out .exit) ≡ inputsLeft i (now (out .entry))) ⌝ }
+{
+    if i.number != 0 {
+        return i.number;
+    }
+    if out.len() != INPUT_WORDS {
+        return 7;
+    }
+    put_inputs(i, out);
+    0
 }

@@ -6,6 +6,7 @@ use Rattle.detect_refine.specs.declared.RawKeypoint.{RawKeypoint}
 use Rattle.orient.specs.declared.OrientAnswer.{OrientAnswer}
 use Rattle.orient.specs.Entry.{orientAnswer, orientOut}
 use borrow.Author.Needs.{needs}
+use Rattle.bargeclover.specs.Given.{sizeOf}
 use Rattle.bargeclover.proofs.bargeclover_assign_orientations.Statement.{statement}
 use Rattle.bargeclover.proofs.bargeclover_assign_orientations.Tie as tie
 
@@ -26,16 +27,17 @@ same-length c = search needs
 
 returns : tie.Need-returns
 returns c =
+    let a = c .before .before .before .before .before .before .before .before .before .before .args in
     let given = c .before .before .before .before .before .before .keypoint-in .ensures in
     let told = c .before .before .before .before .assign-orientations .ensures in
-    let at : RawKeypoint → OrientAnswer = λ k. orientAnswer (now (c .before .before .before .before .before .before .before .before .before .before .args .img)) (c .before .before .before .before .before .before .before .before .before .before .args .width) (c .before .before .before .before .before .before .before .before .before .before .args .height) k (length (now (c .before .before .before .before .before .before .before .before .before .before .args .out))) in
+    let at : RawKeypoint → OrientAnswer = λ k. orientAnswer (now (a .img)) (sizeOf (a .width) (a .height)) k (length (now (a .out))) in
     let answer = told .0 ∙ ap at given in (
       c .number-of .ensures ∙ ap (λ (r : OrientAnswer). numberOf (r .answer)) answer,
       (
         c .before .count-of .ensures ∙ ap (λ (r : OrientAnswer). countOf (r .answer)) answer,
         (
           ap (λ (r : OrientAnswer). r .samples) answer,
-          told .1 ∙ ap (λ (k : RawKeypoint). orientOut (now (c .before .before .before .before .before .before .before .before .before .before .args .img)) (c .before .before .before .before .before .before .before .before .before .before .args .width) (c .before .before .before .before .before .before .before .before .before .before .args .height) k (now (c .before .before .before .before .before .before .before .before .before .before .args .out))) given,
+          told .1 ∙ ap (λ (k : RawKeypoint). orientOut (now (a .img)) (sizeOf (a .width) (a .height)) k (now (a .out))) given,
         ),
       ),
     )

@@ -3,24 +3,18 @@ use Rattle.descriptor.specs.Entry.{numberOf, countOf, usedOf}
 use borrow.Author.Needs.{needs}
 use Rattle.bargeclover.proofs.bargeclover_compute_descriptor.Statement.{statement}
 use Rattle.bargeclover.proofs.bargeclover_compute_descriptor.Tie as tie
-use Rattle.bargeclover.proofs.bargeclover_compute_descriptor.Reads as reads
-use Rattle.bargeclover.proofs.bargeclover_compute_descriptor.Lts as lts
-use Rattle.bargeclover.proofs.described_count.Reads as described-count-reads
-use Rattle.bargeclover.proofs.described_number.Reads as described-number-reads
-use Rattle.bargeclover.proofs.described_used.Reads as described-used-reads
-use Rattle.descriptor.proofs.compute_descriptor.Reads as compute-descriptor-reads
 
 compute-descriptor-requires : tie.Need-compute-descriptor-requires
 compute-descriptor-requires c κs = search needs
 
-described-count-requires : tie.Need-described-count-requires
-described-count-requires c κs = search needs
+count-of-requires : tie.Need-count-of-requires
+count-of-requires c κs = search needs
 
-described-used-requires : tie.Need-described-used-requires
-described-used-requires c κs = search needs
+used-of-requires : tie.Need-used-of-requires
+used-of-requires c κs = search needs
 
-described-number-requires : tie.Need-described-number-requires
-described-number-requires c κs = search needs
+number-of-requires : tie.Need-number-of-requires
+number-of-requires c κs = search needs
 
 same-length : tie.Need-same-length
 same-length c = search needs
@@ -28,10 +22,10 @@ same-length c = search needs
 returns : tie.Need-returns
 returns c =
     let d = c .before .before .before .before .before .compute-descriptor .ensures in (
-      c .described-number .ensures ∙ ap numberOf (d .0),
+      c .number-of .ensures ∙ ap numberOf (d .0),
       (
-        c .before .before .described-count .ensures ∙ ap countOf (d .0),
-        (c .before .described-used .ensures ∙ ap usedOf (d .0), d .1),
+        c .before .before .count-of .ensures ∙ ap countOf (d .0),
+        (c .before .used-of .ensures ∙ ap usedOf (d .0), d .1),
       ),
     )
 
@@ -40,8 +34,8 @@ bargeclover-compute-descriptor-spec =
     tie.close
     (tie.spec
     compute-descriptor-requires
-    described-count-requires
-    described-used-requires
-    described-number-requires
+    count-of-requires
+    used-of-requires
+    number-of-requires
     same-length
     returns)

@@ -15,13 +15,13 @@ returns : tie.Need-returns
 returns c =
     let a = c .before .before .before .before .args in
     let e = c .before .fault-of .ensures .0 in
-    (answer-refused (a .img .now) (a .w) (a .h) (a .x) (a .y) (a .scale) (a .angle) _ _ e (c .if1 .taken), out-refused (a .img .now) (a .w) (a .h) (a .x) (a .y) (a .scale) (a .angle) _ (a .out .now) e (c .if1 .taken))
+    (answer-refused (a .img .now) (a .s) (a .p) _ _ e (c .if1 .taken), out-refused (a .img .now) (a .s) (a .p) _ (a .out .now) e (c .if1 .taken))
 
 returns-2 : tie.Need-returns-2
 returns-2 c =
     let a = c .before .before .before .before .before .args in
     let z = sym (c .before .before .fault-of .ensures .0) ∙ c .before .if1 .left in
-    (answer-short (a .img .now) (a .w) (a .h) (a .x) (a .y) (a .scale) (a .angle) z _ (c .if2 .taken), out-short (a .img .now) (a .w) (a .h) (a .x) (a .y) (a .scale) (a .angle) z (a .out .now) (c .if2 .taken))
+    (answer-short (a .img .now) (a .s) (a .p) z _ (c .if2 .taken), out-short (a .img .now) (a .s) (a .p) z (a .out .now) (c .if2 .taken))
 
 fill-requires : tie.Need-fill-requires
 fill-requires c κs = (c .before .before .before .fault-of .ensures .1 (c .before .before .if1 .left), search needs)
@@ -35,7 +35,7 @@ returns-3 c =
     let z = sym (c .before .before .before .before .before .before .fault-of .ensures .0) ∙ c .before .before .before .before .before .if1 .left in
     let r = c .before .before .before .before .if2 .left in
     let f = c .before .before .fill .ensures in
-    (answer-done (a .img .now) (a .w) (a .h) (a .x) (a .y) (a .scale) (a .angle) z _ _ (f .0) r, out-done (a .img .now) (a .w) (a .h) (a .x) (a .y) (a .scale) (a .angle) z _ (a .out .now) _ (f .0) r (f .1))
+    (answer-done (a .img .now) (a .s) (a .p) z _ _ (f .0) r, out-done (a .img .now) (a .s) (a .p) z _ (a .out .now) _ (f .0) r (f .1))
 
 pub compute-descriptor-spec : {M : Type 1} → statement M
 compute-descriptor-spec =

@@ -1,8 +1,9 @@
 use mathlib.Core.Path.{ap, _∙_}
 use lib.ListN.{length}
-use Rattle.descriptor_patch.specs.Patch.{samplesOf}
-use Rattle.descriptor_values_laws.proofs.Rules.{value-rule}
-use Rattle.descriptor.proofs.Checks.{one-plane, in-turn}
+use Rattle.descriptor_patch.specs.Patch.{patchOf, samplesOf}
+use Rattle.descriptor.specs.Place.{turnAt}
+use Rattle.descriptor_laws.proofs.ValuesRules.{value-rule}
+use Rattle.descriptor.proofs.Checks.{in-turn}
 use Rattle.descriptor.proofs.Answers.{filled}
 use borrow.Author.Needs.{needs}
 use Rattle.descriptor.proofs.fill.Statement.{statement}
@@ -18,7 +19,8 @@ turn-at-requires : tie.Need-turn-at-requires
 turn-at-requires c κs = search needs
 
 gather-requires : tie.Need-gather-requires
-gather-requires c κs = let p = c .before .before .before .before .pre .0 in let t = c .before .turn-at .ensures in (record { whole = one-plane _ _ _ (p .whole); lies = t .1; turn = in-turn _ (p .aimed .turned) }, rw (t .0) (p .good))
+unfolding turnAt patchOf
+gather-requires c κs = let p = c .before .before .before .before .pre .0 in let t = c .before .turn-at .ensures in rw (t .0) (record { whole = p .whole; lies = rw (t .0) at (t .1); turn = in-turn _ (p .aimed .turned) }, p .good)
 
 values-requires : tie.Need-values-requires
 values-requires c κs = search needs
@@ -34,7 +36,7 @@ returns c =
     let a = c .before .before .before .before .before .before .before .before .before .before .before .before .args in
     let t = c .before .before .before .before .before .before .before .before .before .turn-at .ensures .0 in
     let g = c .before .before .before .before .before .before .before .gather .ensures in
-    (g .1 ∙ ap (λ t. length (samplesOf (a .img .now) (a .w) (a .h) t)) t, filled (a .img .now) (a .w) (a .h) (a .x) (a .y) (a .scale) (a .angle) _ _ _ _ t (g .0) (c .before .before .before .before .before .values .ensures) (c .before .before .put .ensures))
+    (g .1 ∙ ap (λ t. length (samplesOf (a .img .now) t)) t, filled (a .img .now) (a .s) (a .p) _ _ _ _ t (g .0) (c .before .before .before .before .before .values .ensures) (c .before .before .put .ensures))
 
 pub fill-spec : {M : Type 1} → statement M
 fill-spec =

@@ -1,7 +1,6 @@
 use mathlib.Core.Path.{_≡_, sym, _∙_}
 use mathlib.Core.Bool.{true, false}
-use Rattle.params.specs.Table.{allGood}
-use Rattle.descriptor_patch.specs.Patch.{gridAt, fourAt, sampleAt}
+use Rattle.descriptor_patch.specs.Patch.{gridAt, sampleAt}
 use Rattle.descriptor_patch.proofs.Rules.{fair}
 use Rattle.descriptor_gather.specs.Gather.{sampleIn}
 use Rattle.descriptor_gather.proofs.Adds.{holds-used, holds-unused}
@@ -25,21 +24,21 @@ add-requires c κs =
     let x = c .before .before .before .before .before .args in
     let p = c .before .before .before .before .before .pre in
     let g : gridAt (x .t) (x .r) (x .c) ≡ true = sym (c .before .before .before .grid-at .ensures) ∙ c .before .before .if1 .taken in
-    let f = fair (x .img .now) (x .w) (x .h) (x .t) (x .r) (x .c) g (rw g at (p .1 .1 .1)) in
+    let f = fair (x .img .now) (x .t) (x .r) (x .c) g (rw g at (p .1 .1 .1)) in
     rw (c .before .sample-at .ensures) (p .0, record { row = f .row; col = f .col; turn = p .1 .0 .turn; slopes = f .slopes })
 
 returns : tie.Need-returns
 returns c =
     let x = c .before .before .before .before .before .before .args in
     let g : gridAt (x .t) (x .r) (x .c) ≡ true = sym (c .before .before .before .before .grid-at .ensures) ∙ c .before .before .before .if1 .taken in
-    let k = holds-used (x .angle) (x .hist .now) _ _ (sampleAt (x .img .now) (x .w) (x .h) (x .t) (x .r) (x .c)) (gridAt (x .t) (x .r) (x .c)) g (c .before .before .sample-at .ensures) (c .add .ensures) in
+    let k = holds-used (x .t .angle) (x .hist .now) _ _ (sampleAt (x .img .now) (x .t) (x .r) (x .c)) (gridAt (x .t) (x .r) (x .c)) g (c .before .before .sample-at .ensures) (c .add .ensures) in
     (k .held, k .count)
 
 returns-2 : tie.Need-returns-2
 returns-2 c =
     let x = c .before .before .before .args in
     let g : gridAt (x .t) (x .r) (x .c) ≡ false = sym (c .before .grid-at .ensures) ∙ c .if1 .left in
-    let k = holds-unused (x .angle) (x .hist .now) (sampleIn (x .img .now) (x .w) (x .h) (x .t) (x .r) (x .c)) (gridAt (x .t) (x .r) (x .c)) g in
+    let k = holds-unused (x .t .angle) (x .hist .now) (sampleIn (x .img .now) (x .t) (x .r) (x .c)) (gridAt (x .t) (x .r) (x .c)) g in
     (k .held, k .count)
 
 pub cell-spec : {M : Type 1} → statement M

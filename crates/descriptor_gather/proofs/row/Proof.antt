@@ -5,8 +5,7 @@ use mathlib.Core.List.{[]}
 use native.Mathlib.Omega.{arith}
 use lib.ListN.{length}
 use Rattle.lists.specs.Ranges.{joined}
-use Rattle.params.specs.Table.{allGood}
-use Rattle.descriptor_patch.specs.Patch.{gridAt, fourAt, sampleAt}
+use Rattle.descriptor_patch.specs.Patch.{gridAt, sampleAt}
 use Rattle.descriptor_patch.specs.Run.{overRun}
 use Rattle.descriptor_patch.proofs.Runs.{joined-done, fewer, further}
 use Rattle.descriptor_patch.proofs.Rules.{good-part}
@@ -20,10 +19,10 @@ use Rattle.descriptor_gather.proofs.row.Lts as lts
 use Rattle.descriptor_gather.proofs.cell.Reads as cell-reads
 
 abbrev Inv-loop : tie.InvT-loop
-Inv-loop img w h t angle powers hist₀ r a b n₀ c₀ hist n c = (a ≤ c) × ((c ≤ max a b) × ((n ≤ c) × Holds angle hist₀ (joined a c (λ k. cond (gridAt t r k) (sampleIn img w h t r k) [])) hist n))
+Inv-loop img t powers hist₀ r end n₀ c₀ hist n c = (c₀ ≤ c) × ((c ≤ max c₀ end) × ((n ≤ c) × Holds (t .angle) hist₀ (joined c₀ c (λ k. cond (gridAt t r k) (sampleIn img t r k) [])) hist n))
 
 abbrev μ-loop : tie.MeasureT-loop
-μ-loop img w h t angle powers hist₀ r a b n₀ c₀ hist n c = b - c
+μ-loop img t powers hist₀ r end n₀ c₀ hist n c = end - c
 
 loop-holds : tie.Need-loop-holds Inv-loop μ-loop
 loop-holds c = (omega arith, (omega arith, (omega arith, holds-none _ _ _ _)))
@@ -48,7 +47,7 @@ small : (c : tie.After-cell Inv-loop μ-loop) → c .cell .result ≤ 1
 small c =
     let x = c .before .before .before .before .before .args in
     let k = c .before .before .before .loop .c in
-    rw (c .cell .ensures .1) (one-most (gridAt (x .t) (x .r) k) (sampleAt (x .img .now) (x .w) (x .h) (x .t) (x .r) k))
+    rw (c .cell .ensures .1) (one-most (gridAt (x .t) (x .r) k) (sampleAt (x .img .now) (x .t) (x .r) k))
 
 both : {n k c : ℕ} → n ≤ c → k ≤ 1 → n + k ≤ c + 1
 both h l = omega arith

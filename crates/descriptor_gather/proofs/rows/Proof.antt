@@ -4,32 +4,33 @@ use native.Mathlib.Omega.{arith}
 use borrow.Author.Needs.{needs}
 use lib.ListN.{length}
 use Rattle.lists.specs.Ranges.{joined}
-use Rattle.descriptor_patch.specs.Patch.{samplesOf, first, past}
+use Rattle.params.specs.Limits.{maxSide}
+use Rattle.descriptor_patch.specs.Patch.{samplesOf}
 use Rattle.descriptor_patch.specs.Run.{runOf, rowOf}
-use Rattle.descriptor_patch.proofs.Runs.{joined-done, over-cells, run-within, fewer, further}
+use Rattle.descriptor_patch.proofs.Runs.{joined-done, over-cells, run-within, inner, fewer, further}
 use Rattle.descriptor_grid.specs.Grid.{gatheredIn}
 use Rattle.descriptor_gather.specs.Gather.{sampleIn}
-use Rattle.descriptor_gather.proofs.Adds.{Holds, holds-none, holds-more, run-most, more-rows, below-side, inner, row-good}
+use Rattle.descriptor_gather.proofs.Adds.{Holds, holds-none, holds-more, run-most, more-rows, below-side, row-good}
 use Rattle.descriptor_gather.proofs.rows.Statement.{statement}
 use Rattle.descriptor_gather.proofs.rows.Tie as tie
 use Rattle.descriptor_gather.proofs.rows.Reads as reads
 use Rattle.descriptor_gather.proofs.rows.Lts as lts
 use Rattle.descriptor_gather.proofs.row.Reads as row-reads
-use Rattle.descriptor_patch.proofs.first_of.Reads as first-of-reads
-use Rattle.descriptor_patch.proofs.past_of.Reads as past-of-reads
+use Rattle.picture.proofs.first_in.Reads as first-in-reads
+use Rattle.picture.proofs.past_in.Reads as past-in-reads
 use Rattle.descriptor_patch.proofs.run_of.Reads as run-of-reads
 
 abbrev Inv-loop : tie.InvT-loop
-Inv-loop img w h t angle powers hist₀ end n₀ r₀ hist n r = (r₀ ≤ r) × ((r ≤ max r₀ end) × ((n ≤ 8192 * r) × Holds angle hist₀ (joined r₀ r (rowOf t w (sampleIn img w h t))) hist n))
+Inv-loop img t powers hist₀ end n₀ r₀ hist n r = (r₀ ≤ r) × ((r ≤ max r₀ end) × ((n ≤ maxSide * r) × Holds (t .angle) hist₀ (joined r₀ r (rowOf t (sampleIn img t))) hist n))
 
 abbrev μ-loop : tie.MeasureT-loop
-μ-loop img w h t angle powers hist₀ end n₀ r₀ hist n r = end - r
+μ-loop img t powers hist₀ end n₀ r₀ hist n r = end - r
 
-past-of-requires : tie.Need-past-of-requires Inv-loop μ-loop
-past-of-requires c κs = search needs
+past-in-requires : tie.Need-past-in-requires Inv-loop μ-loop
+past-in-requires c κs = search needs
 
-first-of-requires : tie.Need-first-of-requires Inv-loop μ-loop
-first-of-requires c κs = search needs
+first-in-requires : tie.Need-first-in-requires Inv-loop μ-loop
+first-in-requires c κs = search needs
 
 loop-holds : tie.Need-loop-holds Inv-loop μ-loop
 loop-holds c = (omega arith, (omega arith, (omega arith, holds-none _ _ _ _)))
@@ -42,29 +43,29 @@ row-requires c κs =
     let x = c .before .before .before .before .before .before .before .args in
     let p = c .before .before .before .before .before .before .before .pre in
     let l = c .before .before .before .loop in
-    let a = rw (c .before .before .before .before .first-of .ensures) at (l .inv .0) in
-    let b = rw (c .before .before .before .before .before .past-of .ensures) at (c .before .before .loop-test .taken) in
+    let a = rw (c .before .before .before .before .first-in .ensures) at (l .inv .0) in
+    let b = rw (c .before .before .before .before .before .past-in .ensures) at (c .before .before .loop-test .taken) in
     rw (c .before .run-of .ensures)
-    (p .0, (p .1 .0, (inner (x .w) (x .h) (l .r) (x .t) (p .1 .0 .lies) a b, row-good (x .img .now) (x .w) (x .h) (l .r) (x .t) (p .1 .1) a b)))
+    (p .0, (p .1 .0, (inner (x .t) (l .r) (p .1 .0 .lies) a b, row-good (x .img .now) (x .t) (l .r) (p .1 .1) a b)))
 
-small : (c : tie.After-row Inv-loop μ-loop) → c .row .result ≤ c .before .before .before .before .before .before .before .before .args .w
+small : (c : tie.After-row Inv-loop μ-loop) → c .row .result ≤ c .before .before .before .before .before .before .before .before .args .t .size .width
 small c =
     let x = c .before .before .before .before .before .before .before .before .args in
     let r = c .before .before .before .before .loop .r in
     let e = rw (c .before .before .run-of .ensures) at (c .row .ensures .1) in
-    let q = run-within (x .w) (x .h) r (x .t) (c .before .before .before .before .before .before .before .before .pre .1 .0 .lies) .1 in
-    let k = run-most (x .img .now) (x .w) (x .h) (x .t) r (runOf (x .t) (x .w) r .first) (runOf (x .t) (x .w) r .past) in
+    let q = run-within (x .t) r (c .before .before .before .before .before .before .before .before .pre .1 .0 .lies) .1 in
+    let k = run-most (x .img .now) (x .t) r (runOf (x .t) r) in
     omega (arith, e)
 
-near : (c : tie.After-row Inv-loop μ-loop) → c .before .before .before .before .loop .r < 8192
+near : (c : tie.After-row Inv-loop μ-loop) → c .before .before .before .before .loop .r < maxSide
 near c =
     let x = c .before .before .before .before .before .before .before .before .args in
-    below-side (x .t .py) (x .t .radius) (x .h) (c .before .before .before .before .loop .r) (rw (c .before .before .before .before .before .before .past-of .ensures) at (c .before .before .before .loop-test .taken)) (c .before .before .before .before .before .before .before .before .pre .1 .0 .lies .high)
+    below-side (x .t .py) (x .t .radius) (x .t .size .height) (c .before .before .before .before .loop .r) (rw (c .before .before .before .before .before .before .past-in .ensures) at (c .before .before .before .loop-test .taken)) (c .before .before .before .before .before .before .before .before .pre .1 .0 .lies .high)
 
-room : {m r : ℕ} → m ≤ 8192 * (r + 1) → r < 8192 → m < 2 ^ 64
+room : {m r : ℕ} → m ≤ maxSide * (r + 1) → r < maxSide → m < 2 ^ 64
 room h k = omega arith
 
-one-more : {r : ℕ} → r < 8192 → r + 1 < 2 ^ 64
+one-more : {r : ℕ} → r < maxSide → r + 1 < 2 ^ 64
 one-more h = omega arith
 
 add-n : tie.Need-add-n Inv-loop μ-loop
@@ -101,9 +102,9 @@ unfolding samplesOf
 returns c =
     let l = c .before .loop in
     let x = c .before .before .before .before .before .args in
-    let f = rowOf (x .t) (x .w) (sampleIn (x .img .now) (x .w) (x .h) (x .t)) in
-    let d : joined (c .before .before .first-of .result) (c .before .before .before .past-of .result) f ≡ samplesOf (x .img .now) (x .w) (x .h) (x .t) =
-    rw (c .before .before .first-of .ensures, c .before .before .before .past-of .ensures) (over-cells (x .w) (x .h) (x .t) (sampleIn (x .img .now) (x .w) (x .h) (x .t))) in
+    let f = rowOf (x .t) (sampleIn (x .img .now) (x .t)) in
+    let d : joined (c .before .before .first-in .result) (c .before .before .before .past-in .result) f ≡ samplesOf (x .img .now) (x .t) =
+    rw (c .before .before .first-in .ensures, c .before .before .before .past-in .ensures) (over-cells (x .t) (sampleIn (x .img .now) (x .t))) in
     let k = joined-done _ _ (l .r) _ (l .inv .1 .0) (c .loop-test .left) ∙ d in
     (l .inv .1 .1 .1 .held ∙ ap (gatheredIn _ _) k, l .inv .1 .1 .1 .count ∙ ap length k)
 
@@ -113,8 +114,8 @@ rows-spec =
     (tie.spec
     Inv-loop
     μ-loop
-    past-of-requires
-    first-of-requires
+    past-in-requires
+    first-in-requires
     loop-holds
     run-of-requires
     row-requires

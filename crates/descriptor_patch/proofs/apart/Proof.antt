@@ -8,16 +8,17 @@ use mir.Val.{SFits, toZ, ofZ}
 use mir.ValLaws.{toZ-pos, toZ-ofZ}
 use Rattle.descriptor_patch.proofs.Whole.{mag-diff, held-diff}
 use borrow.Author.Needs.{needs}
+use Rattle.params.specs.Limits.{maxSide}
 use Rattle.descriptor_patch.proofs.apart.Statement.{statement}
 use Rattle.descriptor_patch.proofs.apart.Tie as tie
 use Rattle.descriptor_patch.proofs.apart.Reads as reads
 use Rattle.descriptor_patch.proofs.apart.Lts as lts
 
-small : (a b : ℕ) → a ≤ 8192 → b ≤ 8192 → SFits w32 (pos a -ℤ pos b)
+small : (a b : ℕ) → a ≤ maxSide → b ≤ maxSide → SFits w32 (pos a -ℤ pos b)
 small a b h k = record { sfits = mag-diff a b (2 ^ 31) (omega arith) (omega arith) }
 
 -- what the code computes with
-is : (a b : ℕ) → a ≤ 8192 → b ≤ 8192 → toZ w32 (ofZ w32 (toZ w32 a -ℤ toZ w32 b)) ≡ pos a -ℤ pos b
+is : (a b : ℕ) → a ≤ maxSide → b ≤ maxSide → toZ w32 (ofZ w32 (toZ w32 a -ℤ toZ w32 b)) ≡ pos a -ℤ pos b
 is a b h k = rw (toZ-pos w32 a (omega arith), toZ-pos w32 b (omega arith)) (toZ-ofZ w32 (pos a -ℤ pos b) (small a b h k))
 
 cast-result : tie.Need-cast-result

@@ -2,8 +2,8 @@ use Prim.Native.Nat.{_≤_, _<_, min}
 use mathlib.Core.Path.{_≡_, sym, _∙_}
 use native.Mathlib.Omega.{arith}
 use lib.Ieee.{toUnsigned}
-use Rattle.descriptor_patch.specs.Patch.{reachOf, radiusOf}
-use Rattle.descriptor_patch.proofs.Reach.{diagonal, diagonal-cuts, diagonal-far}
+use Rattle.descriptor_patch.specs.Patch.{reachOf, diagonalOf, radiusOf}
+use Rattle.descriptor_patch.proofs.Reach.{diagonal-cuts, diagonal-far}
 use borrow.Author.Needs.{needs}
 use Rattle.descriptor_patch.proofs.radius_of.Statement.{statement}
 use Rattle.descriptor_patch.proofs.radius_of.Tie as tie
@@ -27,35 +27,36 @@ sqrt-requires : tie.Need-sqrt-requires
 sqrt-requires c κs = search needs
 
 truncating-f32-to-u64-requires : tie.Need-truncating-f32-to-u64-requires
+unfolding diagonalOf
 truncating-f32-to-u64-requires c κs =
     let a = c .before .before .before .before .before .args in
-    let e : c .before .sqrt .result ≡ diagonal (a .w) (a .h) = cc in
-    let k = diagonal-cuts (a .w) (a .h) (c .before .before .before .before .before .pre .0) (rw e at (c .if1 .taken)) in
+    let e : c .before .sqrt .result ≡ diagonalOf (a .s) = cc in
+    let k = diagonal-cuts (a .s) (c .before .before .before .before .before .pre .0) (rw e at (c .if1 .taken)) in
     rw e (k .above, k .below)
 
 returns : tie.Need-returns
-unfolding radiusOf
+unfolding radiusOf diagonalOf
 returns c =
     let a = c .before .before .before .before .before .before .before .args in
-    let e : c .before .truncating-f32-to-u64 .result ≡ toUnsigned 64 (diagonal (a .w) (a .h)) = cc in
+    let e : c .before .truncating-f32-to-u64 .result ≡ toUnsigned 64 (diagonalOf (a .s)) = cc in
     let r = c .before .before .before .before .before .before .reach-of .ensures in
     (rw (← r .0, ← e) (omega arith), omega arith)
 
 returns-2 : tie.Need-returns-2
-unfolding radiusOf
+unfolding radiusOf diagonalOf
 returns-2 c =
     let a = c .before .before .before .before .before .before .before .args in
-    let e : c .before .truncating-f32-to-u64 .result ≡ toUnsigned 64 (diagonal (a .w) (a .h)) = cc in
+    let e : c .before .truncating-f32-to-u64 .result ≡ toUnsigned 64 (diagonalOf (a .s)) = cc in
     let r = c .before .before .before .before .before .before .reach-of .ensures in
     (rw (← r .0, ← e) (omega arith), r .1)
 
 returns-3 : tie.Need-returns-3
-unfolding radiusOf
+unfolding radiusOf diagonalOf
 returns-3 c =
     let a = c .before .before .before .before .before .args in
-    let e : c .before .sqrt .result ≡ diagonal (a .w) (a .h) = cc in
+    let e : c .before .sqrt .result ≡ diagonalOf (a .s) = cc in
     let r = c .before .before .before .before .reach-of .ensures in
-    (rw (← r .0) (diagonal-far (a .w) (a .h) _ (c .before .before .before .before .before .pre .0) (r .1) (rw e at (c .if1 .left))), r .1)
+    (rw (← r .0) (diagonal-far (a .s) _ (c .before .before .before .before .before .pre .0) (r .1) (rw e at (c .if1 .left))), r .1)
 
 pub radius-of-spec : {M : Type 1} → statement M
 radius-of-spec =

@@ -5,7 +5,8 @@ use mathlib.Core.List.{[]}
 use native.Mathlib.Omega.{arith}
 use Rattle.lists.specs.Ranges.{joined}
 use Rattle.params.specs.Table.{allGood}
-use Rattle.descriptor_patch.specs.Patch.{gridAt, fourAt}
+use Rattle.picture.specs.Picture.{fourAt}
+use Rattle.descriptor_patch.specs.Patch.{gridAt}
 use Rattle.descriptor_patch.specs.Run.{overRun}
 use Rattle.descriptor_patch.proofs.Runs.{joined-done}
 use Rattle.descriptor_patch.proofs.Good.{good-none, good-more}
@@ -16,19 +17,19 @@ use Rattle.descriptor_patch.proofs.row_good.Lts as lts
 use Rattle.descriptor_patch.proofs.cell_good.Reads as cell-good-reads
 
 abbrev Inv-loop : tie.InvT-loop
-Inv-loop img w h t r a b ok₀ c₀ ok c = (a ≤ c) × ((c ≤ max a b) × (ok ≡ allGood (joined a c (λ k. cond (gridAt t r k) (fourAt img w h r k) []))))
+Inv-loop img t r end ok₀ c₀ ok c = (c₀ ≤ c) × ((c ≤ max c₀ end) × (ok ≡ allGood (joined c₀ c (λ k. cond (gridAt t r k) (fourAt img (t .size .width) r k) []))))
 
 abbrev μ-loop : tie.MeasureT-loop
-μ-loop img w h t r a b ok₀ c₀ ok c = b - c
+μ-loop img t r end ok₀ c₀ ok c = end - c
 
 loop-holds : tie.Need-loop-holds Inv-loop μ-loop
 loop-holds c = (omega arith, (omega arith, good-none _ _))
 
 cell-good-requires : tie.Need-cell-good-requires Inv-loop μ-loop
-cell-good-requires c κs = let p = c .before .before .before .pre in (record { whole = p .0; up = p .1 .1 .0; down = p .1 .1 .1 .0; left = omega arith; right = omega arith }, p .1 .0)
+cell-good-requires c κs = let p = c .before .before .before .pre in (record { whole = p .0; up = p .1 .1 .up; down = p .1 .1 .down; left = omega (arith, p .1 .1 .left); right = omega (arith, p .1 .1 .right) }, p .1 .0)
 
 add-c : tie.Need-add-c Inv-loop μ-loop
-add-c c = omega arith
+add-c c = let p = c .before .before .before .before .pre in omega (arith, p .1 .1 .right, p .1 .0 .wide)
 
 loop-less : tie.Need-loop-less Inv-loop μ-loop
 loop-less c = omega arith

@@ -6,14 +6,14 @@ use Rattle.descriptor_patch.proofs.run_of.Reads as reads
 use Rattle.descriptor_patch.proofs.run_of.Lts as lts
 use Rattle.descriptor_patch.proofs.columns.Reads as columns-reads
 use Rattle.descriptor_patch.proofs.ends_of.Reads as ends-of-reads
-use Rattle.descriptor_patch.proofs.first_of.Reads as first-of-reads
-use Rattle.descriptor_patch.proofs.past_of.Reads as past-of-reads
+use Rattle.picture.proofs.first_in.Reads as first-in-reads
+use Rattle.picture.proofs.past_in.Reads as past-in-reads
 
-first-of-requires : tie.Need-first-of-requires
-first-of-requires c κs = search needs
+first-in-requires : tie.Need-first-in-requires
+first-in-requires c κs = search needs
 
-past-of-requires : tie.Need-past-of-requires
-past-of-requires c κs = search needs
+past-in-requires : tie.Need-past-in-requires
+past-in-requires c κs = search needs
 
 ends-of-requires : tie.Need-ends-of-requires
 ends-of-requires c κs = search needs
@@ -28,4 +28,4 @@ returns c = cc
 pub run-of-spec : {M : Type 1} → statement M
 run-of-spec =
     tie.close
-    (tie.spec first-of-requires past-of-requires ends-of-requires columns-requires returns)
+    (tie.spec first-in-requires past-in-requires ends-of-requires columns-requires returns)

@@ -8,7 +8,7 @@ use lib.Ieee.{Float}
 use lib.ListN.{length, take, length-set}
 use Rattle.ieee.specs.F32.{_⊗_, rootOf}
 use Rattle.bounds.specs.Bounds.{minOf}
-use Rattle.descriptor_values.specs.Values.{at, clampRatio, clamped}
+use Rattle.descriptor_values.specs.Values.{values, at, clampRatio, clamped}
 use Rattle.descriptor_values.proofs.Listed.{upTo, start, listed-more, listed-all}
 use Rattle.descriptor_values.proofs.clamp_all.Statement.{statement}
 use Rattle.descriptor_values.proofs.clamp_all.Tie as tie
@@ -22,10 +22,10 @@ abbrev value : List Float → Float → ℕ → Float
 value v limit m = minOf (at v m) limit
 
 abbrev Inv-loop : tie.InvT-loop
-Inv-loop v thr u₀ n₀ u n = (n ≤ 128) × ((length u ≡ 128) × (take n u ≡ upTo (value v thr) n))
+Inv-loop v thr u₀ n₀ u n = (n ≤ values) × ((length u ≡ values) × (take n u ≡ upTo (value v thr) n))
 
 abbrev μ-loop : tie.MeasureT-loop
-μ-loop v thr u₀ n₀ u n = 128 - n
+μ-loop v thr u₀ n₀ u n = values - n
 
 -- src/lib.rt:57:26
 nrm2-requires : tie.Need-nrm2-requires Inv-loop μ-loop
@@ -86,8 +86,8 @@ unfolding clamped
 returns c =
     let v = c .before .before .before .before .args .v .now in
     let inv = c .before .loop .inv in
-    listed-all (value v (c .before .before .sqrt .result ⊗ clampRatio)) (c .before .loop .u) (c .before .loop .n) 128 (inv .1 .0) (omega arith) (omega arith) (inv .1 .1)
-    ∙ ap (λ (x : Float). upTo (value v (x ⊗ clampRatio)) 128) (c .before .before .sqrt .ensures .0 ∙ ap rootOf (c .before .before .before .nrm2 .ensures))
+    listed-all (value v (c .before .before .sqrt .result ⊗ clampRatio)) (c .before .loop .u) (c .before .loop .n) values (inv .1 .0) (omega arith) (omega arith) (inv .1 .1)
+    ∙ ap (λ (x : Float). upTo (value v (x ⊗ clampRatio)) values) (c .before .before .sqrt .ensures .0 ∙ ap rootOf (c .before .before .before .nrm2 .ensures))
 
 pub clamp-all-spec : {M : Type 1} → statement M
 clamp-all-spec =

@@ -9,7 +9,7 @@ use lib.ListN.{length, take, length-set}
 use Rattle.ieee.specs.F32.{_⊗_, rounded}
 use Rattle.ieee.specs.Numbers.{nought, topByte}
 use Rattle.bounds.specs.Bounds.{clampOf}
-use Rattle.descriptor_values.specs.Values.{at, finished}
+use Rattle.descriptor_values.specs.Values.{values, at, finished}
 use Rattle.descriptor_values.proofs.Listed.{upTo, start, listed-more, listed-all}
 use Rattle.descriptor_values.proofs.finish.Statement.{statement}
 use Rattle.descriptor_values.proofs.finish.Tie as tie
@@ -23,10 +23,10 @@ abbrev value : List Float → Float → ℕ → Float
 value v by m = clampOf (rounded (at v m ⊗ by)) nought topByte
 
 abbrev Inv-loop : tie.InvT-loop
-Inv-loop v by u₀ n₀ u n = (n ≤ 128) × ((length u ≡ 128) × (take n u ≡ upTo (value v by) n))
+Inv-loop v by u₀ n₀ u n = (n ≤ values) × ((length u ≡ values) × (take n u ≡ upTo (value v by) n))
 
 abbrev μ-loop : tie.MeasureT-loop
-μ-loop v by u₀ n₀ u n = 128 - n
+μ-loop v by u₀ n₀ u n = values - n
 
 -- src/lib.rt:92:9
 scale-requires : tie.Need-scale-requires Inv-loop μ-loop
@@ -88,8 +88,8 @@ unfolding finished
 returns c =
     let v = c .before .before .before .args .v .now in
     let inv = c .before .loop .inv in
-    listed-all (value v (c .before .before .scale .result)) (c .before .loop .u) (c .before .loop .n) 128 (inv .1 .0) (omega arith) (omega arith) (inv .1 .1)
-    ∙ ap (λ (x : Float). upTo (value v x) 128) (c .before .before .scale .ensures)
+    listed-all (value v (c .before .before .scale .result)) (c .before .loop .u) (c .before .loop .n) values (inv .1 .0) (omega arith) (omega arith) (inv .1 .1)
+    ∙ ap (λ (x : Float). upTo (value v x) values) (c .before .before .scale .ensures)
 
 pub finish-spec : {M : Type 1} → statement M
 finish-spec =

@@ -1,22 +1,22 @@
 use Prim.Native.Nat.{_≤_, _-_}
-use mathlib.Core.Path.{_≡_, ap, _∙_}
+use mathlib.Core.Path.{_≡_, refl, ap, _∙_}
 use native.Mathlib.Omega.{arith}
 use borrow.Author.Needs.{needs}
 use Rattle.detect_extrema.specs.Neighbours.{loud}
 use Rattle.detect_extrema.specs.Hints.{anyLoud}
-use Rattle.detect_extrema.proofs.Looks.{any-none, any-more, any-end}
+use Rattle.detect_extrema.proofs.Looks.{any-none, any-more}
 use Rattle.detect_extrema.proofs.any_loud.Statement.{statement}
 use Rattle.detect_extrema.proofs.any_loud.Tie as tie
 
 abbrev Inv-loop : tie.InvT-loop
-Inv-loop dog w h n threshold p r lo hi any₀ c₀ any c =
-    (lo ≤ c) × (c - lo ≤ hi - lo) × (any ≡ anyLoud threshold dog w h p r lo c)
+Inv-loop dog t s u any₀ c₀ c-end any c =
+    (u .lo ≤ c) × (c ≤ u .hi) × (c-end ≡ u .hi) × (any ≡ anyLoud dog t s (u .row) (u .lo) c)
 
 abbrev μ-loop : tie.MeasureT-loop
-μ-loop dog w h n threshold p r lo hi any₀ c₀ any c = hi - c
+μ-loop dog t s u any₀ c₀ c-end any c = u .hi - c
 
 loop-holds : tie.Need-loop-holds Inv-loop μ-loop
-loop-holds c = (omega arith, omega arith, any-none _ _ _ _ _ _ _)
+loop-holds c = (omega arith, omega arith, refl, any-none _ _ _ _ _)
 
 at-requires : tie.Need-at-requires Inv-loop μ-loop
 at-requires c κs = search needs
@@ -33,12 +33,13 @@ loop-less c = search needs
 loop-again : tie.Need-loop-again Inv-loop μ-loop
 loop-again c =
     let l = c .before .before .before .loop in
-    (omega arith, omega arith, any-more _ _ _ _ _ _ _ (l .c) _ _ (l .inv .0) (l .inv .2) (c .is-loud .ensures ∙ ap (loud _) (c .before .at .ensures)))
+    (omega arith, omega arith, refl, any-more _ _ _ _ _ (l .c) _ _ (l .inv .0) (l .inv .3) (c .is-loud .ensures ∙ ap (loud _) (c .before .at .ensures)))
 
 returns : tie.Need-returns Inv-loop μ-loop
 returns c =
     let l = c .before .loop in
-    l .inv .2 ∙ any-end _ _ _ _ _ _ _ (l .c) _ (omega arith)
+    let e : l .c ≡ c .before .before .before .args .u .hi = omega arith in
+    rw e at (l .inv .3)
 
 pub any-loud-spec : {M : Type 1} → statement M
 any-loud-spec =

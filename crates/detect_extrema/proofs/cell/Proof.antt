@@ -10,8 +10,8 @@ use Rattle.detect_extrema.proofs.cell.Statement.{statement}
 use Rattle.detect_extrema.proofs.cell.Tie as tie
 
 -- what the code tested is what the definition tests
-quiet : (b : Bool) (t v t' v' : Float) → b ≡ loud t v → t ≡ t' → v ≡ v' → loud t' v' ≡ b
-quiet b t v t' v' e p q = cc
+quiet : (b : Bool) (t v v' : Float) → b ≡ loud t v → v ≡ v' → loud t v' ≡ b
+quiet b t v v' e q = cc
 
 at-requires : tie.Need-at-requires
 at-requires c κs = search needs
@@ -20,7 +20,7 @@ is-loud-requires : tie.Need-is-loud-requires
 is-loud-requires c κs = search needs
 
 returns : tie.Need-returns
-returns c = sym (found-quiet _ _ _ _ _ _ _ _ (quiet _ _ _ _ _ (c .before .is-loud .ensures) (c .before .before .before .before .pre .1 .1) (c .before .before .at .ensures) ∙ not-true _ (c .if1 .taken)))
+returns c = sym (found-quiet _ _ _ _ _ (quiet _ _ _ _ (c .before .is-loud .ensures) (c .before .before .at .ensures) ∙ not-true _ (c .if1 .taken)))
 
 is-extremum-requires : tie.Need-is-extremum-requires
 is-extremum-requires c κs = search needs
@@ -30,13 +30,13 @@ refine-requires c κs = search needs
 
 returns-2 : tie.Need-returns-2
 returns-2 c =
-    let l = quiet _ _ _ _ _ (c .before .before .before .before .is-loud .ensures) (c .before .before .before .before .before .before .before .pre .1 .1) (c .before .before .before .before .before .at .ensures) ∙ not-false _ (c .before .before .before .if1 .left) in
-    ap kept (c .refine .ensures) ∙ sym (found-yes _ _ _ _ _ _ _ _ l (sym (c .before .before .is-extremum .ensures) ∙ c .before .if2 .taken))
+    let l = quiet _ _ _ _ (c .before .before .before .before .is-loud .ensures) (c .before .before .before .before .before .at .ensures) ∙ not-false _ (c .before .before .before .if1 .left) in
+    ap kept (c .refine .ensures) ∙ sym (found-yes _ _ _ _ _ l (sym (c .before .before .is-extremum .ensures) ∙ c .before .if2 .taken))
 
 returns-3 : tie.Need-returns-3
 returns-3 c =
-    let l = quiet _ _ _ _ _ (c .before .before .before .is-loud .ensures) (c .before .before .before .before .before .before .pre .1 .1) (c .before .before .before .before .at .ensures) ∙ not-false _ (c .before .before .if1 .left) in
-    sym (found-no _ _ _ _ _ _ _ _ l (sym (c .before .is-extremum .ensures) ∙ c .if2 .left))
+    let l = quiet _ _ _ _ (c .before .before .before .is-loud .ensures) (c .before .before .before .before .at .ensures) ∙ not-false _ (c .before .before .if1 .left) in
+    sym (found-no _ _ _ _ _ l (sym (c .before .is-extremum .ensures) ∙ c .if2 .left))
 
 pub cell-spec : {M : Type 1} → statement M
 cell-spec =

@@ -1,5 +1,8 @@
-use mathlib.Core.Path.{sym}
+use mathlib.Core.Path.{sym, ap, _∙_}
 use borrow.Author.Needs.{needs}
+use lib.Ieee.{Float}
+use Rattle.ieee.specs.F32.{_<ᶠ_}
+use Rattle.ieee.specs.Numbers.{nought}
 use Rattle.detect_extrema.proofs.is_extremum.Statement.{statement}
 use Rattle.detect_extrema.proofs.is_extremum.Tie as tie
 
@@ -7,10 +10,10 @@ at-requires : tie.Need-at-requires
 at-requires c κs = search needs
 
 stands-requires : tie.Need-stands-requires
-stands-requires c κs = (search needs, (c .before .at .ensures, sym (c .if1 .taken)))
+stands-requires c κs = (search needs, sym (c .if1 .taken) ∙ ap (λ (x : Float). nought <ᶠ x) (c .before .at .ensures))
 
 stands-requires-2 : tie.Need-stands-requires-2
-stands-requires-2 c κs = (search needs, (c .before .at .ensures, sym (c .if1 .left)))
+stands-requires-2 c κs = (search needs, sym (c .if1 .left) ∙ ap (λ (x : Float). nought <ᶠ x) (c .before .at .ensures))
 
 returns : tie.Need-returns
 returns c = search needs

@@ -1,33 +1,34 @@
 use Prim.Native.Nat.{_≤_, _-_}
-use mathlib.Core.Path.{_≡_, ap, _∙_}
+use mathlib.Core.Path.{_≡_, refl}
 use native.Mathlib.Omega.{arith}
 use borrow.Author.Needs.{needs}
 use denote.Ref.{now}
 use lib.ListN.{length, length-set}
 use lib.Seq.{sets}
 use Rattle.detect_extrema.specs.Hints.{looks}
-use Rattle.detect_extrema.proofs.Looks.{marks-none, marks-more, marks-end}
+use Rattle.detect_extrema.specs.Place.{block}
+use Rattle.detect_extrema.proofs.Looks.{marks-none, marks-more, marks-read}
 use Rattle.detect_extrema.proofs.mark.Statement.{statement}
 use Rattle.detect_extrema.proofs.mark.Tie as tie
 
 abbrev Inv-loop : tie.InvT-loop
-Inv-loop dog w h n threshold p r lo hi marks₀ c₀ marks c =
-    (lo ≤ c) × (c - lo ≤ hi - lo) × (marks ≡ sets marks₀ 0 (looks threshold dog w h p r lo c)) × (length marks ≡ 64)
+Inv-loop dog t s u marks₀ c₀ c-end marks c =
+    (u .lo ≤ c) × (c ≤ u .hi) × (c-end ≡ u .hi) × (marks ≡ sets marks₀ 0 (looks dog t s (u .row) (u .lo) c)) × (length marks ≡ block) × (length marks₀ ≡ block)
 
 abbrev μ-loop : tie.MeasureT-loop
-μ-loop dog w h n threshold p r lo hi marks₀ c₀ marks c = hi - c
+μ-loop dog t s u marks₀ c₀ c-end marks c = u .hi - c
 
 loop-holds : tie.Need-loop-holds Inv-loop μ-loop
-loop-holds c = (omega arith, omega arith, marks-none _ _ _ _ _ _ _ _, c .before .pre .1 .1)
+loop-holds c = (omega arith, omega arith, refl, marks-none _ _ _ _ _ _, refl, refl)
 
-may-be-at-requires : tie.Need-may-be-at-requires Inv-loop μ-loop
-may-be-at-requires c κs = search needs
+may-be-requires : tie.Need-may-be-requires Inv-loop μ-loop
+may-be-requires c κs = search needs
 
 sub-marks : tie.Need-sub-marks Inv-loop μ-loop
 sub-marks c = search needs
 
-element-write-marks : tie.Need-element-write-marks Inv-loop μ-loop
-element-write-marks c = search needs
+array-write-marks : tie.Need-array-write-marks Inv-loop μ-loop
+array-write-marks c = search needs
 
 add-c : tie.Need-add-c Inv-loop μ-loop
 add-c c = search needs
@@ -37,13 +38,15 @@ loop-less c = search needs
 
 loop-again : tie.Need-loop-again Inv-loop μ-loop
 loop-again c =
-    let l = c .before .before .loop in
-    (omega arith, omega arith, marks-more _ _ _ _ _ _ _ (l .c) _ _ _ (l .inv .0) (l .inv .2) (c .may-be-at .ensures), simp length-set (l .inv .3))
+    let l = c .before .before .before .loop in
+    (omega arith, omega arith, refl, marks-more _ _ _ _ _ (l .c) _ _ _ (l .inv .0) (l .inv .3) (c .before .may-be .ensures), simp length-set (l .inv .4), l .inv .5)
 
 returns : tie.Need-returns Inv-loop μ-loop
 returns c =
     let l = c .before .loop in
-    l .inv .2 ∙ ap (sets _ 0) (marks-end _ _ _ _ _ _ _ (l .c) _ (l .inv .0) (omega arith))
+    let a = c .before .before .before .args in
+    let e : l .c ≡ a .u .hi = omega arith in
+    marks-read _ _ _ (a .u) _ _ (omega (arith, l .inv .5)) (rw e at (l .inv .3))
 
 pub mark-spec : {M : Type 1} → statement M
 mark-spec =
@@ -52,9 +55,9 @@ mark-spec =
     Inv-loop
     μ-loop
     loop-holds
-    may-be-at-requires
+    may-be-requires
     sub-marks
-    element-write-marks
+    array-write-marks
     add-c
     loop-less
     loop-again

@@ -11,9 +11,7 @@ returns : tie.Need-returns
 returns c = search needs
 
 returns-2 : tie.Need-returns-2
-returns-2 c =
-    let q = c .before .before .pre .1 .1 in
-    sym (unseen _ _ _ _ _ _ _ _ (rw (q .0) at (sym (q .1) ∙ c .if1 .left)))
+returns-2 c = sym (unseen _ _ _ _ _ (sym (c .before .before .pre .1 .1) ∙ c .if1 .left))
 
 pub seen-spec : {M : Type 1} → statement M
 seen-spec =

@@ -1,5 +1,5 @@
 use Prim.Native.Nat.{_+_, _-_, _≤_, _<_}
-use mathlib.Core.Path.{_≡_, refl, sym, _∙_}
+use mathlib.Core.Path.{_≡_, refl, sym, ap, _∙_}
 use mathlib.Core.Bool.{true}
 use native.Mathlib.Omega.{arith}
 use borrow.Author.Needs.{needs}
@@ -10,6 +10,9 @@ use Rattle.picture.specs.Stack.{sample}
 use Rattle.detect_extrema.specs.Neighbours.{tied, keepsOver, passes, isExtremum}
 use denote.Ref.{now}
 use lib.ListN.{length}
+use lib.Ieee.{Float}
+use Rattle.ieee.specs.F32.{_<ᶠ_}
+use Rattle.ieee.specs.Numbers.{nought}
 use Rattle.picture.proofs.Index.{Index}
 use Rattle.detect_extrema.proofs.Near.{along, corner-index, plane-below, near-below, near-sample}
 use Rattle.detect_extrema.proofs.Cells.{pass-centre, pass-kept, pass-none, kept-as}
@@ -17,67 +20,68 @@ use Rattle.detect_extrema.proofs.stands.Statement.{statement}
 use Rattle.detect_extrema.proofs.stands.Tie as tie
 
 abbrev Inv-loop2 : tie.InvT-loop2
-Inv-loop2 dog w h n p r c val up plane first ok₀ i j k₀ ok k =
-    (k ≤ 3) × (ok ≡ true) × (every k (λ k. passes tied dog w h p r c i j k) ≡ true)
+Inv-loop2 dog t p r c up plane first val ok₀ i j k₀ ok k =
+    (k ≤ 3) × (ok ≡ true) × (every k (λ k. passes tied dog t p r c i j k) ≡ true)
 
 abbrev μ-loop2 : tie.MeasureT-loop2
-μ-loop2 dog w h n p r c val up plane first ok₀ i j k₀ ok k = 3 - k
+μ-loop2 dog t p r c up plane first val ok₀ i j k₀ ok k = 3 - k
 
 abbrev Inv-loop : tie.InvT-loop
-Inv-loop dog w h n p r c val up plane first ok₀ i j₀ ok j =
-    (j ≤ 3) × (ok ≡ true) × (every j (λ j. every 3 (λ k. passes tied dog w h p r c i j k)) ≡ true)
+Inv-loop dog t p r c up plane first val ok₀ i j₀ ok j =
+    (j ≤ 3) × (ok ≡ true) × (every j (λ j. every 3 (λ k. passes tied dog t p r c i j k)) ≡ true)
 
 abbrev μ-loop : tie.MeasureT-loop
-μ-loop dog w h n p r c val up plane first ok₀ i j₀ ok j = 3 - j
+μ-loop dog t p r c up plane first val ok₀ i j₀ ok j = 3 - j
 
 abbrev Inv-nb : tie.InvT-nb
-Inv-nb dog w h n p r c val up plane first ok₀ i₀ ok i =
-    (i ≤ 3) × (ok ≡ true) × (every i (λ i. every 3 (λ j. every 3 (λ k. passes tied dog w h p r c i j k))) ≡ true)
+Inv-nb dog t p r c up plane first val ok₀ i₀ ok i =
+    (i ≤ 3) × (ok ≡ true) × (every i (λ i. every 3 (λ j. every 3 (λ k. passes tied dog t p r c i j k))) ≡ true)
 
 abbrev μ-nb : tie.MeasureT-nb
-μ-nb dog w h n p r c val up plane first ok₀ i₀ ok i = 3 - i
-
-abbrev Known : Type 0
-Known = tie.After-shared-slice-known Inv-loop2 μ-loop2 Inv-loop μ-loop Inv-nb μ-nb
+μ-nb dog t p r c up plane first val ok₀ i₀ ok i = 3 - i
 
 abbrev Else1 : Type 0
 Else1 = tie.Else1 Inv-loop2 μ-loop2 Inv-loop μ-loop Inv-nb μ-nb
 
--- the corner's index, and that of the neighbour that is read
-edge : (c : Known) → let a = c .before .args in Index (length (now (a .dog))) (a .w) (a .h) (a .n) (a .p - 1) (a .r - 1) (a .c - 1)
-edge c = let q = c .before .pre in corner-index (q .0)
+-- no step of working out the corner's index wraps
+abbrev Start : Type 0
+Start = tie.Start Inv-loop2 μ-loop2 Inv-loop μ-loop Inv-nb μ-nb
 
+edge : (c : Start) → let a = c .args in Index (length (now (a .dog))) (a .t .width) (a .t .height) (a .p - 1) (a .r - 1) (a .c - 1)
+edge c = corner-index (c .pre .0)
+
+-- the neighbour that is read lies in the list
 reach : (c : Else1) →
-    let s = c .before .before .before .before .before .before .before .before .before in
-    let a = s .args in
-    along (a .w) (a .h) (a .p - 1) (a .r - 1) (a .c - 1) (c .before .before .before .before .before .before .before .nb .i) (c .before .before .before .before .before .loop .j) (c .before .before .before .loop2 .k) < length (now (a .dog))
-reach c =
-    let q = c .before .before .before .before .before .before .before .before .before .pre in
-    near-below (q .0) _ _ _ (c .before .before .before .before .before .before .nb-test .taken) (c .before .before .before .before .loop-test .taken) (c .before .before .loop2-test .taken)
+    let a = c .before .before .before .before .before .before .before .before .before .before .before .before .before .args in
+    along (a .t .width) (a .t .height) (a .p - 1) (a .r - 1) (a .c - 1) (c .before .before .before .before .before .before .before .nb .i) (c .before .before .before .before .before .loop .j) (c .before .before .before .loop2 .k) < length (now (a .dog))
+reach c = near-below (c .before .before .before .before .before .before .before .before .before .before .before .before .before .pre .0) _ _ _ (c .before .before .before .before .before .before .nb-test .taken) (c .before .before .before .before .loop-test .taken) (c .before .before .loop2-test .taken)
 
 mul-plane : tie.Need-mul-plane Inv-loop2 μ-loop2 Inv-loop μ-loop Inv-nb μ-nb
-mul-plane c = let q = c .before .pre in omega (arith, plane-below (q .0))
+mul-plane c = omega (arith, plane-below (c .before .before .pre .0))
 
 sub-first : tie.Need-sub-first Inv-loop2 μ-loop2 Inv-loop μ-loop Inv-nb μ-nb
 sub-first c = search needs
 
 mul-first : tie.Need-mul-first Inv-loop2 μ-loop2 Inv-loop μ-loop Inv-nb μ-nb
-mul-first c = omega (arith, edge c .low, edge c .mid, edge c .below)
+mul-first c = let q = edge (c .before .before .before) in omega (arith, q .low, q .mid, q .below)
 
 sub-first-2 : tie.Need-sub-first-2 Inv-loop2 μ-loop2 Inv-loop μ-loop Inv-nb μ-nb
 sub-first-2 c = search needs
 
 add-first : tie.Need-add-first Inv-loop2 μ-loop2 Inv-loop μ-loop Inv-nb μ-nb
-add-first c = omega (arith, edge c .low, edge c .mid, edge c .below)
+add-first c = let q = edge (c .before .before .before) in omega (arith, q .low, q .mid, q .below)
 
 mul-first-2 : tie.Need-mul-first-2 Inv-loop2 μ-loop2 Inv-loop μ-loop Inv-nb μ-nb
-mul-first-2 c = omega (arith, edge c .low, edge c .mid, edge c .below)
+mul-first-2 c = let q = edge (c .before .before .before .before) in omega (arith, q .low, q .mid, q .below)
 
 sub-first-3 : tie.Need-sub-first-3 Inv-loop2 μ-loop2 Inv-loop μ-loop Inv-nb μ-nb
 sub-first-3 c = search needs
 
 add-first-2 : tie.Need-add-first-2 Inv-loop2 μ-loop2 Inv-loop μ-loop Inv-nb μ-nb
-add-first-2 c = omega (arith, edge c .low, edge c .mid, edge c .below)
+add-first-2 c = let q = edge (c .before .before .before .before) in omega (arith, q .low, q .mid, q .below)
+
+at-requires : tie.Need-at-requires Inv-loop2 μ-loop2 Inv-loop μ-loop Inv-nb μ-nb
+at-requires c κs = search needs
 
 nb-holds : tie.Need-nb-holds Inv-loop2 μ-loop2 Inv-loop μ-loop Inv-nb μ-nb
 nb-holds c = (omega arith, refl, every-none _)
@@ -101,7 +105,7 @@ loop2-again : tie.Need-loop2-again Inv-loop2 μ-loop2 Inv-loop μ-loop Inv-nb μ
 loop2-again c =
     let l = c .before .before .before .loop2 in
     let e = sym (c .before .is-centre .ensures) ∙ c .if1 .taken in
-    (omega arith, l .inv .1, every-more _ _ (l .inv .2) (pass-centre _ _ _ _ _ _ _ _ _ e))
+    (omega arith, l .inv .1, every-more _ _ (l .inv .2) (pass-centre _ _ _ _ _ _ _ _ e))
 
 mul-other : tie.Need-mul-other Inv-loop2 μ-loop2 Inv-loop μ-loop Inv-nb μ-nb
 mul-other c = omega (arith, reach c)
@@ -110,20 +114,20 @@ add-other : tie.Need-add-other Inv-loop2 μ-loop2 Inv-loop μ-loop Inv-nb μ-nb
 add-other c = omega (arith, reach c)
 
 mul-other-2 : tie.Need-mul-other-2 Inv-loop2 μ-loop2 Inv-loop μ-loop Inv-nb μ-nb
-mul-other-2 c = omega (arith, reach c)
+mul-other-2 c = omega (arith, reach (c .before))
 
 add-other-2 : tie.Need-add-other-2 Inv-loop2 μ-loop2 Inv-loop μ-loop Inv-nb μ-nb
-add-other-2 c = omega (arith, reach c)
+add-other-2 c = omega (arith, reach (c .before))
 
 add-other-3 : tie.Need-add-other-3 Inv-loop2 μ-loop2 Inv-loop μ-loop Inv-nb μ-nb
-add-other-3 c = omega (arith, reach c)
+add-other-3 c = omega (arith, reach (c .before))
 
 mul-other-3 : tie.Need-mul-other-3 Inv-loop2 μ-loop2 Inv-loop μ-loop Inv-nb μ-nb
-mul-other-3 c = omega (arith, reach c, c .before .before .before .before .before .before .before .before .before .good)
+mul-other-3 c = omega (arith, reach (c .before), c .before .before .before .before .before .before .before .before .before .before .before .before .before .before .good)
 
 shared-slice-read-other :
     tie.Need-shared-slice-read-other Inv-loop2 μ-loop2 Inv-loop μ-loop Inv-nb μ-nb
-shared-slice-read-other c = reach (c .before)
+shared-slice-read-other c = reach (c .before .before)
 
 keeps-requires : tie.Need-keeps-requires Inv-loop2 μ-loop2 Inv-loop μ-loop Inv-nb μ-nb
 keeps-requires c κs = search needs
@@ -136,19 +140,20 @@ loop2-less-2 c = search needs
 
 -- what the code found of the neighbour is what the definition compares
 compared : (c : tie.After-keeps Inv-loop2 μ-loop2 Inv-loop μ-loop Inv-nb μ-nb) →
-    let a = c .before .before .before .before .before .before .before .before .before .before .before .args in
-    keepsOver tied (sample (now (a .dog)) (a .w) (a .h) (a .p) (a .r) (a .c))
-    (sample (now (a .dog)) (a .w) (a .h) (a .p + c .before .before .before .before .before .before .before .before .before .nb .i - 1) (a .r + c .before .before .before .before .before .before .before .loop .j - 1) (a .c + c .before .before .before .before .before .loop2 .k - 1)) ≡ c .keeps .result
+    let a = c .before .before .before .before .before .before .before .before .before .before .before .before .before .before .before .before .args in
+    keepsOver tied (sample (now (a .dog)) (a .t) (a .p) (a .r) (a .c))
+    (sample (now (a .dog)) (a .t) (a .p + c .before .before .before .before .before .before .before .before .before .before .nb .i - 1) (a .r + c .before .before .before .before .before .before .before .before .loop .j - 1) (a .c + c .before .before .before .before .before .before .loop2 .k - 1)) ≡ c .keeps .result
 compared c =
-    let q = c .before .before .before .before .before .before .before .before .before .before .before .pre in
+    let q = c .before .before .before .before .before .before .before .before .before .before .before .before .before .before .before .before .pre in
+    let v = c .before .before .before .before .before .before .before .before .before .before .before .at .ensures in
     kept-as _ _ _ _ _ _ (c .keeps .ensures)
-    (near-sample _ _ _ _ _ _ _ _ _ _ (q .0) (c .before .before .before .before .before .before .before .before .nb-test .taken) (c .before .before .before .before .before .before .loop-test .taken) (c .before .before .before .before .loop2-test .taken))
-    (q .1 .0) (q .1 .1)
+    (near-sample _ _ _ _ _ _ _ _ (q .0) (c .before .before .before .before .before .before .before .before .before .nb-test .taken) (c .before .before .before .before .before .before .before .loop-test .taken) (c .before .before .before .before .before .loop2-test .taken))
+    v (q .1 ∙ ap (λ (x : Float). nought <ᶠ x) (sym v))
 
 loop2-again-2 : tie.Need-loop2-again-2 Inv-loop2 μ-loop2 Inv-loop μ-loop Inv-nb μ-nb
 loop2-again-2 c =
-    let l = c .before .before .before .before .before .before .loop2 in
-    (omega arith, l .inv .1, every-more _ _ (l .inv .2) (pass-kept _ _ _ _ _ _ _ _ _ (compared (c .before) ∙ not-false _ (c .if2 .left))))
+    let l = c .before .before .before .before .before .before .before .loop2 in
+    (omega arith, l .inv .1, every-more _ _ (l .inv .2) (pass-kept _ _ _ _ _ _ _ _ (compared (c .before) ∙ not-false _ (c .if2 .left))))
 
 add-j : tie.Need-add-j Inv-loop2 μ-loop2 Inv-loop μ-loop Inv-nb μ-nb
 add-j c = search needs
@@ -184,10 +189,10 @@ returns-2 : tie.Need-returns-2 Inv-loop2 μ-loop2 Inv-loop μ-loop Inv-nb μ-nb
 unfolding isExtremum
 returns-2 c =
     sym
-    (every-stop 3 _ _ (c .before .before .before .before .before .before .before .before .before .nb-test .taken)
-    (every-stop 3 _ _ (c .before .before .before .before .before .before .before .loop-test .taken)
-    (every-stop 3 _ _ (c .before .before .before .before .before .loop2-test .taken)
-    (pass-none _ _ _ _ _ _ _ _ _ (sym (c .before .before .before .before .is-centre .ensures) ∙ c .before .before .before .if1 .left) (compared (c .before) ∙ not-true _ (c .if2 .taken))))))
+    (every-stop 3 _ _ (c .before .before .before .before .before .before .before .before .before .before .nb-test .taken)
+    (every-stop 3 _ _ (c .before .before .before .before .before .before .before .before .loop-test .taken)
+    (every-stop 3 _ _ (c .before .before .before .before .before .before .loop2-test .taken)
+    (pass-none _ _ _ _ _ _ _ _ (sym (c .before .before .before .before .before .is-centre .ensures) ∙ c .before .before .before .before .if1 .left) (compared (c .before) ∙ not-true _ (c .if2 .taken))))))
 
 pub stands-spec : {M : Type 1} → statement M
 stands-spec =
@@ -207,6 +212,7 @@ stands-spec =
     mul-first-2
     sub-first-3
     add-first-2
+    at-requires
     nb-holds
     loop-holds
     loop2-holds

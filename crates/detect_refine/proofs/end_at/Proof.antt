@@ -1,6 +1,4 @@
-use mathlib.Core.Path.{ap, _∙_}
-use Rattle.detect_refine.specs.declared.Refined.the-variants.{At}
-use Rattle.detect_refine.specs.Keypoint.{keypointWith, keypointOf, ended}
+use Rattle.detect_refine.specs.Keypoint.{keypointOf, ended}
 use borrow.Author.Needs.{needs}
 use Rattle.detect_refine.proofs.end_at.Statement.{statement}
 use Rattle.detect_refine.proofs.end_at.Tie as tie
@@ -40,8 +38,7 @@ returns-3 : tie.Need-returns-3
 unfolding ended keypointOf
 returns-3 c =
     let k = c .before .before .before .before .before .before .contrast-of .ensures in
-    rw (← k, ← c .before .before .before .before .before .is-dim .ensures, c .before .before .before .before .if1 .left, ← c .before .before .before .is-edgy .ensures, c .before .before .if2 .left)
-    (ap At (c .keypoint-of .ensures ∙ ap (keypointWith _ _ _ _ _ _ _) (c .before .abs .ensures)))
+    rw (← k, ← c .before .before .before .before .before .is-dim .ensures, c .before .before .before .before .if1 .left, ← c .before .before .before .is-edgy .ensures, c .before .before .if2 .left, ← c .before .abs .ensures, ← c .keypoint-of .ensures)
 
 pub end-at-spec : {M : Type 1} → statement M
 end-at-spec =

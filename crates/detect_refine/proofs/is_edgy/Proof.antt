@@ -5,8 +5,8 @@ use Rattle.detect_refine.proofs.is_edgy.Tie as tie
 use Rattle.detect_refine.proofs.is_edgy.Reads as reads
 use Rattle.detect_refine.proofs.is_edgy.Lts as lts
 use Rattle.ieee.proofs.narrow.Reads as narrow-reads
-use Rattle.detect_refine.proofs.bend_of.Reads as bend-of-reads
-use Rattle.detect_refine.proofs.mul_sub.Reads as mul-sub-reads
+use Rattle.detect_fit.proofs.bend_of.Reads as bend-of-reads
+use Rattle.detect_fit.proofs.mul_sub.Reads as mul-sub-reads
 
 bend-of-requires : tie.Need-bend-of-requires
 bend-of-requires c κs = search needs

@@ -1,4 +1,4 @@
-use mathlib.Core.Path.{_≡_, sym, ap, _∙_}
+use mathlib.Core.Path.{_≡_, ap, _∙_}
 use Prim.Native.Nat.{ℕ, _<_, _≤_, _^_}
 use native.Mathlib.Omega.{arith}
 use lib.IntN.{ℤ, pos, _+ℤ_}
@@ -6,6 +6,7 @@ use lib.Signed.{mag}
 use mir.Syntax.{w32, w64}
 use mir.Val.{SFits, toZ, ofZ}
 use mir.ValLaws.{toZ-pos, toZ-ofZ}
+use Rattle.params.specs.Limits.{maxSide}
 use Rattle.detect_refine.proofs.Places.{mag-sum}
 use Rattle.detect_refine.specs.Moves.{moved}
 use borrow.Author.Needs.{needs}
@@ -29,7 +30,7 @@ wider z h = let k : mag z < 2 ^ 31 = h .sfits in record { sfits = omega arith }
 moves : (z : ℤ) → SFits w32 z → toZ w64 (ofZ w64 (toZ w32 (ofZ w32 z))) ≡ z
 moves z h = ap (λ (y : ℤ). toZ w64 (ofZ w64 y)) (toZ-ofZ w32 z h) ∙ toZ-ofZ w64 z (wider z h)
 
-sums : (v : ℕ) (z : ℤ) → v ≤ 8192 → SFits w32 z → SFits w64 (pos v +ℤ z)
+sums : (v : ℕ) (z : ℤ) → v ≤ maxSide → SFits w32 z → SFits w64 (pos v +ℤ z)
 sums v z h k = record { sfits = mag-sum v z h (k .sfits) }
 
 cast-place-2 : tie.Need-cast-place-2

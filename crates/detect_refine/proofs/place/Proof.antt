@@ -1,11 +1,6 @@
-use mathlib.Core.Path.{_≡_, sym, ap, _∙_, subst}
-use Prim.Native.Nat.{ℕ, _<_, _≤_}
 use native.Mathlib.Omega.{arith}
-use lib.Dec.{T}
-use lib.IntN.{ℤ, natAbs}
-use lib.Signed.{mag, nonNeg, natAbs-le}
+use lib.Signed.{natAbs-le}
 use mir.Syntax.{w64}
-use mir.Val.{toZ, ofZ}
 use mir.ValLaws.{toZ-ofZ}
 use Rattle.detect_refine.proofs.Places.{out-below, not-below, out-low, in-both, out-high}
 use Rattle.detect_refine.proofs.place.Statement.{statement}

@@ -1,9 +1,6 @@
-use Prim.Native.Nat.{ℕ, _≤_, _<_, _+_, _-_}
-use mathlib.Core.Path.{_≡_, refl, sym, _∙_}
-use native.Mathlib.Omega.{arith}
+use Prim.Native.Nat.{_-_}
 use borrow.Author.Needs.{needs}
 use Rattle.detect_refine.specs.Moves.{walk}
-use Rattle.detect_refine.specs.declared.Step.the-variants.{Lost, Stay, Go}
 use Rattle.detect_refine.proofs.walk_by.Statement.{statement}
 use Rattle.detect_refine.proofs.walk_by.Tie as tie
 use Rattle.detect_refine.proofs.walk_by.Reads as reads
@@ -32,8 +29,8 @@ add-move-by c = search needs
 move-by-requires : tie.Need-move-by-requires
 move-by-requires c κs = search needs
 
-enum-known-q : tie.Need-enum-known-q
-enum-known-q c = search needs
+enum-known-plane : tie.Need-enum-known-plane
+enum-known-plane c = search needs
 
 enum-told : tie.Need-enum-told
 enum-told c = search needs
@@ -41,7 +38,10 @@ enum-told c = search needs
 returns-3 : tie.Need-returns-3
 unfolding walk
 returns-3 c =
-    rw (← c .before .before .before .before .before .before .is-small .ensures, c .before .before .before .before .before .if1 .left, ← c .before .before .before .before .is-huge .ensures, c .before .before .before .if2 .left, ← c .before .before .move-by .ensures, c .enum-told .given .1)
+    let m = c .before .before in
+    let h = m .before .before in
+    let s = h .before .before in
+    rw (← s .is-small .ensures, h .before .if1 .left, ← h .is-huge .ensures, m .before .if2 .left, ← m .move-by .ensures, c .enum-told .given .1)
 
 sub-move-by : tie.Need-sub-move-by
 sub-move-by c = search needs
@@ -49,8 +49,8 @@ sub-move-by c = search needs
 move-by-requires-2 : tie.Need-move-by-requires-2
 move-by-requires-2 c κs = search needs
 
-enum-known-s : tie.Need-enum-known-s
-enum-known-s c = search needs
+enum-known-row : tie.Need-enum-known-row
+enum-known-row c = search needs
 
 enum-told-2 : tie.Need-enum-told-2
 enum-told-2 c = search needs
@@ -58,7 +58,12 @@ enum-told-2 c = search needs
 returns-4 : tie.Need-returns-4
 unfolding walk
 returns-4 c =
-    rw (← c .before .before .before .before .before .before .before .before .before .before .is-small .ensures, c .before .before .before .before .before .before .before .before .before .if1 .left, ← c .before .before .before .before .before .before .before .before .is-huge .ensures, c .before .before .before .before .before .before .before .if2 .left, ← c .before .before .before .before .before .before .move-by .ensures, c .before .before .before .before .q .given .1, ← c .before .before .move-by2 .ensures, c .enum-told2 .given .1)
+    let y = c .before .before in
+    let x = y .before .before .before in
+    let m = x .before .before in
+    let h = m .before .before in
+    let s = h .before .before in
+    rw (← s .is-small .ensures, h .before .if1 .left, ← h .is-huge .ensures, m .before .if2 .left, ← m .move-by .ensures, x .plane .given .1, ← y .move-by2 .ensures, c .enum-told2 .given .1)
 
 sub-move-by-2 : tie.Need-sub-move-by-2
 sub-move-by-2 c = search needs
@@ -66,8 +71,8 @@ sub-move-by-2 c = search needs
 move-by-requires-3 : tie.Need-move-by-requires-3
 move-by-requires-3 c κs = search needs
 
-enum-known-d : tie.Need-enum-known-d
-enum-known-d c = search needs
+enum-known-column : tie.Need-enum-known-column
+enum-known-column c = search needs
 
 enum-told-3 : tie.Need-enum-told-3
 enum-told-3 c = search needs
@@ -75,12 +80,26 @@ enum-told-3 c = search needs
 returns-5 : tie.Need-returns-5
 unfolding walk
 returns-5 c =
-    rw (← c .before .before .before .before .before .before .before .before .before .before .before .before .before .before .is-small .ensures, c .before .before .before .before .before .before .before .before .before .before .before .before .before .if1 .left, ← c .before .before .before .before .before .before .before .before .before .before .before .before .is-huge .ensures, c .before .before .before .before .before .before .before .before .before .before .before .if2 .left, ← c .before .before .before .before .before .before .before .before .before .before .move-by .ensures, c .before .before .before .before .before .before .before .before .q .given .1, ← c .before .before .before .before .before .before .move-by2 .ensures, c .before .before .before .before .s .given .1, ← c .before .before .move-by3 .ensures, c .enum-told3 .given .1)
+    let z = c .before .before in
+    let q = z .before .before .before in
+    let y = q .before .before in
+    let x = y .before .before .before in
+    let m = x .before .before in
+    let h = m .before .before in
+    let s = h .before .before in
+    rw (← s .is-small .ensures, h .before .if1 .left, ← h .is-huge .ensures, m .before .if2 .left, ← m .move-by .ensures, x .plane .given .1, ← y .move-by2 .ensures, q .row .given .1, ← z .move-by3 .ensures, c .enum-told3 .given .1)
 
 returns-6 : tie.Need-returns-6
 unfolding walk
 returns-6 c =
-    rw (← c .before .before .before .before .before .before .before .before .before .before .before .before .before .before .before .is-small .ensures, c .before .before .before .before .before .before .before .before .before .before .before .before .before .before .if1 .left, ← c .before .before .before .before .before .before .before .before .before .before .before .before .before .is-huge .ensures, c .before .before .before .before .before .before .before .before .before .before .before .before .if2 .left, ← c .before .before .before .before .before .before .before .before .before .before .before .move-by .ensures, c .before .before .before .before .before .before .before .before .before .q .given .1, ← c .before .before .before .before .before .before .before .move-by2 .ensures, c .before .before .before .before .before .s .given .1, ← c .before .before .before .move-by3 .ensures, c .before .d .given .1)
+    let z = c .before .before .before in
+    let q = z .before .before .before in
+    let y = q .before .before in
+    let x = y .before .before .before in
+    let m = x .before .before in
+    let h = m .before .before in
+    let s = h .before .before in
+    rw (← s .is-small .ensures, h .before .if1 .left, ← h .is-huge .ensures, m .before .if2 .left, ← m .move-by .ensures, x .plane .given .1, ← y .move-by2 .ensures, q .row .given .1, ← z .move-by3 .ensures, c .before .column .given .1)
 
 pub walk-by-spec : {M : Type 1} → statement M
 walk-by-spec =
@@ -92,17 +111,17 @@ walk-by-spec =
     returns-2
     add-move-by
     move-by-requires
-    enum-known-q
+    enum-known-plane
     enum-told
     returns-3
     sub-move-by
     move-by-requires-2
-    enum-known-s
+    enum-known-row
     enum-told-2
     returns-4
     sub-move-by-2
     move-by-requires-3
-    enum-known-d
+    enum-known-column
     enum-told-3
     returns-5
     returns-6)

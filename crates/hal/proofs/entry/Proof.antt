@@ -15,20 +15,16 @@ len : 256 ≡ length powers
 unfolding powers
 len = refl
 
--- src/lib.rt:283:18
 mul-result : tie.Need-mul-result
 mul-result c = search needs
 
--- src/lib.rt:283:18
 element-copy-out-result : tie.Need-element-copy-out-result
 element-copy-out-result c = search needs
 
--- src/lib.rt:279:1
 returns : tie.Need-returns
 unfolding entryOf
 returns c = let i = c .before .before .args .i in ap (λ (l : List ℕ). getD l i 0) (c .before .before .pre) ∙ getD-any powers 0 16777216 i (subst (λ (n : ℕ). i < n) len (c .before .if1 .taken))
 
--- src/lib.rt:279:1
 returns-2 : tie.Need-returns-2
 unfolding entryOf powers
 returns-2 c = sym (List·getD-eq-default powers 16777216 (c .if1 .left))

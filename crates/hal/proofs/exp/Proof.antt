@@ -7,12 +7,10 @@ use Rattle.hal.proofs.exp.Reads as reads
 use Rattle.hal.proofs.exp.Lts as lts
 use Rattle.hal.proofs.exp_with.Reads as exp-with-reads
 
--- src/lib.rt:105:5
 exp-with-requires : tie.Need-exp-with-requires
 unfolding powers
 exp-with-requires c κs = refl
 
--- src/lib.rt:102:1
 returns : tie.Need-returns
 returns c = search needs
 

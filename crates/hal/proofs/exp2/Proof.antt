@@ -7,12 +7,10 @@ use Rattle.hal.proofs.exp2.Reads as reads
 use Rattle.hal.proofs.exp2.Lts as lts
 use Rattle.hal.proofs.exp2_with.Reads as exp2-with-reads
 
--- src/lib.rt:99:5
 exp2-with-requires : tie.Need-exp2-with-requires
 unfolding powers
 exp2-with-requires c κs = refl
 
--- src/lib.rt:96:1
 returns : tie.Need-returns
 returns c = search needs
 

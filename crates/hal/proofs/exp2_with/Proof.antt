@@ -5,7 +5,7 @@ use native.Mathlib.Omega.{arith}
 use lib.Dec.{T, lit≤}
 use lib.Ieee.{Float, binary64, le, neg, add, mul, div, ofBits, toUnsigned, fits, isNan}
 use lib.Ieee.Fits.{and-i, and-l, fits-widens}
-use Rattle.hal.specs.Numbers.{nought, two}
+use Rattle.ieee.specs.Numbers.{nought, two}
 use Rattle.hal.specs.Exp.{inUp, upStart, upRate, fixedOf, exp2Of}
 use Rattle.hal.proofs.FixedPoint.{Fixed, no-nan-le}
 use Rattle.hal.proofs.ExpLaws.{up-any}
@@ -19,11 +19,9 @@ use Rattle.hal.proofs.outside.Reads as outside-reads
 use Rattle.hal.proofs.power.Reads as power-reads
 use Rattle.hal.proofs.within.Reads as within-reads
 
--- src/lib.rt:84:8
 within-requires : tie.Need-within-requires
 within-requires c κs = search needs
 
--- src/lib.rt:85:51
 float-to-float-fixed : tie.Need-float-to-float-fixed
 unfolding ofBits neg
 float-to-float-fixed c =
@@ -31,12 +29,10 @@ float-to-float-fixed c =
     let t : T (inUp x) = subst T (sym (sym (c .before .before .within .ensures) ∙ c .before .if1 .taken)) tt in
     and-i (fits binary64 x) (not (isNan x)) (fits-widens x (c .row-known .given)) (no-nan-le nought x (and-l (le nought x) (le x two) t))
 
--- src/lib.rt:85:23
 fixed-requires : tie.Need-fixed-requires
 unfolding ofBits neg
 fixed-requires c κs = up-any (c .before .before .before .args .x) (subst T (sym (sym (c .before .before .within .ensures) ∙ c .before .if1 .taken)) tt) .number
 
--- src/lib.rt:85:9
 power-requires : tie.Need-power-requires
 unfolding ofBits neg
 power-requires c κs =
@@ -45,16 +41,13 @@ power-requires c κs =
     let v : c .fixed .result ≤ 4294967296 = subst (λ (z : ℕ). z ≤ 4294967296) (sym (c .fixed .ensures)) (f .most) in
     (c .before .before .before .before .pre, (lit≤ tt, omega arith))
 
--- src/lib.rt:87:9
 outside-requires : tie.Need-outside-requires
 outside-requires c κs = search needs
 
--- src/lib.rt:80:1
 returns : tie.Need-returns
 unfolding exp2Of fixedOf ofBits neg
 returns c = simp (c .power .ensures, c .before .fixed .ensures, sym (c .before .before .before .before .within .ensures) ∙ c .before .before .before .if1 .taken)
 
--- src/lib.rt:80:1
 returns-2 : tie.Need-returns-2
 unfolding exp2Of ofBits neg
 returns-2 c = simp (c .outside .ensures, sym (c .before .before .within .ensures) ∙ c .before .if1 .left)

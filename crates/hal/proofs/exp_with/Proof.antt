@@ -5,7 +5,8 @@ use native.Mathlib.Omega.{arith}
 use lib.Dec.{T, lit≤}
 use lib.Ieee.{Float, binary64, le, neg, add, mul, div, ofBits, toUnsigned, fits, isNan}
 use lib.Ieee.Fits.{and-i, and-l, fits-widens}
-use Rattle.hal.specs.Numbers.{minus32, nought}
+use Rattle.ieee.specs.Numbers.{nought}
+use Rattle.hal.specs.Numbers.{minus32}
 use Rattle.hal.specs.Exp.{inDown, downStart, downRate, fixedOf, expOf}
 use Rattle.hal.proofs.FixedPoint.{Fixed, no-nan-le}
 use Rattle.hal.proofs.ExpLaws.{down-fixed}
@@ -19,11 +20,9 @@ use Rattle.hal.proofs.outside.Reads as outside-reads
 use Rattle.hal.proofs.power.Reads as power-reads
 use Rattle.hal.proofs.within.Reads as within-reads
 
--- src/lib.rt:95:8
 within-requires : tie.Need-within-requires
 within-requires c κs = search needs
 
--- src/lib.rt:96:50
 float-to-float-fixed : tie.Need-float-to-float-fixed
 unfolding ofBits neg
 float-to-float-fixed c =
@@ -31,12 +30,10 @@ float-to-float-fixed c =
     let t : T (inDown x) = subst T (sym (sym (c .before .before .within .ensures) ∙ c .before .if1 .taken)) tt in
     and-i (fits binary64 x) (not (isNan x)) (fits-widens x (c .row-known .given)) (no-nan-le minus32 x (and-l (le minus32 x) (le x nought) t))
 
--- src/lib.rt:96:22
 fixed-requires : tie.Need-fixed-requires
 unfolding ofBits neg
 fixed-requires c κs = down-fixed (c .before .before .before .args .x) (subst T (sym (sym (c .before .before .within .ensures) ∙ c .before .if1 .taken)) tt) .number
 
--- src/lib.rt:96:9
 power-requires : tie.Need-power-requires
 unfolding ofBits neg
 power-requires c κs =
@@ -45,16 +42,13 @@ power-requires c κs =
     let v : c .fixed .result ≤ 100931731456 = subst (λ (z : ℕ). z ≤ 100931731456) (sym (c .fixed .ensures)) (f .most) in
     (c .before .before .before .before .pre, (lit≤ tt, omega arith))
 
--- src/lib.rt:98:9
 outside-requires : tie.Need-outside-requires
 outside-requires c κs = search needs
 
--- src/lib.rt:91:1
 returns : tie.Need-returns
 unfolding expOf fixedOf ofBits neg
 returns c = simp (c .power .ensures, c .before .fixed .ensures, sym (c .before .before .before .before .within .ensures) ∙ c .before .before .before .if1 .taken)
 
--- src/lib.rt:91:1
 returns-2 : tie.Need-returns-2
 unfolding expOf ofBits neg
 returns-2 c = simp (c .outside .ensures, sym (c .before .before .within .ensures) ∙ c .before .if1 .left)

@@ -8,11 +8,9 @@ use Rattle.hal.proofs.fixed.Tie as tie
 use Rattle.hal.proofs.fixed.Reads as reads
 use Rattle.hal.proofs.fixed.Lts as lts
 
--- src/lib.rt:63:5
 float-to-bits-result : tie.Need-float-to-bits-result
 float-to-bits-result c = no-nan-le (fin false 1 (pos 52)) (c .args .w) (and-l (le (fin false 1 (pos 52)) (c .args .w)) (lt (c .args .w) (fin false 1 (pos 53))) (c .pre))
 
--- src/lib.rt:59:1
 returns : tie.Need-returns
 returns c = fixed-bits (c .args .w) (c .pre)
 

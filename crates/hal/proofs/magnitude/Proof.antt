@@ -1,6 +1,6 @@
 use mathlib.Core.Path.{_≡_, sym, _∙_}
 use Rattle.hal.specs.Magnitude.{magnitudeOf}
-use Rattle.hal.specs.Angle.{small, slopeOf, lesserOf, greaterOf, nearOf, mirrorOf, belowOf, foldedOf, directionOf, levelOf, inAngle, angleOf}
+use Rattle.hal.specs.Angle.{small, tangentAngleOf, lesserOf, greaterOf, nearOf, mirrorOf, belowTurnOf, foldedOf, directionOf, levelOf, inAngle, angleOf}
 use lib.Ieee.{Float, nan, fin, binary32, binary64, lt, le, eq, neg, add, sub, mul, div, ofBits, fits, isNan}
 use borrow.Author.Needs.{needs}
 use Rattle.hal.proofs.magnitude.Statement.{statement}
@@ -12,32 +12,25 @@ use Rattle.hal.proofs.outside.Reads as outside-reads
 use Rattle.ieee.proofs.abs.Reads as abs-reads
 use Rattle.ieee.proofs.length.Reads as length-reads
 
--- src/lib.rt:263:19
 abs-requires : tie.Need-abs-requires
 abs-requires c κs = search needs
 
--- src/lib.rt:263:34
 abs-requires-2 : tie.Need-abs-requires-2
 abs-requires-2 c κs = search needs
 
--- src/lib.rt:263:8
 both-small-requires : tie.Need-both-small-requires
 both-small-requires c κs = search needs
 
--- src/lib.rt:264:9
 length-requires : tie.Need-length-requires
 length-requires c κs = search needs
 
--- src/lib.rt:266:9
 outside-requires : tie.Need-outside-requires
 outside-requires c κs = search needs
 
--- src/lib.rt:260:1
 returns : tie.Need-returns
 unfolding magnitudeOf ofBits
 returns c = simp (c .length .ensures, sym (c .before .before .before .before .abs .ensures), sym (c .before .before .before .abs2 .ensures), sym (c .before .before .both-small .ensures) ∙ c .before .if1 .taken)
 
--- src/lib.rt:260:1
 returns-2 : tie.Need-returns-2
 unfolding magnitudeOf ofBits
 returns-2 c = simp (c .outside .ensures, sym (c .before .before .before .before .abs .ensures), sym (c .before .before .before .abs2 .ensures), sym (c .before .before .both-small .ensures) ∙ c .before .if1 .left)

@@ -8,40 +8,31 @@ use Rattle.hal.proofs.mix.Reads as reads
 use Rattle.hal.proofs.mix.Lts as lts
 use Rattle.hal.proofs.entry.Reads as entry-reads
 
--- src/lib.rt:291:9
 entry-requires : tie.Need-entry-requires
 entry-requires c κs = search needs
 
--- src/lib.rt:292:23
 add-entry : tie.Need-add-entry
 add-entry c = search needs
 
--- src/lib.rt:292:9
 entry-requires-2 : tie.Need-entry-requires-2
 entry-requires-2 c κs = search needs
 
--- src/lib.rt:293:14
 sub-result : tie.Need-sub-result
 sub-result c = let m = mixed (c .before .before .args .i) (c .before .before .args .g) (c .before .before .pre .1 .0) (c .before .before .pre .1 .1) in simp (c .entry2 .ensures, c .before .entry .ensures) (m .rise)
 
--- src/lib.rt:293:13
 cast-result : tie.Need-cast-result
 cast-result c = search needs
 
--- src/lib.rt:293:12
 mul-result : tie.Need-mul-result
 mul-result c = let m = mixed (c .before .before .args .i) (c .before .before .args .g) (c .before .before .pre .1 .0) (c .before .before .pre .1 .1) in simp (c .entry2 .ensures, c .before .entry .ensures) (omega (arith, m .product))
 
--- src/lib.rt:293:11
 cast-result-2 : tie.Need-cast-result-2
 cast-result-2 c = let m = mixed (c .before .before .args .i) (c .before .before .args .g) (c .before .before .pre .1 .0) (c .before .before .pre .1 .1) in simp (c .entry2 .ensures, c .before .entry .ensures) (omega (arith, m .product))
 
--- src/lib.rt:293:5
 add-result : tie.Need-add-result
 unfolding mixOf
 add-result c = let m = mixed (c .before .before .args .i) (c .before .before .args .g) (c .before .before .pre .1 .0) (c .before .before .pre .1 .1) in simp (c .entry2 .ensures, c .before .entry .ensures) (omega (arith, m .below))
 
--- src/lib.rt:287:1
 returns : tie.Need-returns
 unfolding mixOf
 returns c = simp (c .entry2 .ensures, c .before .entry .ensures)

@@ -5,7 +5,6 @@ use Rattle.hal.proofs.outside.Tie as tie
 use Rattle.hal.proofs.outside.Reads as reads
 use Rattle.hal.proofs.outside.Lts as lts
 
--- src/lib.rt:16:1
 returns : tie.Need-returns
 unfolding div ofBits
 returns c = refl

@@ -5,7 +5,6 @@ use Rattle.hal.proofs.table.Tie as tie
 use Rattle.hal.proofs.table.Reads as reads
 use Rattle.hal.proofs.table.Lts as lts
 
--- src/lib.rt:16:1
 returns : tie.Need-returns
 unfolding powers
 returns c = refl

@@ -43,47 +43,36 @@ module _ (n r k : ℕ) (p : 0 < k) (i : Inv-loop n 0 32 r k) where
   left : n < (r + b) * (r + b) → Inv-loop n 0 32 r (k - 1)
   left h = (omega arith, i .1, subst (λ (x : ℕ). n < (r + x) * (r + x)) (bit k p (i .0)) h, omega (arith, i .3, half k p))
 
--- src/lib.rt:234:5
 loop-holds : tie.Need-loop-holds Inv-loop μ-loop
 loop-holds c = (lit≤ tt, zero-le, c .fits .n .fits, lit≤ tt)
 
--- src/lib.rt:235:9
 sub-k : tie.Need-sub-k Inv-loop μ-loop
 sub-k c = omega arith
 
--- src/lib.rt:236:30
 cast-t : tie.Need-cast-t Inv-loop μ-loop
 cast-t c = omega arith
 
--- src/lib.rt:236:22
 shl-t : tie.Need-shl-t Inv-loop μ-loop
 shl-t c = omega arith
 
--- src/lib.rt:236:17
 add-t : tie.Need-add-t Inv-loop μ-loop
 add-t c = omega (arith, t-in (c .before .before .args .n) (c .before .loop .r) (c .before .loop .k) (c .loop-test .taken) (c .before .loop .inv))
 
--- src/lib.rt:237:12
 mul-if1 : tie.Need-mul-if1 Inv-loop μ-loop
 mul-if1 c = record { fits = square-in (c .before .loop .r + b (c .before .before .args .n) (c .before .loop .r) (c .before .loop .k) (c .loop-test .taken) (c .before .loop .inv)) (t-in (c .before .before .args .n) (c .before .loop .r) (c .before .loop .k) (c .loop-test .taken) (c .before .loop .inv)) }
 
--- src/lib.rt:234:5
 loop-less : tie.Need-loop-less Inv-loop μ-loop
 loop-less c = omega arith
 
--- src/lib.rt:234:5
 loop-again : tie.Need-loop-again Inv-loop μ-loop
 loop-again c = let d = c .before in taken (d .before .before .args .n) (d .before .loop .r) (d .before .loop .k) (d .loop-test .taken) (d .before .loop .inv) (c .if1 .taken)
 
--- src/lib.rt:234:5
 loop-less-2 : tie.Need-loop-less-2 Inv-loop μ-loop
 loop-less-2 c = omega arith
 
--- src/lib.rt:234:5
 loop-again-2 : tie.Need-loop-again-2 Inv-loop μ-loop
 loop-again-2 c = let d = c .before in left (d .before .before .args .n) (d .before .loop .r) (d .before .loop .k) (d .loop-test .taken) (d .before .loop .inv) (c .if1 .left)
 
--- src/lib.rt:229:1
 returns : tie.Need-returns Inv-loop μ-loop
 returns c =
     let i = c .before .loop .inv in

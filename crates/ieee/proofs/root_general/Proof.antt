@@ -1,201 +1,117 @@
 use borrow.Author.Needs.{needs}
 use mathlib.Core.Path.{_≡_, refl, sym, ap, ap₂, _∙_, subst}
 use mathlib.Core.Logic.{_⊎_, inl, inr}
-use mathlib.Core.Bool.{Bool, true, false}
-use Prim.Native.Nat.{ℕ, suc, _+_, _-_, _*_, _/_, _%_, _^_, _≤_, _<_}
-use native.Mathlib.Nat.{le-of-lt, le-trans, le-of-eq, lt-of-lt-of-le, lt-of-le-of-lt, mul-one, mul-comm, mul-assoc, mul-left-comm, mul-le-mul-left, mul-le-mul-right, mod-lt, mod-eq-of-lt}
-use native.Mathlib.Numerals.{add-one}
+use mathlib.Core.Bool.{Bool, true, false, not, _&&_, _||_, Bool·beq, cond, true≢false, false≢true}
+use Prim.Native.Nat.{ℕ, zero, suc, _+_, _*_, _^_, _≤_, _<_}
+use native.Mathlib.Nat.{zero-mul, mul-one, mul-pos, zero-lt-suc}
 use native.Mathlib.Omega.{arith}
-use lib.Dec.{T, lit<, lit≤}
-use lib.Arith.{lt-of-le-ne}
-use lib.Pow.{pow-add, pow-pos, pow-mono}
-use lib.Ieee.{Float, nan, inf, fin, binary32, round}
-use lib.Ieee.Exact.{HasValue}
-use lib.Ieee.Scale.{finite}
-use lib.Ieee.Positive.{positive, value-pos, first-pos}
-use Rattle.packing.specs.Parts.{Raised}
-use Rattle.ieee.specs.Root.{sqrt, halves}
-use Rattle.ieee.proofs.Roots.{square-le, exact-case, open-case, sqrt-is}
+use lib.Dec.{T, ltb, eqb, lt→ltb, ltb→lt, eqb→eq, eqb-refl}
+use lib.IntN.{ℤ, pos}
+use lib.Ieee.{Float, nan, inf, fin, binary32, fits, up, down, lt, eq, div, neg, ofBits}
+use lib.Ieee.Fits.{up-pos}
+use lib.Ieee.Bits.{is-true}
+use lib.Ieee.Back.{whole-unique}
+use lib.Ieee.Positive.{positive, first-pos}
+use Rattle.ieee.specs.Root.{sqrt}
 use Rattle.ieee.proofs.root_general.Statement.{statement}
 use Rattle.ieee.proofs.root_general.Tie as tie
 use Rattle.ieee.proofs.root_general.Reads as reads
 use Rattle.ieee.proofs.root_general.Lts as lts
-use Rattle.ieee.proofs.isqrt.Reads as isqrt-reads
+use Rattle.ieee.proofs.root_positive.Reads as root-positive-reads
 
-finite-of : (x : Float) → T (positive x) → finite x ≡ true
-finite-of nan p = absurd p
-finite-of (inf s) p = absurd p
-finite-of (fin s m e) p = refl
+-- x is tested against +0
+abbrev Z : Float
+Z = fin false 0 (pos 0)
 
-as-false : (x : Float) (s : Bool) (a c : ℕ) → T (positive x) → HasValue x s a c → HasValue x false a c
-as-false nan s a c p h = absurd p
-as-false (inf t) s a c p h = absurd p
-as-false (fin true m e) s a c p h = absurd p
-as-false (fin false m e) s a c p h = (refl, h .1)
+T-of : (b : Bool) → b ≡ true → T b
+T-of b e = subst T (sym e) tt
 
-some-digit : (x : Float) (s : Bool) (m e : ℕ) → T (positive x) → HasValue x s (m * 2 ^ e) (2 ^ 149) → 0 < m
-some-digit x s m e p h = first-pos m (2 ^ e) (value-pos x (m * 2 ^ e) (2 ^ 149) p (pow-pos 149) (as-false x s (m * 2 ^ e) (2 ^ 149) p h))
+more : (m : ℕ) (e : ℤ) → ltb (0 * down e) (m * up e * 1) ≡ true → 0 < m
+more m e h = first-pos m (up e) (subst (λ (x : ℕ). 0 < x) (mul-one (m * up e)) (subst (λ (x : ℕ). x < m * up e * 1) (zero-mul (down e)) (ltb→lt (0 * down e) (m * up e * 1) (T-of (ltb (0 * down e) (m * up e * 1)) h))))
 
-small : (r a : ℕ) → r * r ≤ a → a < 2 ^ 64 → r < 2 ^ 32
-small r a h k = square-le r (2 ^ 32) (lt-of-le-of-lt h k)
+is-more : (m : ℕ) (e : ℤ) → ltb (0 * down e) (suc m * up e * 1) ≡ true
+is-more m e =
+    is-true (ltb (0 * down e) (suc m * up e * 1)) (lt→ltb (0 * down e) (suc m * up e * 1)
+    (subst (λ (x : ℕ). x < suc m * up e * 1) (sym (zero-mul (down e))) (subst (λ (x : ℕ). 0 < x) (sym (mul-one (suc m * up e))) (mul-pos (zero-lt-suc m) (up-pos e)))))
 
--- m moved up by z or z + 1 places, by whether w is odd
-module _ (m e z : ℕ) (q : Raised m z) where
-  abbrev w : ℕ
-  w = e + 151 - z
+above : (x : Float) → lt Z x ≡ true → lt x (inf false) ≡ true → T (positive x)
+unfolding lt
+above nan g h = absurd (false≢true g)
+above (inf true) g h = absurd (false≢true g)
+above (inf false) g h = absurd (false≢true h)
+above (fin true m e) g h = absurd (false≢true g)
+above (fin false m e) g h = lt→ltb 0 m (more m e g)
 
-  abbrev a : ℕ
-  a = m * 2 ^ (z + w % 2) % 2 ^ 64
+endless : (x : Float) → lt Z x ≡ true → lt x (inf false) ≡ false → x ≡ sqrt binary32 x
+unfolding lt sqrt
+endless nan g h = absurd (false≢true g)
+endless (inf true) g h = absurd (false≢true g)
+endless (inf false) g h = refl
+endless (fin s m e) g h = absurd (true≢false h)
 
-  a-twice : m * 2 ^ (z + w % 2) ≡ m * 2 ^ z * 2 ^ (w % 2)
-  a-twice = ap (λ (x : ℕ). m * x) (pow-add 2 z (w % 2)) ∙ sym (mul-assoc m (2 ^ z) (2 ^ (w % 2)))
+unequal : (m : ℕ) (e : ℤ) (b : Bool) → (eqb (suc m * up e * 1) (0 * down e) && b) ≡ true → ⊥
+unequal m e b h = go (eqb (suc m * up e * 1) (0 * down e)) (eqb→eq (suc m * up e * 1) (0 * down e)) h
+  where
+    no : suc m * up e * 1 ≡ 0 * down e → ⊥
+    no q = let p : 0 < suc m * up e = mul-pos (zero-lt-suc m) (up-pos e) in omega (arith, q, zero-mul (down e), mul-one (suc m * up e))
 
-  a-in : m * 2 ^ (z + w % 2) < 2 ^ 64
-  a-in = lt-of-le-of-lt (le-trans (le-of-eq a-twice) (mul-le-mul-left (m * 2 ^ z) (pow-mono {i = w % 2} {j = 1} (omega arith)))) (omega (arith, q .high))
+    go : (c : Bool) → (T c → suc m * up e * 1 ≡ 0 * down e) → (c && b) ≡ true → ⊥
+    go true f k = no (f tt)
+    go false f k = false≢true k
 
-  a-is : a ≡ m * 2 ^ (z + w % 2)
-  a-is = mod-eq-of-lt a-in
+nought : (e : ℤ) → 0 * up e * 1 ≡ 0 * down e
+nought e = mul-one (0 * up e) ∙ zero-mul (up e) ∙ sym (zero-mul (down e))
 
-  a-ge : 2 ^ 61 ≤ a
-  a-ge = le-trans (q .low) (le-trans (le-of-eq (sym (mul-one (m * 2 ^ z)))) (le-trans (mul-le-mul-left (m * 2 ^ z) (pow-pos (w % 2))) (le-of-eq (sym (a-is ∙ a-twice)))))
+-- x is a zero, of either sign: what is answered for one is then worked out
+nothing : (x : Float) → T (fits binary32 x) → eq x Z ≡ true → (x ≡ fin true 0 (pos 0)) ⊎ (x ≡ fin false 0 (pos 0))
+unfolding eq fits
+nothing nan k h = absurd (false≢true h)
+nothing (inf s) k h = absurd (false≢true h)
+nothing (fin true zero e) k h = inl (whole-unique binary32 (fin true 0 e) (fin true 0 (pos 0)) true 0 k tt (refl, nought e) (refl, refl))
+nothing (fin false zero e) k h = inr (whole-unique binary32 (fin false 0 e) (fin false 0 (pos 0)) false 0 k tt (refl, nought e) (refl, refl))
+nothing (fin true (suc m) e) k h = absurd (unequal m e _ h)
+nothing (fin false (suc m) e) k h = absurd (unequal m e _ h)
 
-  -- a * 4 ^ (w / 2) is four times the number whose root is asked
-  same : a * (2 ^ (w / 2) * 2 ^ (w / 2)) ≡ 4 * (m * 2 ^ e * 2 ^ 149)
-  same =
-      let k : z + w % 2 + (w / 2 + w / 2) ≡ e + 151 = omega (arith, q .most) in
-      ap₂ (λ (x y : ℕ). x * y) a-is (sym (pow-add 2 (w / 2) (w / 2)))
-      ∙ mul-assoc m (2 ^ (z + w % 2)) (2 ^ (w / 2 + w / 2))
-      ∙ ap (λ (x : ℕ). m * x) (sym (pow-add 2 (z + w % 2) (w / 2 + w / 2)) ∙ ap (λ (x : ℕ). 2 ^ x) k ∙ pow-add 2 e 151)
-      ∙ sym (mul-assoc m (2 ^ e) (2 ^ 151))
-      ∙ sym (mul-assoc (m * 2 ^ e) (2 ^ 149) 4)
-      ∙ mul-comm (m * 2 ^ e * 2 ^ 149) 4
+zeros : (e : ℤ) (s : Bool) → (eqb (0 * up e * 1) (0 * down e) && (Bool·beq s false || eqb (0 * up e * 1) 0)) ≡ true
+zeros e s = ap₂ (λ (a b : ℕ). eqb a b && (Bool·beq s false || eqb a 0)) (mul-one (0 * up e) ∙ zero-mul (up e)) (zero-mul (down e)) ∙ either s
+  where
+    either : (s : Bool) → (Bool·beq s false || true) ≡ true
+    either true = refl
+    either false = refl
 
-  up : suc (w / 2 - 1) ≡ w / 2
-  up = omega (arith, q .most)
+none : (x : Float) → lt Z x ≡ false → eq x Z ≡ false → nan ≡ sqrt binary32 x
+unfolding lt eq sqrt
+none nan g h = refl
+none (inf true) g h = refl
+none (inf false) g h = absurd (true≢false g)
+none (fin s zero e) g h = absurd (true≢false (sym (zeros e s) ∙ h))
+none (fin true (suc m) e) g h = refl
+none (fin false (suc m) e) g h = absurd (true≢false (sym (is-more m e) ∙ g))
 
-  keep : (r : ℕ) → a < suc r * suc r → 2 ^ 24 ≤ r
-  keep r h = omega (arith, square-le (2 ^ 30) (suc r) (lt-of-lt-of-le (lit< tt) (le-trans a-ge (le-of-lt h))))
+held : (c : tie.Start) → T (fits binary32 (c .args .x))
+held c = subst T (sym (c .good .0 .1)) tt
 
-  same' : a * (2 ^ suc (w / 2 - 1) * 2 ^ suc (w / 2 - 1)) ≡ 4 * (m * 2 ^ e * 2 ^ 149)
-  same' = ap (λ (x : ℕ). a * (2 ^ x * 2 ^ x)) up ∙ same
+root-positive-requires : tie.Need-root-positive-requires
+unfolding ofBits div
+root-positive-requires c κs = above (c .before .before .args .x) (c .before .if1 .taken) (c .if2 .taken)
 
-  square : (x : Float) (s : Bool) (r : ℕ) → T (positive x) → HasValue x s (m * 2 ^ e) (2 ^ 149) → a < (r + 1) * (r + 1) → r * r ≡ a
-      → round binary32 false (2 * r * 2 ^ (w / 2 + 923)) (2 ^ 1074) ≡ sqrt binary32 x
-  square x s r p h l d =
-      ap (λ (y : ℕ). round binary32 false (2 * r * 2 ^ (y + 923)) (2 ^ 1074)) (sym up)
-      ∙ exact-case (m * 2 ^ e * 2 ^ 149) a r (w / 2 - 1) same' (keep r (subst (λ (y : ℕ). a < y * y) (add-one r) l)) d
-      ∙ sym (sqrt-is x s (m * 2 ^ e) p h)
-
-  -- n is the root and a half
-  between : (x : Float) (s : Bool) (r n : ℕ) → n ≡ r * 2 + 1 → T (positive x) → HasValue x s (m * 2 ^ e) (2 ^ 149) → r * r ≤ a → a < (r + 1) * (r + 1) → (r * r ≡ a → ⊥)
-      → round binary32 false (n * 2 ^ (w / 2 + 923)) (2 ^ 1074) ≡ sqrt binary32 x
-  between x s r n j p h g l d =
-      let l' : a < suc r * suc r = subst (λ (y : ℕ). a < y * y) (add-one r) l in
-      ap₂ (λ (v y : ℕ). round binary32 false (v * 2 ^ (y + 923)) (2 ^ 1074)) j (sym up)
-      ∙ open-case (m * 2 ^ e * 2 ^ 149) a r (w / 2 - 1) same' (keep r l') (lt-of-le-ne g d) l'
-      ∙ sym (sqrt-is x s (m * 2 ^ e) p h)
-
--- src/lib.rt:249:9
-unpack-requires : tie.Need-unpack-requires
-unpack-requires c κs = finite-of (c .args .x) (c .pre)
-
--- src/lib.rt:252:9
-raise-requires : tie.Need-raise-requires
-raise-requires c κs = let u = c .unpack in (some-digit (c .before .args .x) (u .result .s) (u .result .m) (u .result .x) (c .before .pre) (u .ensures .value), omega (arith, u .ensures .digits))
-
--- src/lib.rt:253:13
-add-w : tie.Need-add-w
-add-w c = search needs
-
--- src/lib.rt:253:13
-sub-w : tie.Need-sub-w
-sub-w c = search needs
-
--- src/lib.rt:254:19
-add-a : tie.Need-add-a
-add-a c = search needs
-
--- src/lib.rt:254:19
-cast-a : tie.Need-cast-a
-cast-a c = search needs
-
--- src/lib.rt:254:13
-shl-a : tie.Need-shl-a
-shl-a c = search needs
-
--- src/lib.rt:255:9
-isqrt-requires : tie.Need-isqrt-requires
-isqrt-requires c κs = search needs
-
--- src/lib.rt:256:8
-mul-if1 : tie.Need-mul-if1
-mul-if1 c = search needs
-
--- src/lib.rt:257:21
-mul-pack : tie.Need-mul-pack
-mul-pack c = omega (arith, small (c .before .isqrt .result) (a (c .before .before .before .unpack .result .m) (c .before .before .before .unpack .result .x) (c .before .before .raise .result) (c .before .before .raise .ensures)) (c .before .isqrt .ensures .0) (mod-lt _ (pow-pos 64)))
-
--- src/lib.rt:257:28
-add-pack : tie.Need-add-pack
-add-pack c = search needs
-
--- src/lib.rt:257:9
-pack-requires : tie.Need-pack-requires
-pack-requires c κs = search needs
-
--- src/lib.rt:259:21
-mul-pack-2 : tie.Need-mul-pack-2
-mul-pack-2 c = omega (arith, small (c .before .isqrt .result) (a (c .before .before .before .unpack .result .m) (c .before .before .before .unpack .result .x) (c .before .before .raise .result) (c .before .before .raise .ensures)) (c .before .isqrt .ensures .0) (mod-lt _ (pow-pos 64)))
-
--- src/lib.rt:259:21
-add-pack-2 : tie.Need-add-pack-2
-add-pack-2 c = omega (arith, small (c .before .isqrt .result) (a (c .before .before .before .unpack .result .m) (c .before .before .before .unpack .result .x) (c .before .before .raise .result) (c .before .before .raise .ensures)) (c .before .isqrt .ensures .0) (mod-lt _ (pow-pos 64)))
-
--- src/lib.rt:259:32
-add-pack-3 : tie.Need-add-pack-3
-add-pack-3 c = search needs
-
--- src/lib.rt:259:9
-pack-requires-2 : tie.Need-pack-requires-2
-pack-requires-2 c κs = search needs
-
--- src/lib.rt:245:1
 returns : tie.Need-returns
-returns c =
-    let d = c .before .before in
-    let u = d .before .before .unpack in
-    let z = d .before .raise in
-    let x = d .before .before .before in
-    c .pack .ensures ∙ square (u .result .m) (u .result .x) (z .result) (z .ensures) (x .args .x) (u .result .s) (d .isqrt .result) (x .pre) (u .ensures .value) (d .isqrt .ensures .1) (c .before .if1 .taken)
+returns c = c .root-positive .ensures
 
--- src/lib.rt:245:1
 returns-2 : tie.Need-returns-2
-returns-2 c =
-    let d = c .before .before in
-    let u = d .before .before .unpack in
-    let z = d .before .raise in
-    let x = d .before .before .before in
-    c .pack2 .ensures ∙ between (u .result .m) (u .result .x) (z .result) (z .ensures) (x .args .x) (u .result .s) (d .isqrt .result) _ (omega arith) (x .pre) (u .ensures .value) (d .isqrt .ensures .0) (d .isqrt .ensures .1) (c .before .if1 .left)
+unfolding ofBits div
+returns-2 c = endless (c .before .before .args .x) (c .before .if1 .taken) (c .if2 .left)
+
+returns-3 : tie.Need-returns-3
+unfolding ofBits neg sqrt
+returns-3 c = let a = c .before .before in elim (nothing (a .args .x) (held a) (c .if3 .taken)) [
+  | inl e ↦ rw e refl
+  | inr e ↦ rw e refl
+]
+
+returns-4 : tie.Need-returns-4
+unfolding ofBits div
+returns-4 c = none (c .before .before .args .x) (c .before .if1 .left) (c .if3 .left)
 
 pub root-general-spec : {M : Type 1} → statement M
-root-general-spec =
-    tie.close
-    (tie.spec
-    unpack-requires
-    raise-requires
-    add-w
-    sub-w
-    add-a
-    cast-a
-    shl-a
-    isqrt-requires
-    mul-if1
-    mul-pack
-    add-pack
-    pack-requires
-    mul-pack-2
-    add-pack-2
-    add-pack-3
-    pack-requires-2
-    returns
-    returns-2)
+root-general-spec = tie.close (tie.spec root-positive-requires returns returns-2 returns-3 returns-4)

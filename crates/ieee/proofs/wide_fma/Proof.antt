@@ -22,19 +22,15 @@ held-b c = subst T (sym (c .good .1 .0 .1)) tt
 held-c : (c : tie.Start) → T (fits binary32 (c .args .c))
 held-c c = subst T (sym (c .good .1 .1 .0 .1)) tt
 
--- src/lib.rt:277:6
 float-to-float-p : tie.Need-float-to-float-p
 float-to-float-p c = let s = c .before in and-i (fits binary64 (s .args .a)) (not (isNan (s .args .a))) (fits-widens (s .args .a) (held-a s)) (finite-no-nan (s .args .a) (s .pre .0))
 
--- src/lib.rt:277:19
 float-to-float-p-2 : tie.Need-float-to-float-p-2
 float-to-float-p-2 c = let s = c .before .before in and-i (fits binary64 (s .args .b)) (not (isNan (s .args .b))) (fits-widens (s .args .b) (held-b s)) (finite-no-nan (s .args .b) (s .pre .1))
 
--- src/lib.rt:277:32
 float-to-float-result : tie.Need-float-to-float-result
 float-to-float-result c = let s = c .before .before .before in and-i (fits binary64 (s .args .c)) (not (isNan (s .args .c))) (fits-widens (s .args .c) (held-c s)) (finite-no-nan (s .args .c) (s .pre .2))
 
--- src/lib.rt:273:1
 returns : tie.Need-returns
 returns c = let s = c .before .before .before in wide-is (s .args .a) (s .args .b) (s .args .c) (split32 (s .args .a) (held-a s) (s .pre .0)) (split32 (s .args .b) (held-b s) (s .pre .1)) (split32 (s .args .c) (held-c s) (s .pre .2))
 

@@ -12,7 +12,7 @@ window-at-requires : tie.Need-window-at-requires
 window-at-requires c κs = search needs
 
 tally-of-requires : tie.Need-tally-of-requires
-tally-of-requires c κs = rw (c .window-at .ensures) (ready-fits _ _ _ _ (c .before .before .pre))
+tally-of-requires c κs = rw (c .window-at .ensures) (ready-fits _ _ _ (c .before .before .pre))
 
 angles-of-requires : tie.Need-angles-of-requires
 angles-of-requires c κs = search needs
@@ -20,7 +20,7 @@ angles-of-requires c κs = search needs
 returns : tie.Need-returns
 returns c =
     let b = c .before .before .before .before in
-    about _ _ _ _ _ _ _ (b .before .window-at .ensures) (b .tally-of .ensures) (c .angles-of .ensures)
+    about _ _ _ _ _ _ (b .before .window-at .ensures) (b .tally-of .ensures) (c .angles-of .ensures)
 
 pub angles-about-spec : {M : Type 1} → statement M
 angles-about-spec =

@@ -16,7 +16,7 @@ returns : tie.Need-returns
 returns c =
     let a = c .before .before .before .before .args in
     let e = c .before .fault-of .ensures .0 in
-    (answer-refused (a .img .now) (a .w) (a .h) (a .k) _ _ e (c .if1 .taken), out-refused (a .img .now) (a .w) (a .h) (a .k) _ (a .out .now) e (c .if1 .taken))
+    (answer-refused (a .img .now) (a .s) (a .k) _ _ e (c .if1 .taken), out-refused (a .img .now) (a .s) (a .k) _ (a .out .now) e (c .if1 .taken))
 
 angles-about-requires : tie.Need-angles-about-requires
 angles-about-requires c κs = c .before .fault-of .ensures .1 (c .if1 .left)
@@ -25,7 +25,7 @@ give-requires : tie.Need-give-requires
 give-requires c κs =
     let a = c .before .before .before .before .before .before .args in
     let r = c .before .angles-about .ensures in
-    few (a .img .now) (a .w) (a .h) (a .k) (c .before .angles-about .result) r
+    few (a .img .now) (a .s) (a .k) (c .before .angles-about .result) r
 
 same-length : tie.Need-same-length
 same-length c = search needs
@@ -37,8 +37,8 @@ returns-2 c =
     let r = b .angles-about .ensures in
     let z = sym (b .before .before .fault-of .ensures .0) ∙ b .before .if1 .left in
     let g = c .before .before .give .ensures in (
-      answer-given (a .img .now) (a .w) (a .h) (a .k) (b .angles-about .result) r z _ _ (g .0),
-      out-given (a .img .now) (a .w) (a .h) (a .k) (b .angles-about .result) r z (a .out .now) _ (g .1),
+      answer-given (a .img .now) (a .s) (a .k) (b .angles-about .result) r z _ _ (g .0),
+      out-given (a .img .now) (a .s) (a .k) (b .angles-about .result) r z (a .out .now) _ (g .1),
     )
 
 pub assign-orientations-spec : {M : Type 1} → statement M

@@ -15,39 +15,39 @@ shape-wrong-requires : tie.Need-shape-wrong-requires
 shape-wrong-requires c κs = search needs
 
 returns : tie.Need-returns
-returns c = (fault-shape _ _ _ _ (sym (c .before .shape-wrong .ensures) ∙ c .if1 .taken), λ z. absurd (omega arith))
+returns c = (fault-shape _ _ _ (sym (c .before .shape-wrong .ensures) ∙ c .if1 .taken), λ z. absurd (omega arith))
 
 mul-if2 : tie.Need-mul-if2
-mul-if2 c = omega (arith, size-small _ _ (c .before .before .before .args .k) (c .before .before .before .args .img .now) (sym (c .before .shape-wrong .ensures) ∙ c .if1 .left))
+mul-if2 c = omega (arith, size-small _ (c .before .before .before .before .args .k) (c .before .before .before .before .args .img .now) (sym (c .before .before .shape-wrong .ensures) ∙ c .before .if1 .left))
 
 returns-2 : tie.Need-returns-2
-returns-2 c = (fault-length _ _ _ _ (sym (c .before .before .shape-wrong .ensures) ∙ c .before .if1 .left) (c .if2 .taken), λ z. absurd (omega arith))
+returns-2 c = (fault-length _ _ _ (sym (c .before .before .before .shape-wrong .ensures) ∙ c .before .before .if1 .left) (c .if2 .taken), λ z. absurd (omega arith))
 
 keypoint-wrong-requires : tie.Need-keypoint-wrong-requires
 keypoint-wrong-requires c κs = search needs
 
 returns-3 : tie.Need-returns-3
-returns-3 c = (fault-keypoint _ _ _ _ (sym (c .before .before .before .before .shape-wrong .ensures) ∙ c .before .before .before .if1 .left) (c .before .before .if2 .left) (sym (c .before .keypoint-wrong .ensures) ∙ c .if3 .taken), λ z. absurd (omega arith))
+returns-3 c = (fault-keypoint _ _ _ (sym (c .before .before .before .before .before .shape-wrong .ensures) ∙ c .before .before .before .before .if1 .left) (c .before .before .if2 .left) (sym (c .before .keypoint-wrong .ensures) ∙ c .if3 .taken), λ z. absurd (omega arith))
 
 window-at-requires : tie.Need-window-at-requires
-window-at-requires c κs = aimed _ _ _ (sym (c .before .before .before .before .shape-wrong .ensures) ∙ c .before .before .before .if1 .left) (sym (c .before .keypoint-wrong .ensures) ∙ c .if3 .left)
+window-at-requires c κs = aimed _ _ (sym (c .before .before .before .before .before .shape-wrong .ensures) ∙ c .before .before .before .before .if1 .left) (sym (c .before .keypoint-wrong .ensures) ∙ c .if3 .left)
 
 window-good-requires : tie.Need-window-good-requires
-window-good-requires c κs = rw (c .window-at .ensures) (aimed-fits _ _ _ _ (c .before .before .before .if2 .left) (aimed _ _ _ (sym (c .before .before .before .before .before .shape-wrong .ensures) ∙ c .before .before .before .before .if1 .left) (sym (c .before .before .keypoint-wrong .ensures) ∙ c .before .if3 .left)))
+window-good-requires c κs = rw (c .window-at .ensures) (aimed-fits _ _ _ (c .before .before .before .if2 .left) (aimed _ _ (sym (c .before .before .before .before .before .before .shape-wrong .ensures) ∙ c .before .before .before .before .before .if1 .left) (sym (c .before .before .keypoint-wrong .ensures) ∙ c .before .if3 .left)))
 
 returns-4 : tie.Need-returns-4
 returns-4 c =
-    let s = sym (c .before .before .before .before .before .before .before .shape-wrong .ensures) ∙ c .before .before .before .before .before .before .if1 .left in
+    let s = sym (c .before .before .before .before .before .before .before .before .shape-wrong .ensures) ∙ c .before .before .before .before .before .before .before .if1 .left in
     let w = c .before .before .before .before .before .if2 .left in
     let r = sym (c .before .before .before .before .keypoint-wrong .ensures) ∙ c .before .before .before .if3 .left in
-    (fault-none _ _ _ _ s w r (rw (← c .before .before .window-at .ensures) (sym (c .before .window-good .ensures) ∙ c .if4 .taken)), λ z. ready _ _ _ (c .before .before .before .before .before .before .before .before .before .args .img .now) s w r)
+    (fault-none _ _ _ s w r (rw (← c .before .before .window-at .ensures) (sym (c .before .window-good .ensures) ∙ c .if4 .taken)), λ z. ready _ _ (c .before .before .before .before .before .before .before .before .before .before .args .img .now) s w r)
 
 returns-5 : tie.Need-returns-5
 returns-5 c =
-    let s = sym (c .before .before .before .before .before .before .before .shape-wrong .ensures) ∙ c .before .before .before .before .before .before .if1 .left in
+    let s = sym (c .before .before .before .before .before .before .before .before .shape-wrong .ensures) ∙ c .before .before .before .before .before .before .before .if1 .left in
     let w = c .before .before .before .before .before .if2 .left in
     let r = sym (c .before .before .before .before .keypoint-wrong .ensures) ∙ c .before .before .before .if3 .left in
-    (fault-sample _ _ _ _ s w r (rw (← c .before .before .window-at .ensures) (sym (c .before .window-good .ensures) ∙ c .if4 .left)), λ z. absurd (omega arith))
+    (fault-sample _ _ _ s w r (rw (← c .before .before .window-at .ensures) (sym (c .before .window-good .ensures) ∙ c .if4 .left)), λ z. absurd (omega arith))
 
 pub fault-of-spec : {M : Type 1} → statement M
 fault-of-spec =

@@ -14,13 +14,13 @@ cell-wrong-requires : tie.Need-cell-wrong-requires
 cell-wrong-requires c κs = search needs
 
 returns : tie.Need-returns
-returns c = cell-first _ _ _ (sym (c .before .cell-wrong .ensures) ∙ c .if1 .taken)
+returns c = cell-first _ _ (sym (c .before .cell-wrong .ensures) ∙ c .if1 .taken)
 
 octave-wrong-requires : tie.Need-octave-wrong-requires
 octave-wrong-requires c κs = search needs
 
 returns-2 : tie.Need-returns-2
-returns-2 c = octave-next _ _ _ (sym (c .before .before .before .cell-wrong .ensures) ∙ c .before .before .if1 .left) (sym (c .before .octave-wrong .ensures) ∙ c .if2 .taken)
+returns-2 c = octave-next _ _ (sym (c .before .before .before .cell-wrong .ensures) ∙ c .before .before .if1 .left) (sym (c .before .octave-wrong .ensures) ∙ c .if2 .taken)
 
 floats-wrong-requires : tie.Need-floats-wrong-requires
 floats-wrong-requires c κs = search needs
@@ -31,7 +31,7 @@ scale-wrong-requires c κs = octave-right _ (sym (c .before .before .octave-wron
 returns-3 : tie.Need-returns-3
 returns-3 c =
     let b = c .before .before in
-    rw (c .scale-wrong .ensures, c .before .floats-wrong .ensures) (rest-last _ _ _ (sym (b .before .before .before .cell-wrong .ensures) ∙ b .before .before .if1 .left) (sym (b .before .octave-wrong .ensures) ∙ b .if2 .left))
+    rw (c .scale-wrong .ensures, c .before .floats-wrong .ensures) (rest-last _ _ (sym (b .before .before .before .cell-wrong .ensures) ∙ b .before .before .if1 .left) (sym (b .before .octave-wrong .ensures) ∙ b .if2 .left))
 
 pub keypoint-wrong-spec : {M : Type 1} → statement M
 keypoint-wrong-spec =

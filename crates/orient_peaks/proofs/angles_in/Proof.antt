@@ -5,7 +5,8 @@ use native.Mathlib.Omega.{arith}
 use lib.ListN.{length, replicate}
 use borrow.Author.Needs.{needs}
 use Rattle.ieee.specs.Numbers.{nought}
-use Rattle.orient_peaks.specs.Peaks.{bins, leastOf, peakOf}
+use Rattle.orient_tally.specs.Sample.{bins}
+use Rattle.orient_peaks.specs.Peaks.{leastOf, peakOf}
 use Rattle.orient_peaks.proofs.Fill.{Filled, filled-none, filled-more, filled-pass, peak-short, peak-yes, peak-none, peaks-held}
 use Rattle.orient_peaks.proofs.angles_in.Statement.{statement}
 use Rattle.orient_peaks.proofs.angles_in.Tie as tie
@@ -16,10 +17,10 @@ use Rattle.orient_peaks.proofs.least_of.Reads as least-of-reads
 use Rattle.orient_peaks.proofs.peak_angle.Reads as peak-angle-reads
 
 abbrev Inv-loop : tie.InvT-loop
-Inv-loop h least all₀ count₀ j₀ all count j = (j ≤ 36) × ((length all₀ ≡ 36) × ((all₀ ≡ replicate bins nought) × ((least ≡ leastOf h) × Filled (peakOf h least) j all₀ all count)))
+Inv-loop h least all₀ count₀ j₀ all count j = (j ≤ bins) × ((length all₀ ≡ bins) × ((all₀ ≡ replicate bins nought) × ((least ≡ leastOf h) × Filled (peakOf h least) j all₀ all count)))
 
 abbrev μ-loop : tie.MeasureT-loop
-μ-loop h least all₀ count₀ j₀ all count j = 36 - j
+μ-loop h least all₀ count₀ j₀ all count j = bins - j
 
 least-of-requires : tie.Need-least-of-requires Inv-loop μ-loop
 least-of-requires c κs = search needs

@@ -2,6 +2,7 @@ use Prim.Native.Nat.{_-_, _≤_}
 use mathlib.Core.Path.{_≡_, refl, ap, _∙_}
 use native.Mathlib.Omega.{arith}
 use borrow.Author.Needs.{needs}
+use Rattle.orient_tally.specs.Sample.{bins}
 use Rattle.orient_peaks.specs.Peaks.{largestTo, leastOf}
 use Rattle.orient_peaks.proofs.Fill.{largest-more}
 use Rattle.orient_peaks.proofs.least_of.Statement.{statement}
@@ -11,10 +12,10 @@ use Rattle.orient_peaks.proofs.least_of.Lts as lts
 use Rattle.orient_peaks.proofs.larger.Reads as larger-reads
 
 abbrev Inv-loop : tie.InvT-loop
-Inv-loop h top₀ i₀ top i = (1 ≤ i) × ((i ≤ 36) × (top ≡ largestTo h (i - 1)))
+Inv-loop h top₀ i₀ top i = (1 ≤ i) × ((i ≤ bins) × (top ≡ largestTo h (i - 1)))
 
 abbrev μ-loop : tie.MeasureT-loop
-μ-loop h top₀ i₀ top i = 36 - i
+μ-loop h top₀ i₀ top i = bins - i
 
 element-copy-out-top : tie.Need-element-copy-out-top Inv-loop μ-loop
 element-copy-out-top c = search needs
@@ -46,7 +47,7 @@ loop-again c =
 returns : tie.Need-returns Inv-loop μ-loop
 unfolding leastOf
 returns c =
-    let z : c .before .loop .i ≡ 36 = omega arith in
+    let z : c .before .loop .i ≡ bins = omega arith in
     rw (c .before .loop .inv .1 .1, z)
 
 pub least-of-spec : {M : Type 1} → statement M

@@ -6,6 +6,7 @@ use mathlib.Core.List.{[], _∷_}
 use native.Mathlib.Omega.{arith}
 use lib.ListN.{length}
 use borrow.Author.Needs.{needs}
+use Rattle.orient_tally.specs.Sample.{bins}
 use Rattle.orient_peaks.specs.Peaks.{smoothAt, smoothed}
 use Rattle.orient_peaks.proofs.Fill.{Filled, filled-none, filled-more, filled-all}
 use Rattle.orient_peaks.proofs.smooth.Statement.{statement}
@@ -15,10 +16,10 @@ use Rattle.orient_peaks.proofs.smooth.Lts as lts
 use Rattle.orient_peaks.proofs.smooth_at.Reads as smooth-at-reads
 
 abbrev Inv-loop : tie.InvT-loop
-Inv-loop b h₀ i₀ h i = (i ≤ 36) × ((length h₀ ≡ 36) × Filled (λ k. smoothAt b k ∷ []) i h₀ h i)
+Inv-loop b h₀ i₀ h i = (i ≤ bins) × ((length h₀ ≡ bins) × Filled (λ k. smoothAt b k ∷ []) i h₀ h i)
 
 abbrev μ-loop : tie.MeasureT-loop
-μ-loop b h₀ i₀ h i = 36 - i
+μ-loop b h₀ i₀ h i = bins - i
 
 loop-holds : tie.Need-loop-holds Inv-loop μ-loop
 loop-holds c = (omega arith, (refl, filled-none _ _ (λ i. omega arith)))
@@ -45,7 +46,7 @@ loop-again c =
 returns : tie.Need-returns Inv-loop μ-loop
 unfolding smoothed
 returns c =
-    filled-all (smoothAt (c .before .before .args .b .now)) 36 (c .before .loop .inv .1 .1) (omega arith) (c .before .loop .inv .1 .0)
+    filled-all (smoothAt (c .before .before .args .b .now)) bins (c .before .loop .inv .1 .1) (omega arith) (c .before .loop .inv .1 .0)
 
 pub smooth-spec : {M : Type 1} → statement M
 smooth-spec =

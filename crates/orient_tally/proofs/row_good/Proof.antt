@@ -3,18 +3,19 @@ use mathlib.Core.Path.{_≡_, refl, ap, _∙_}
 use native.Mathlib.Omega.{arith}
 use borrow.Author.Needs.{needs}
 use Rattle.lists.specs.Ranges.{every}
-use Rattle.orient_tally.specs.Window.{cell}
-use Rattle.orient_tally.specs.Sample.{fourGood, rowGood}
+use Rattle.params.specs.Table.{allGood}
+use Rattle.picture.specs.Picture.{fourAt}
+use Rattle.orient_tally.specs.Sample.{rowGood}
 use Rattle.orient_tally.proofs.Cells.{placed}
 use Rattle.orient_tally.proofs.Every.{every-none, every-more, every-to}
 use Rattle.orient_tally.proofs.row_good.Statement.{statement}
 use Rattle.orient_tally.proofs.row_good.Tie as tie
 use Rattle.orient_tally.proofs.row_good.Reads as reads
 use Rattle.orient_tally.proofs.row_good.Lts as lts
-use Rattle.orient_tally.proofs.four_good.Reads as four-good-reads
+use Rattle.picture.proofs.four_good.Reads as four-good-reads
 
 abbrev Inv-loop : tie.InvT-loop
-Inv-loop img win i y ok₀ j₀ ok j = (j ≤ win .cols) × (ok ≡ every j (λ k. fourGood img win (cell y (win .left + k))))
+Inv-loop img win i y ok₀ j₀ ok j = (j ≤ win .cols) × (ok ≡ every j (λ k. allGood (fourAt img (win .size .width) y (win .left + k))))
 
 abbrev μ-loop : tie.MeasureT-loop
 μ-loop img win i y ok₀ j₀ ok j = win .cols - j
@@ -29,7 +30,7 @@ add-four-good : tie.Need-add-four-good Inv-loop μ-loop
 add-four-good c = omega (arith, c .before .before .before .before .before .before .pre)
 
 four-good-requires : tie.Need-four-good-requires Inv-loop μ-loop
-four-good-requires c κs = placed (c .before .before .before .before .before .before .pre .0) _ _ (c .before .before .before .before .before .before .pre .1) (c .before .if1 .taken)
+four-good-requires c κs = placed (c .before .before .before .before .before .before .pre .0) _ _ (c .before .before .before .before .before .before .pre .1) (c .before .if1 .taken) .around
 
 add-j : tie.Need-add-j Inv-loop μ-loop
 add-j c = omega arith

@@ -9,7 +9,7 @@ use Rattle.orient_tally.proofs.sample_at.Lts as lts
 use Rattle.orient_tally.proofs.bin_of.Reads as bin-of-reads
 use Rattle.orient_tally.proofs.early_of.Reads as early-of-reads
 use Rattle.hal.proofs.magnitude.Reads as magnitude-reads
-use Rattle.orient_tally.proofs.slope_at.Reads as slope-at-reads
+use Rattle.picture.proofs.slope_at.Reads as slope-at-reads
 use Rattle.orient_tally.proofs.weight_at.Reads as weight-at-reads
 
 div-y : tie.Need-div-y
@@ -25,7 +25,7 @@ add-x : tie.Need-add-x
 add-x c = omega (arith, c .before .before .before .before .before .pre .1 .0, placed-at (c .before .before .before .before .before .pre .1 .0) (c .before .before .before .before .before .pre .1 .1 .0) (c .before .before .before .before .before .pre .1 .1 .1))
 
 slope-at-requires : tie.Need-slope-at-requires
-slope-at-requires c κs = placed-at (c .before .before .before .before .before .pre .1 .0) (c .before .before .before .before .before .pre .1 .1 .0) (c .before .before .before .before .before .pre .1 .1 .1) .place
+slope-at-requires c κs = placed-at (c .before .before .before .before .before .pre .1 .0) (c .before .before .before .before .before .pre .1 .1 .0) (c .before .before .before .before .before .pre .1 .1 .1) .place .around
 
 early-of-requires : tie.Need-early-of-requires
 early-of-requires c κs = search needs

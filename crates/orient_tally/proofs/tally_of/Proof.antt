@@ -1,5 +1,6 @@
 use native.Mathlib.Nat.{mul-le-mul}
 use native.Mathlib.Omega.{arith}
+use Rattle.params.specs.Limits.{maxSide}
 use Rattle.orient_tally.specs.Tally.{gatheredOf}
 use Rattle.orient_tally.proofs.Cells.{read-is}
 use borrow.Author.Needs.{needs}
@@ -17,7 +18,7 @@ mul-n : tie.Need-mul-n
 mul-n c =
     let f = c .before .before .before .pre in
     let w = c .before .before .before .args .win in
-    omega (arith, mul-le-mul {n₁ = w .rows} {m₁ = w .cols} {n₂ = 8192} {m₂ = 8192} (omega arith) (omega arith))
+    omega (arith, mul-le-mul {n₁ = w .rows} {m₁ = w .cols} {n₂ = maxSide} {m₂ = maxSide} (omega arith) (omega arith))
 
 gather-requires : tie.Need-gather-requires
 gather-requires c κs = search needs

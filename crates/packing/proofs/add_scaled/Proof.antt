@@ -9,15 +9,15 @@ use lib.Pow.{pow-pos, pow-add}
 use lib.Ieee.{Float, binary32, round, sum}
 use lib.Ieee.Digits.{back}
 use lib.Ieee.Scale.{round-same}
-use Rattle.packing.specs.Parts.{Aligned, Raised}
+use Rattle.packing.specs.Parts.{Aligned, Normalized}
 use Rattle.packing.proofs.Sums.{sum-same, sum-comm, sum-zero-left, sum-zeros}
 use Rattle.packing.proofs.add_scaled.Statement.{statement}
 use Rattle.packing.proofs.add_scaled.Tie as tie
 use Rattle.packing.proofs.add_scaled.Reads as reads
 use Rattle.packing.proofs.add_scaled.Lts as lts
-use Rattle.packing.proofs.combine.Reads as combine-reads
+use Rattle.packing.proofs.add_aligned.Reads as add-aligned-reads
 use Rattle.packing.proofs.pack.Reads as pack-reads
-use Rattle.packing.proofs.raise.Reads as raise-reads
+use Rattle.packing.proofs.normalizing_shift.Reads as normalizing-shift-reads
 
 -- ---- m * 2 ^ x over 2 ^ 298, over 2 ^ 1074
 over : (m x : ℕ) → m * 2 ^ (x + 776) * 2 ^ 298 ≡ m * 2 ^ x * 2 ^ 1074
@@ -46,18 +46,18 @@ right : (s : Bool) (m x : ℕ) (t : Bool) (n y : ℕ) → (m ≡ 0 → ⊥) → 
 right s m x t n y p q = left t n y s m x q p ∙ sum-comm binary32 t (n * 2 ^ y) s (m * 2 ^ x) (2 ^ 298)
 
 -- ---- the two shifted
-shifted : (m z : ℕ) → Raised m z → m * 2 ^ z % 2 ^ 64 ≡ m * 2 ^ z
+shifted : (m z : ℕ) → Normalized m z → m * 2 ^ z % 2 ^ 64 ≡ m * 2 ^ z
 shifted m z r = mod-eq-of-lt (lt-of-lt-of-le (r .high) (lit≤ tt))
 
-tail : (m z : ℕ) → Raised m z → m * 2 ^ z ≡ m * 2 ^ (z - 14) * 2 ^ 14
+tail : (m z : ℕ) → Normalized m z → m * 2 ^ z ≡ m * 2 ^ (z - 14) * 2 ^ 14
 tail m z r = ap (λ (x : ℕ). m * x) (ap (λ (x : ℕ). 2 ^ x) (sym (back z 14 (r .zeros))) ∙ pow-add 2 (z - 14) 14) ∙ sym (mul-assoc m (2 ^ (z - 14)) (2 ^ 14))
 
-placed : (m x z : ℕ) → Raised m z → m * 2 ^ z % 2 ^ 64 * 2 ^ (x + 776 - z) ≡ m * 2 ^ (x + 776)
+placed : (m x z : ℕ) → Normalized m z → m * 2 ^ z % 2 ^ 64 * 2 ^ (x + 776 - z) ≡ m * 2 ^ (x + 776)
 placed m x z r =
     let e : x + 776 - z + z ≡ x + 776 = omega (arith, r .most) in
     ap (λ (y : ℕ). y * 2 ^ (x + 776 - z)) (shifted m z r) ∙ mul-assoc m (2 ^ z) (2 ^ (x + 776 - z)) ∙ ap (λ (y : ℕ). m * y) (mul-comm (2 ^ z) (2 ^ (x + 776 - z)) ∙ sym (pow-add 2 (x + 776 - z) z) ∙ ap (λ (y : ℕ). 2 ^ y) e)
 
-module _ (m x n y z w : ℕ) (p : Raised m z) (q : Raised n w) (small : x ≤ 1024) (order : y + 776 - w ≤ x + 776 - z) where
+module _ (m x n y z w : ℕ) (p : Normalized m z) (q : Normalized n w) (small : x ≤ 1024) (order : y + 776 - w ≤ x + 776 - z) where
   aligned : Aligned (m * 2 ^ z % 2 ^ 64) (n * 2 ^ w % 2 ^ 64) (x + 776 - z - (y + 776 - w)) (x + 776 - z)
   aligned =
       subst (λ (a : ℕ). Aligned a (n * 2 ^ w % 2 ^ 64) (x + 776 - z - (y + 776 - w)) (x + 776 - z)) (sym (shifted m z p))
@@ -73,116 +73,95 @@ module _ (m x n y z w : ℕ) (p : Raised m z) (q : Raised n w) (small : x ≤ 10
         place = omega arith;
       }))
 
-  added : (s t : Bool) → sum binary32 s (m * 2 ^ z % 2 ^ 64 * 2 ^ (x + 776 - z)) t (n * 2 ^ w % 2 ^ 64 * 2 ^ (x + 776 - z - (x + 776 - z - (y + 776 - w)))) (2 ^ 1074) ≡ sum binary32 s (m * 2 ^ x) t (n * 2 ^ y) (2 ^ 298)
-  added s t =
+  added : (s t : Bool) (r : Float) → r ≡ sum binary32 s (m * 2 ^ z % 2 ^ 64 * 2 ^ (x + 776 - z)) t (n * 2 ^ w % 2 ^ 64 * 2 ^ (x + 776 - z - (x + 776 - z - (y + 776 - w)))) (2 ^ 1074) → r ≡ sum binary32 s (m * 2 ^ x) t (n * 2 ^ y) (2 ^ 298)
+  added s t r h =
       let e : x + 776 - z - (x + 776 - z - (y + 776 - w)) ≡ y + 776 - w = omega arith in
-      ap₂ (λ (a b : ℕ). sum binary32 s a t b (2 ^ 1074)) (placed m x z p) (ap (λ (k : ℕ). n * 2 ^ w % 2 ^ 64 * 2 ^ k) e ∙ placed n y w q)
+      h
+      ∙ ap₂ (λ (a b : ℕ). sum binary32 s a t b (2 ^ 1074)) (placed m x z p) (ap (λ (k : ℕ). n * 2 ^ w % 2 ^ 64 * 2 ^ k) e ∙ placed n y w q)
       ∙ sum-same binary32 s (m * 2 ^ (x + 776)) t (n * 2 ^ (y + 776)) (2 ^ 1074) (m * 2 ^ x) (n * 2 ^ y) (2 ^ 298) (pow-pos 1074) (pow-pos 298) (over m x) (over n y)
 
--- src/lib.rt:178:13
+  -- the same with the summands exchanged
+  added-other : (s t : Bool) (r : Float) → r ≡ sum binary32 s (m * 2 ^ z % 2 ^ 64 * 2 ^ (x + 776 - z)) t (n * 2 ^ w % 2 ^ 64 * 2 ^ (x + 776 - z - (x + 776 - z - (y + 776 - w)))) (2 ^ 1074) → r ≡ sum binary32 t (n * 2 ^ y) s (m * 2 ^ x) (2 ^ 298)
+  added-other s t r h = added s t r h ∙ sum-comm binary32 s (m * 2 ^ x) t (n * 2 ^ y) (2 ^ 298)
+
 pack-requires : tie.Need-pack-requires
 pack-requires c κs = search needs
 
--- src/lib.rt:178:13
 returns : tie.Need-returns
 returns c = let a = c .before .before .before in c .pack .ensures ∙ both (a .args .s) (a .args .m) (a .args .x) (a .args .t) (a .args .n) (a .args .y) (c .before .before .if1 .taken) (c .before .if2 .taken)
 
--- src/lib.rt:180:27
 add-pack : tie.Need-add-pack
 add-pack c = search needs
 
--- src/lib.rt:180:9
 pack-requires-2 : tie.Need-pack-requires-2
 pack-requires-2 c κs = search needs
 
--- src/lib.rt:180:9
 returns-2 : tie.Need-returns-2
 returns-2 c = let a = c .before .before .before in c .pack2 .ensures ∙ left (a .args .s) (a .args .m) (a .args .x) (a .args .t) (a .args .n) (a .args .y) (c .before .before .if1 .taken) (c .before .if2 .left)
 
--- src/lib.rt:183:27
 add-pack-2 : tie.Need-add-pack-2
 add-pack-2 c = search needs
 
--- src/lib.rt:183:9
 pack-requires-3 : tie.Need-pack-requires-3
 pack-requires-3 c κs = search needs
 
--- src/lib.rt:183:9
 returns-3 : tie.Need-returns-3
 returns-3 c = let a = c .before .before .before in c .pack3 .ensures ∙ right (a .args .s) (a .args .m) (a .args .x) (a .args .t) (a .args .n) (a .args .y) (c .before .before .if1 .left) (c .before .if3 .taken)
 
--- src/lib.rt:185:9
-raise-requires : tie.Need-raise-requires
-raise-requires c κs = search needs
+normalizing-shift-requires : tie.Need-normalizing-shift-requires
+normalizing-shift-requires c κs = search needs
 
--- src/lib.rt:186:9
-raise-requires-2 : tie.Need-raise-requires-2
-raise-requires-2 c κs = search needs
+normalizing-shift-requires-2 : tie.Need-normalizing-shift-requires-2
+normalizing-shift-requires-2 c κs = search needs
 
--- src/lib.rt:187:18
 cast-a : tie.Need-cast-a
 cast-a c = search needs
 
--- src/lib.rt:187:13
 shl-a : tie.Need-shl-a
 shl-a c = search needs
 
--- src/lib.rt:188:18
 cast-b : tie.Need-cast-b
 cast-b c = search needs
 
--- src/lib.rt:188:13
 shl-b : tie.Need-shl-b
 shl-b c = search needs
 
--- src/lib.rt:189:13
 add-i : tie.Need-add-i
 add-i c = search needs
 
--- src/lib.rt:189:13
 sub-i : tie.Need-sub-i
 sub-i c = search needs
 
--- src/lib.rt:190:13
 add-j : tie.Need-add-j
 add-j c = search needs
 
--- src/lib.rt:190:13
 sub-j : tie.Need-sub-j
 sub-j c = search needs
 
--- src/lib.rt:192:9
-combine-requires : tie.Need-combine-requires
-combine-requires c κs =
+add-aligned-requires : tie.Need-add-aligned-requires
+add-aligned-requires c κs =
     let a = c .before .before .before .before .before in
-    aligned (a .args .m) (a .args .x) (a .args .n) (a .args .y) (c .before .before .raise .result) (c .before .raise2 .result) (c .before .before .raise .ensures) (c .before .raise2 .ensures) (a .pre .2) (c .if4 .taken)
+    aligned (a .args .m) (a .args .x) (a .args .n) (a .args .y) (c .before .before .normalizing-shift .result) (c .before .normalizing-shift2 .result) (c .before .before .normalizing-shift .ensures) (c .before .normalizing-shift2 .ensures) (a .pre .2) (c .if4 .taken)
 
--- src/lib.rt:194:29
-sub-combine : tie.Need-sub-combine
-sub-combine c = search needs
+sub-add-aligned : tie.Need-sub-add-aligned
+sub-add-aligned c = search needs
 
--- src/lib.rt:194:9
-combine-requires-2 : tie.Need-combine-requires-2
-combine-requires-2 c κs =
+add-aligned-requires-2 : tie.Need-add-aligned-requires-2
+add-aligned-requires-2 c κs =
     let a = c .before .before .before .before .before in
-    aligned (a .args .n) (a .args .y) (a .args .m) (a .args .x) (c .before .raise2 .result) (c .before .before .raise .result) (c .before .raise2 .ensures) (c .before .before .raise .ensures) (a .pre .3) (le-of-lt (c .if4 .left))
+    aligned (a .args .n) (a .args .y) (a .args .m) (a .args .x) (c .before .normalizing-shift2 .result) (c .before .before .normalizing-shift .result) (c .before .normalizing-shift2 .ensures) (c .before .before .normalizing-shift .ensures) (a .pre .3) (le-of-lt (c .if4 .left))
 
--- src/lib.rt:172:1
 returns-4 : tie.Need-returns-4
 returns-4 c =
     let d = c .before in
     let a = d .before .before .before .before .before in
-    c .combine .ensures
-    ∙ added (a .args .m) (a .args .x) (a .args .n) (a .args .y) (d .before .before .raise .result) (d .before .raise2 .result) (d .before .before .raise .ensures) (d .before .raise2 .ensures) (a .pre .2) (d .if4 .taken) (a .args .s) (a .args .t)
+    added (a .args .m) (a .args .x) (a .args .n) (a .args .y) (d .before .before .normalizing-shift .result) (d .before .normalizing-shift2 .result) (d .before .before .normalizing-shift .ensures) (d .before .normalizing-shift2 .ensures) (a .pre .2) (d .if4 .taken) (a .args .s) (a .args .t) (c .add-aligned .result) (c .add-aligned .ensures)
 
--- src/lib.rt:172:1
 returns-5 : tie.Need-returns-5
 returns-5 c =
     let d = c .before in
     let a = d .before .before .before .before .before in
-    c .combine2 .ensures
-    ∙ added (a .args .n) (a .args .y) (a .args .m) (a .args .x) (d .before .raise2 .result) (d .before .before .raise .result) (d .before .raise2 .ensures) (d .before .before .raise .ensures) (a .pre .3) (le-of-lt (d .if4 .left)) (a .args .t) (a .args .s)
-    ∙ sum-comm binary32 (a .args .t) (a .args .n * 2 ^ a .args .y) (a .args .s) (a .args .m * 2 ^ a .args .x) (2 ^ 298)
+    added-other (a .args .n) (a .args .y) (a .args .m) (a .args .x) (d .before .normalizing-shift2 .result) (d .before .before .normalizing-shift .result) (d .before .normalizing-shift2 .ensures) (d .before .before .normalizing-shift .ensures) (a .pre .3) (le-of-lt (d .if4 .left)) (a .args .t) (a .args .s) (c .add-aligned2 .result) (c .add-aligned2 .ensures)
 
 pub add-scaled-spec : {M : Type 1} → statement M
 add-scaled-spec =
@@ -196,8 +175,8 @@ add-scaled-spec =
     add-pack-2
     pack-requires-3
     returns-3
-    raise-requires
-    raise-requires-2
+    normalizing-shift-requires
+    normalizing-shift-requires-2
     cast-a
     shl-a
     cast-b
@@ -206,8 +185,8 @@ add-scaled-spec =
     sub-i
     add-j
     sub-j
-    combine-requires
-    sub-combine
-    combine-requires-2
+    add-aligned-requires
+    sub-add-aligned
+    add-aligned-requires-2
     returns-4
     returns-5)

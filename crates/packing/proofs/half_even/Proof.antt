@@ -40,43 +40,33 @@ module _ (n sh : ℕ) (one : 1 ≤ sh) (fits : n < 2 ^ 64) where
   above z e =
       add-one (n / 2 ^ (sh - 1) / 2) ∙ sym (closest-up n (2 ^ sh) (n / 2 ^ (sh - 1)) (2 ^ (sh - 1)) (n % 2 ^ (sh - 1)) half cut less (omega arith) (omega (arith, kept, cut)))
 
--- src/lib.rt:13:13
-sub-s : tie.Need-sub-s
-sub-s c = search needs
+sub-shorter : tie.Need-sub-shorter
+sub-shorter c = search needs
 
--- src/lib.rt:14:18
-cast-h : tie.Need-cast-h
-cast-h c = search needs
+cast-halves : tie.Need-cast-halves
+cast-halves c = search needs
 
--- src/lib.rt:14:13
-shr-h : tie.Need-shr-h
-shr-h c = search needs
+shr-halves : tie.Need-shr-halves
+shr-halves c = search needs
 
--- src/lib.rt:18:20
 cast-if2 : tie.Need-cast-if2
 cast-if2 c = search needs
 
--- src/lib.rt:18:15
 shl-if2 : tie.Need-shl-if2
 shl-if2 c = search needs
 
--- src/lib.rt:19:9
 add-result : tie.Need-add-result
 add-result c = omega (arith, div-le-self (c .before .before .args .n) (2 ^ (c .before .before .args .sh - 1)))
 
--- src/lib.rt:21:9
 add-result-2 : tie.Need-add-result-2
 add-result-2 c = omega (arith, div-le-self (c .before .before .args .n) (2 ^ (c .before .before .args .sh - 1)))
 
--- src/lib.rt:9:1
 returns : tie.Need-returns
 returns c = let a = c .before in even (a .args .n) (a .args .sh) (a .pre .0) (a .fits .n .fits) (c .if1 .taken)
 
--- src/lib.rt:9:1
 returns-2 : tie.Need-returns-2
 returns-2 c = let a = c .before .before in omega arith ∙ halfway (a .args .n) (a .args .sh) (a .pre .0) (a .fits .n .fits) (c .before .if1 .left) (omega (arith, c .if2 .taken))
 
--- src/lib.rt:9:1
 returns-3 : tie.Need-returns-3
 returns-3 c = let a = c .before .before in above (a .args .n) (a .args .sh) (a .pre .0) (a .fits .n .fits) (c .before .if1 .left) (λ e. c .if2 .left (omega arith))
 
@@ -84,9 +74,9 @@ pub half-even-spec : {M : Type 1} → statement M
 half-even-spec =
     tie.close
     (tie.spec
-    sub-s
-    cast-h
-    shr-h
+    sub-shorter
+    cast-halves
+    shr-halves
     cast-if2
     shl-if2
     add-result

@@ -12,7 +12,6 @@ use Rattle.packing.proofs.unpack.Tie as tie
 use Rattle.packing.proofs.unpack.Reads as reads
 use Rattle.packing.proofs.unpack.Lts as lts
 
--- src/lib.rt:92:13
 -- what owning a float tells: the format holds it
 held : (c : tie.Start) → T (fits binary32 (c .args .v))
 held c = subst T (sym (c .good .0 .1)) tt
@@ -20,29 +19,23 @@ held c = subst T (sym (c .good .0 .1)) tt
 float-to-bits-b : tie.Need-float-to-bits-b
 float-to-bits-b c = finite-no-nan (c .args .v) (c .pre)
 
--- src/lib.rt:97:26
 cast-t9 : tie.Need-cast-t9
 cast-t9 c = search needs
 
--- src/lib.rt:99:27
 add-t10 : tie.Need-add-t10
 add-t10 c = search needs
 
--- src/lib.rt:99:26
 cast-t11 : tie.Need-cast-t11
 cast-t11 c = search needs
 
--- src/lib.rt:99:53
 sub-t12 : tie.Need-sub-t12
 sub-t12 c = search needs
 
--- src/lib.rt:88:1
 returns : tie.Need-returns
 returns c =
     let a = c .before in
     record { value = value-low binary32 (a .args .v) (held a) (a .pre) (c .if1 .taken); digits = omega (arith, mod-lt (toBits binary32 (a .args .v)) (pow-pos 23)); place = omega arith }
 
--- src/lib.rt:88:1
 returns-2 : tie.Need-returns-2
 returns-2 c =
     let a = c .before in

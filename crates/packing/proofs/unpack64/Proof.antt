@@ -12,7 +12,6 @@ use Rattle.packing.proofs.unpack64.Tie as tie
 use Rattle.packing.proofs.unpack64.Reads as reads
 use Rattle.packing.proofs.unpack64.Lts as lts
 
--- src/lib.rt:107:13
 -- what owning a float tells: the format holds it
 held : (c : tie.Start) → T (fits binary64 (c .args .v))
 held c = subst T (sym (c .good .0 .1)) tt
@@ -20,25 +19,20 @@ held c = subst T (sym (c .good .0 .1)) tt
 float-to-bits-b : tie.Need-float-to-bits-b
 float-to-bits-b c = finite-no-nan (c .args .v) (c .pre)
 
--- src/lib.rt:114:26
 add-t9 : tie.Need-add-t9
 add-t9 c = search needs
 
--- src/lib.rt:114:55
 sub-t10 : tie.Need-sub-t10
 sub-t10 c = search needs
 
--- src/lib.rt:114:54
 cast-t11 : tie.Need-cast-t11
 cast-t11 c = search needs
 
--- src/lib.rt:103:1
 returns : tie.Need-returns
 returns c =
     let a = c .before in
     record { value = value-low binary64 (a .args .v) (held a) (a .pre) (c .if1 .taken); digits = omega (arith, mod-lt (toBits binary64 (a .args .v)) (pow-pos 52)); place = omega arith }
 
--- src/lib.rt:103:1
 returns-2 : tie.Need-returns-2
 returns-2 c =
     let a = c .before in

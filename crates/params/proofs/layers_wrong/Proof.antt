@@ -1,8 +1,8 @@
 use mathlib.Core.Path.{refl}
 use borrow.Author.Tests.{lt-ltb, le-ltb}
 use Rattle.params.specs.Table.{layersWrong}
-use Rattle.params.proofs.Bools.{or-true}
 use borrow.Author.Needs.{needs}
+use Rattle.lists.proofs.Bools.{or-true}
 use Rattle.params.proofs.layers_wrong.Statement.{statement}
 use Rattle.params.proofs.layers_wrong.Tie as tie
 use Rattle.params.proofs.layers_wrong.Reads as reads

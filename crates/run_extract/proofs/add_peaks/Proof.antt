@@ -12,6 +12,9 @@ abbrev μ-loop : tie.MeasureT-loop
 loop-holds : tie.Need-loop-holds Inv-loop μ-loop
 loop-holds c = search needs
 
+oriented-at-requires : tie.Need-oriented-at-requires Inv-loop μ-loop
+oriented-at-requires c κs = search needs
+
 add-record-requires : tie.Need-add-record-requires Inv-loop μ-loop
 add-record-requires c κs = search needs
 
@@ -30,4 +33,13 @@ returns c = search needs
 pub add-peaks-spec : {M : Type 1} → statement M
 add-peaks-spec =
     tie.close
-    (tie.spec Inv-loop μ-loop loop-holds add-record-requires add-j loop-less loop-again returns)
+    (tie.spec
+    Inv-loop
+    μ-loop
+    loop-holds
+    oriented-at-requires
+    add-record-requires
+    add-j
+    loop-less
+    loop-again
+    returns)

@@ -1,1 +1,0 @@
-// Laws of what samples add to the histogram; specs/Rules.antt states them. No code.

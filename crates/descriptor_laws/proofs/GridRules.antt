@@ -1,0 +1,166 @@
+-- The laws of a spot and of the histogram that specs/GridRules.antt states. Assumes nothing.
+use Prim.Native.Nat.{ℕ, _+_, _-_, _%_}
+use mathlib.Core.Path.{_≡_, refl, sym, _∙_, subst}
+use mathlib.Core.Bool.{true}
+use mathlib.Core.List.{List}
+use native.Mathlib.Omega.{arith}
+use lib.Dec.{T}
+use lib.ListN.{length, replicate, length-replicate}
+use lib.Ieee.{Float, binary32, ofBits, sub, mul, le}
+use lib.Ieee.Bits.{is-true}
+use lib.Ieee.Scale.{finite}
+use Rattle.ieee.specs.F32.{_⊖_, _⊗_, _=ᶠ_, floatZ}
+use Rattle.ieee.specs.Numbers.{nought, one}
+use Rattle.ieee_laws.proofs.Order.{lt-le}
+use Rattle.ieee_laws.proofs.Monotone.{nil}
+use Rattle.ieee_laws.proofs.Bounds.{Bounds, bounds-point, sub-bounds}
+use Rattle.hal.specs.Angle.{inAngle}
+use Rattle.hal.specs.Exp.{inDown, expOf}
+use Rattle.hal.specs.Magnitude.{magnitudeOf}
+use Rattle.hal.specs.Rules.{In}
+use Rattle.hal.proofs.Rules.{exp-rule, magnitude-rule}
+use Rattle.lists.specs.Each.{Each}
+use Rattle.descriptor_patch.specs.declared.Sample.{Sample}
+use Rattle.descriptor_values.specs.Places.{places}
+use Rattle.descriptor_laws.specs.ValuesRules.{Held}
+use Rattle.descriptor_grid.specs.Grid.{sharesOf, spotOf, gathered}
+use Rattle.descriptor_grid.specs.Reach.{lowered, Floored, Lands, Inside}
+use Rattle.descriptor_grid.specs.declared.Shares.{Shares}
+use Rattle.descriptor_grid.specs.declared.Spot.{Spot}
+use Rattle.descriptor_grid.proofs.Steps.{step}
+use Rattle.descriptor_grid.proofs.Floors.{Found, floored-of}
+use Rattle.descriptor_grid.proofs.Spots.{turnOf, grid-near, grid-range, turn-near, spot-is, spot-inside}
+use Rattle.descriptor_laws.specs.GridRules.{mostShare, Eight, Counts, Flat, GridRule}
+use Rattle.descriptor_laws.proofs.Parts.{Part, Top, split-product, shares-in}
+use Rattle.descriptor_laws.proofs.Sums.{held-add, held-none, none-add}
+use Rattle.descriptor_laws.proofs.Places.{Places, gathered-kept, places-of, places-same, gathered-length}
+
+-- ---- how far a number lies past its floor: 0 to 1
+
+one-ended : finite one ≡ true
+unfolding ofBits
+one-ended = refl
+
+past-bounds : (v : Float) (k : ℕ) → Floored v k → Bounds nil one (v ⊖ floatZ (lowered k))
+unfolding ofBits
+past-bounds v k f =
+    let t = f .top in
+    let s = step k (omega arith) in
+    let u = step (k + 1) (omega arith) in
+    let x = floatZ (lowered k) in
+    let y = floatZ (lowered (k + 1)) in
+    let b : Bounds x y v = record { from = s .ended; to = u .ended; low = f .low; high = lt-le v y (f .high) } in
+    rw (s .flat, s .gap) at (sub-bounds binary32 (rw (s .flat)) (rw (s .gap) one-ended) b (bounds-point x (s .ended)))
+
+-- ---- the weight and the magnitude
+
+weight-bounds : (x : Float) → inDown x ≡ true → Bounds nil one (expOf x)
+unfolding ofBits
+weight-bounds x h =
+    let w = exp-rule .within x (subst T (sym h) tt) in
+    record { from = refl; to = refl; low = is-true (le nil (expOf x)) (w .least); high = is-true (le (expOf x) one) (w .most) }
+
+magnitude-part : (dx dy : Float) → inAngle dx dy ≡ true → Part mostShare (magnitudeOf dx dy)
+unfolding ofBits
+magnitude-part dx dy h =
+    let w = magnitude-rule .within dx dy (subst T (sym h) tt) in
+    record {
+      bounds = record { from = refl; to = refl; low = is-true (le nil (magnitudeOf dx dy)) (w .least); high = is-true (le (magnitudeOf dx dy) mostShare) (w .most) };
+      held = magnitude-rule .held dx dy;
+    }
+
+full-top : Top mostShare
+unfolding ofBits mul sub le
+full-top = record { ended = refl; product = (refl, refl); rest = (refl, (refl, refl)) }
+
+empty-top : Top nil
+unfolding ofBits mul sub le
+empty-top = record { ended = refl; product = (refl, refl); rest = (refl, (refl, refl)) }
+
+flat-magnitude : (dx dy : Float) → inAngle dx dy ≡ true → (dx =ᶠ nought) ≡ true → (dy =ᶠ nought) ≡ true → magnitudeOf dx dy ≡ nil
+unfolding ofBits
+flat-magnitude dx dy h p q = magnitude-rule .none dx dy (subst T (sym h) tt) (subst T (sym p) tt) (subst T (sym q) tt)
+
+empty-part : (dx dy : Float) → inAngle dx dy ≡ true → (dx =ᶠ nought) ≡ true → (dy =ᶠ nought) ≡ true → Part nil (magnitudeOf dx dy)
+empty-part dx dy h p q = record { bounds = rw (flat-magnitude dx dy h p q) (bounds-point nil refl); held = magnitude-rule .held dx dy }
+
+-- ---- a sample's spot and its shares
+
+module _ (angle : Float) (s : Sample) (l : Lands angle s) where
+  row : Found (s .rbin)
+  row = floored-of (s .rbin) (grid-near (s .rbin) (l .row))
+
+  col : Found (s .cbin)
+  col = floored-of (s .cbin) (grid-near (s .cbin) (l .col))
+
+  slot : Found (turnOf angle s)
+  slot = floored-of (turnOf angle s) (turn-near (s .dx) (s .dy) angle (l .slopes) (l .turn))
+
+  abbrev parts : Shares
+  parts =
+      sharesOf (magnitudeOf (s .dx) (s .dy) ⊗ expOf (s .fall)) (s .rbin ⊖ floatZ (lowered (row .at))) (s .cbin ⊖ floatZ (lowered (col .at))) (turnOf angle s ⊖ floatZ (lowered (slot .at)))
+
+  abbrev spot : Spot
+  spot = record { row = row .at - 7; col = col .at - 7; slot = slot .at % 8; shares = parts }
+
+  is-spot : spot ≡ spotOf angle s
+  is-spot = spot-is angle s (row .at) (col .at) (slot .at) parts (row .is) (col .is) (slot .is) refl
+
+  inside-spot : Inside (spotOf angle s)
+  inside-spot =
+      subst Inside is-spot
+      (spot-inside (row .at) (col .at) (slot .at) parts (grid-range (s .rbin) (row .at) (l .row) (row .is) .1) (grid-range (s .cbin) (col .at) (l .col) (col .is) .1))
+
+  spot-parts : {top : Float} → Top top → Part top (magnitudeOf (s .dx) (s .dy)) → inDown (s .fall) ≡ true → Eight (Part top) (spotOf angle s .shares)
+  spot-parts {top} t p h =
+      subst (λ (q : Spot). Eight (Part top) (q .shares)) is-spot
+      (shares-in t (split-product t p (weight-bounds (s .fall) h)) (past-bounds (s .rbin) (row .at) (row .is)) (past-bounds (s .cbin) (col .at) (col .is)) (past-bounds (turnOf angle s) (slot .at) (slot .is)))
+
+eight-to : {P Q : Float → Type 0} {p : Shares} → ((x : Float) → P x → Q x) → Eight P p → Eight Q p
+eight-to {p = p} f e =
+    record {
+      v000 = f (p .v000) (e .v000);
+      v001 = f (p .v001) (e .v001);
+      v010 = f (p .v010) (e .v010);
+      v011 = f (p .v011) (e .v011);
+      v100 = f (p .v100) (e .v100);
+      v101 = f (p .v101) (e .v101);
+      v110 = f (p .v110) (e .v110);
+      v111 = f (p .v111) (e .v111);
+    }
+
+part-in : (x : Float) → Part mostShare x → In nought mostShare x
+unfolding ofBits
+part-in x p = record { least = subst T (sym (p .bounds .low)) tt; most = subst T (sym (p .bounds .high)) tt }
+
+counted-parts : (angle : Float) (s : Sample) → Counts angle s → Eight (Part mostShare) (spotOf angle s .shares)
+counted-parts angle s c = spot-parts angle s (c .lands) full-top (magnitude-part (s .dx) (s .dy) (c .lands .slopes)) (c .fall)
+
+-- ---- the histogram
+
+held-places : (angle : Float) (ss : List Sample) → Each (Counts angle) ss → Places Held (gathered angle ss)
+unfolding gathered
+held-places angle ss e =
+    gathered-kept angle (λ s c. (inside-spot angle s (c .lands), eight-to (λ a p. record { kept = λ x h. held-add x a (p .bounds) h }) (counted-parts angle s c))) e (places-of held-none)
+
+flat-places : (angle : Float) (ss : List Sample) → Each (Flat angle) ss → Places (λ x. x ≡ nought) (gathered angle ss)
+unfolding gathered
+flat-places angle ss e =
+    gathered-kept angle
+    (λ s c.
+    (inside-spot angle s (c .counts .lands), eight-to (λ a p. record { kept = λ x h. none-add x a (p .bounds) h }) (spot-parts angle s (c .counts .lands) empty-top (empty-part (s .dx) (s .dy) (c .counts .lands .slopes) (c .dx) (c .dy)) (c .counts .fall))))
+    e (places-of refl)
+
+gathered-count : (angle : Float) (ss : List Sample) → length (gathered angle ss) ≡ places
+unfolding gathered
+gathered-count angle ss = gathered-length angle (replicate places nought) ss ∙ length-replicate places nought
+
+pub grid-rule : GridRule
+grid-rule =
+    record {
+      inside = inside-spot;
+      shares = λ angle s c. eight-to part-in (counted-parts angle s c);
+      count = gathered-count;
+      held = λ angle ss e. held-places angle ss e .each;
+      flat = λ angle ss e. places-same (flat-places angle ss e);
+    }

@@ -1,0 +1,2 @@
+pub mod ValuesRules
+pub mod GridRules

@@ -1,4 +1,0 @@
-pub mod Lists
-pub mod Signs
-pub mod Zeros
-pub mod Rules

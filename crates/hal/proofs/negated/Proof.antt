@@ -1,0 +1,17 @@
+use Rattle.hal.specs.Turn.{holdOf, negatedOf, quarterSineOf, sinOf, cosOf}
+use lib.Ieee.{lt, le, eq, neg, sub, add, mul, div, ofBits, nan, Float, fin, binary32}
+use Rattle.hal.proofs.negated.Statement.{statement}
+use Rattle.hal.proofs.negated.Tie as tie
+use Rattle.hal.proofs.negated.Reads as reads
+use Rattle.hal.proofs.negated.Lts as lts
+
+returns : tie.Need-returns
+unfolding negatedOf ofBits
+returns c = simp (c .if1 .taken)
+
+returns-2 : tie.Need-returns-2
+unfolding negatedOf ofBits
+returns-2 c = simp (c .if1 .left)
+
+pub negated-spec : {M : Type 1} → statement M
+negated-spec = tie.close (tie.spec returns returns-2)

@@ -1,0 +1,18 @@
+use Rattle.hal.specs.Turn.{holdOf, negatedOf, quarterSineOf, sinOf, cosOf}
+use lib.Ieee.{lt, le, eq, neg, sub, add, mul, div, ofBits, nan, Float, fin, binary32}
+use borrow.Author.Needs.{needs}
+use Rattle.hal.proofs.quarter_sine.Statement.{statement}
+use Rattle.hal.proofs.quarter_sine.Tie as tie
+use Rattle.hal.proofs.quarter_sine.Reads as reads
+use Rattle.hal.proofs.quarter_sine.Lts as lts
+use Rattle.hal.proofs.hold.Reads as hold-reads
+
+hold-requires : tie.Need-hold-requires
+hold-requires c κs = search needs
+
+returns : tie.Need-returns
+unfolding quarterSineOf ofBits
+returns c = c .hold .ensures
+
+pub quarter-sine-spec : {M : Type 1} → statement M
+quarter-sine-spec = tie.close (tie.spec hold-requires returns)

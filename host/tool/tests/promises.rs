@@ -120,3 +120,33 @@ fn every_page_of_definitions_is_placed_once() {
     }
     assert_eq!(placed.len(), specs.len());
 }
+
+/// The kind that a page's first line gives: a law, an inner page, or, where it gives none, one that contracts speak of.
+fn kind(target: &str) -> usize {
+    let page = fs::read_to_string(docs().join(target)).unwrap();
+    match page.lines().next().unwrap() {
+        line if line.starts_with("-- Law: ") => 1,
+        line if line.starts_with("-- Inner: ") => 2,
+        _ => 0,
+    }
+}
+
+/// Each row of the last table has a crate and three columns: what contracts speak of, laws, inner pages.
+#[test]
+fn the_table_says_of_each_page_what_its_first_line_says() {
+    let page = page();
+    let (_, last) = page
+        .split_once("\n## What a reader has to believe\n")
+        .unwrap();
+    let mut seen = 0;
+    for row in last.lines().filter(|l| l.starts_with("| `")) {
+        let cells: Vec<&str> = row.split('|').skip(2).take(3).collect();
+        for (column, cell) in cells.iter().enumerate() {
+            for (text, target) in links(cell) {
+                assert_eq!(kind(target), column, "{text}: {target}");
+                seen += 1;
+            }
+        }
+    }
+    assert_eq!(seen, specs().len());
+}

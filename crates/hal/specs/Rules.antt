@@ -1,5 +1,5 @@
 -- Law: what rules F3 to F8 ask of the routines, of the definitions beside this page; and what callers ask besides.
--- proofs/Rules.antt proves each: `table-rule : TableRule`, and so on. Accuracy (rule F9) is no statement here: hal_vectors measures it. Definitions only.
+-- proofs/Rules.antt proves each: `table-rule : TableRule`, and so on. Accuracy (rule F9) is no statement here: `run_hal` measures it. Definitions only.
 use mathlib.Core.Path.{_≡_}
 use mathlib.Core.Bool.{Bool, true, false}
 use Prim.Native.Nat.{ℕ, _+_, _*_, _/_, _%_, _^_, _≤_, _<_}

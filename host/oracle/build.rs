@@ -58,7 +58,7 @@ const ARM_BLOCKS: [(&str, &str); 11] = [
     ),
 ];
 
-const PATCHES: [Patch; 16] = [
+const PATCHES: [Patch; 10] = [
     // The thread pool is left behind: rows in one loop.
     patch("detect", "use rayon::prelude::*;", "use crate::rows::*;"),
     // No crate of a registry: the error type keeps its cases and loses its messages.
@@ -76,38 +76,6 @@ const PATCHES: [Patch; 16] = [
         "params",
         "    #[error(\"source has {got} elements, need {need} for {width}x{height}\")]\n",
         "",
-    ),
-    // The routines are ours, on float bits, sine and cosine in degrees. The source's own stay beside them under another
-    // name, to be timed.
-    patch(
-        "hal",
-        "#[cfg(not(target_arch = \"aarch64\"))]\n#[inline]\npub fn magnitude(x: f32, y: f32) -> f32 {\n",
-        "#[inline]\npub fn magnitude(x: f32, y: f32) -> f32 {\n    crate::routines::magnitude(x, y)\n}\n\n#[inline]\npub fn source_magnitude(x: f32, y: f32) -> f32 {\n",
-    ),
-    patch(
-        "hal",
-        "pub fn atan2_deg(y: f32, x: f32) -> f32 {\n",
-        "pub fn atan2_deg(y: f32, x: f32) -> f32 {\n    crate::routines::angle(x, y)\n}\n\n#[inline]\npub fn source_atan2_deg(y: f32, x: f32) -> f32 {\n",
-    ),
-    patch(
-        "hal",
-        "pub fn exp(x: f32) -> f32 {\n",
-        "pub fn exp(x: f32) -> f32 {\n    crate::routines::exp(x)\n}\n\n#[inline]\npub fn source_exp(x: f32) -> f32 {\n",
-    ),
-    patch(
-        "detect",
-        "((layer as f32 + xi) / cfg.n_octave_layers as f32).exp2()",
-        "crate::routines::exp2((layer as f32 + xi) / cfg.n_octave_layers as f32)",
-    ),
-    patch(
-        "descriptor",
-        "(ori * (std::f32::consts::PI / 180.0)).cos()",
-        "crate::routines::cos(ori)",
-    ),
-    patch(
-        "descriptor",
-        "(ori * (std::f32::consts::PI / 180.0)).sin()",
-        "crate::routines::sin(ori)",
     ),
     // The tenth word: the moves made before a keypoint settled.
     patch(
@@ -143,6 +111,54 @@ const PATCHES: [Patch; 16] = [
     ),
 ];
 
+/// The routines are ours, on float bits, sine and cosine in degrees. The source's own stay beside them under another name, to be
+/// timed.
+const ROUTINES: [Patch; 6] = [
+    patch(
+        "hal",
+        "#[cfg(not(target_arch = \"aarch64\"))]\n#[inline]\npub fn magnitude(x: f32, y: f32) -> f32 {\n",
+        "#[inline]\npub fn magnitude(x: f32, y: f32) -> f32 {\n    crate::routines::magnitude(x, y)\n}\n\n#[inline]\npub fn source_magnitude(x: f32, y: f32) -> f32 {\n",
+    ),
+    patch(
+        "hal",
+        "pub fn atan2_deg(y: f32, x: f32) -> f32 {\n",
+        "pub fn atan2_deg(y: f32, x: f32) -> f32 {\n    crate::routines::angle(x, y)\n}\n\n#[inline]\npub fn source_atan2_deg(y: f32, x: f32) -> f32 {\n",
+    ),
+    patch(
+        "hal",
+        "pub fn exp(x: f32) -> f32 {\n",
+        "pub fn exp(x: f32) -> f32 {\n    crate::routines::exp(x)\n}\n\n#[inline]\npub fn source_exp(x: f32) -> f32 {\n",
+    ),
+    patch(
+        "detect",
+        "((layer as f32 + xi) / cfg.n_octave_layers as f32).exp2()",
+        "crate::routines::exp2((layer as f32 + xi) / cfg.n_octave_layers as f32)",
+    ),
+    patch(
+        "descriptor",
+        "(ori * (std::f32::consts::PI / 180.0)).cos()",
+        "crate::routines::cos(ori)",
+    ),
+    patch(
+        "descriptor",
+        "(ori * (std::f32::consts::PI / 180.0)).sin()",
+        "crate::routines::sin(ori)",
+    ),
+];
+
+/// Where the source keeps its own routines, a place of `ARM` more.
+const OWN_ARM: (&str, &str) = (
+    "hal",
+    "#[cfg(not(target_arch = \"aarch64\"))]\n#[inline]\npub fn magnitude(",
+);
+
+/// Whose exponential, sine, angle and magnitude the source calls.
+#[derive(Clone, Copy, PartialEq)]
+enum Routines {
+    Ours,
+    Own,
+}
+
 fn source_folder(repository: &Path) -> Option<PathBuf> {
     let folder = match env::var_os("KORNIA_SRC") {
         Some(named) => PathBuf::from(named),
@@ -156,7 +172,7 @@ fn source_folder(repository: &Path) -> Option<PathBuf> {
 }
 
 /// The file's text with its patches made.
-fn patched(folder: &Path, file: &str) -> String {
+fn patched(folder: &Path, file: &str, whose: Routines) -> String {
     let path = folder.join(SIFT).join(format!("{file}.rs"));
     println!("cargo::rerun-if-changed={}", path.display());
     let mut text = fs::read_to_string(&path).unwrap();
@@ -164,10 +180,17 @@ fn patched(folder: &Path, file: &str) -> String {
         1 => text = text.replacen(old, new, 1),
         n => panic!("a patch of {file}.rs must match exactly once and matches {n} times:\n{old}"),
     };
-    for p in PATCHES.iter().filter(|p| p.file == file) {
+    let ours = whose == Routines::Ours;
+    let routines = ROUTINES.iter().filter(|_| ours);
+    for p in PATCHES.iter().chain(routines).filter(|p| p.file == file) {
         apply(p.old, p.new);
     }
-    for (_, old) in ARM_BLOCKS.iter().filter(|(f, _)| *f == file) {
+    let more = [OWN_ARM].into_iter().filter(|_| !ours);
+    for (_, old) in ARM_BLOCKS
+        .into_iter()
+        .chain(more)
+        .filter(|(f, _)| *f == file)
+    {
         apply(old, &old.replace(ARM, NEVER));
     }
     if let Some(at) = text.find(ARM) {
@@ -189,10 +212,9 @@ fn main() {
         return;
     };
     println!("cargo::rustc-cfg=source_found");
-    let mut all = String::new();
-    for file in FILES {
-        all += &format!("pub mod {file} {{\n{}\n}}\n", patched(&folder, file));
-    }
     let out = PathBuf::from(env::var_os("OUT_DIR").unwrap());
-    fs::write(out.join("sift.rs"), all).unwrap();
+    for (name, whose) in [("sift.rs", Routines::Ours), ("own.rs", Routines::Own)] {
+        let module = |file| format!("pub mod {file} {{\n{}\n}}\n", patched(&folder, file, whose));
+        fs::write(out.join(name), FILES.map(module).concat()).unwrap();
+    }
 }

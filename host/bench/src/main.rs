@@ -1,10 +1,11 @@
 //! The library and the published Rust's scalar path in one process, on the same buffers, in turns; medians, and their ratio.
 //!
-//! Build it with --release. `bench`, or `bench` with some of the words calls, detection, orientation, descriptor, stack. Figures
+//! Build it with --release. `bench`, or `bench` with some of the words calls, detection, orientation, descriptor, frame, stack. Figures
 //! are kept in docs/SPEED.md, and those of the stack in include/bargeclover.h.
 
 mod descriptor;
 mod detection;
+mod frame;
 mod operations;
 mod orientation;
 #[cfg(target_os = "linux")]
@@ -43,6 +44,9 @@ fn main() {
         }
         if asked("descriptor") {
             descriptor::print();
+        }
+        if asked("frame") {
+            frame::print();
         }
     } else {
         println!("The published Rust was not found: the entries are not timed.");

@@ -11,6 +11,13 @@ pub mod sift {
     include!(concat!(env!("OUT_DIR"), "/sift.rs"));
 }
 
+/// The same with its own routines, as whoever takes the Rust takes it: to be timed, not compared.
+#[cfg(source_found)]
+#[allow(warnings, clippy::all)]
+mod own_sift {
+    include!(concat!(env!("OUT_DIR"), "/own.rs"));
+}
+
 /// Stands for rayon: rows one after the other.
 #[cfg(source_found)]
 mod rows {
@@ -53,6 +60,125 @@ mod routines {
     }
 }
 
+/// The stages of the source as they are timed, each with what it keeps from run to run, over one of the two modules.
+#[cfg(source_found)]
+macro_rules! stages {
+    ($source:path) => {
+        use source::descriptor::{self, DescriptorScratch};
+        use source::detect::{self, RawKeypoint};
+        use source::orient::{self, OrientScratch, OrientedKeypoint};
+        use source::params::SiftConfig;
+        use $source as source;
+
+        fn config(s: &Settings) -> SiftConfig {
+            SiftConfig {
+                n_features: 0,
+                n_octave_layers: s.layers,
+                contrast_threshold: s.contrast,
+                edge_threshold: s.edge,
+                sigma: s.sigma,
+            }
+        }
+
+        /// The source's search and its list, which is kept from run to run, to be timed.
+        #[derive(Default)]
+        pub struct Search(Vec<RawKeypoint>);
+
+        impl Search {
+            /// How many keypoints the layer has.
+            pub fn run(&mut self, stack: &Stack, layer: usize, octave: u32, s: &Settings) -> usize {
+                self.0.clear();
+                detect::find_extrema(
+                    stack.samples,
+                    stack.width,
+                    stack.height,
+                    stack.planes,
+                    layer,
+                    octave as usize,
+                    &config(s),
+                    &mut self.0,
+                );
+                self.0.len()
+            }
+        }
+
+        fn raw(k: &[u32; 10]) -> RawKeypoint {
+            RawKeypoint {
+                x: f32::from_bits(k[0]),
+                y: f32::from_bits(k[1]),
+                size: f32::from_bits(k[2]),
+                response: f32::from_bits(k[3]),
+                octave: k[4] as i32,
+                layer: k[5] as i32,
+                xi: f32::from_bits(k[6]),
+                cc: k[7] as i32,
+                rr: k[8] as i32,
+                moves: k[9] as usize,
+            }
+        }
+
+        /// The source's orientation with its list and scratch, which are kept from run to run, to be timed.
+        #[derive(Default)]
+        pub struct Orientation(Vec<OrientedKeypoint>, OrientScratch);
+
+        impl Orientation {
+            /// The cells read.
+            fn assign(&mut self, img: &[f32], width: usize, height: usize, k: &[u32; 10]) -> usize {
+                self.0.clear();
+                let config = SiftConfig::default();
+                orient::assign_orientations(
+                    img,
+                    width,
+                    height,
+                    &raw(k),
+                    &config,
+                    &mut self.0,
+                    &mut self.1,
+                )
+            }
+
+            /// How many directions the keypoint has.
+            pub fn run(
+                &mut self,
+                img: &[f32],
+                width: usize,
+                height: usize,
+                k: &[u32; 10],
+            ) -> usize {
+                self.assign(img, width, height, k);
+                self.0.len()
+            }
+        }
+
+        /// The source's descriptor and its scratch, which is kept from run to run, to be timed.
+        #[derive(Default)]
+        pub struct Describe(DescriptorScratch);
+
+        impl Describe {
+            /// The samples used.
+            pub fn run(
+                &mut self,
+                img: &[f32],
+                width: usize,
+                height: usize,
+                [x, y, scale, angle]: [f32; 4],
+                out: &mut [f32; 128],
+            ) -> usize {
+                let sc = &mut self.0;
+                descriptor::compute_descriptor(img, width, height, x, y, scale, angle, out, sc)
+            }
+        }
+    };
+}
+
+/// The stages of the source with its own routines.
+#[cfg(source_found)]
+pub mod own {
+    use bargeclover::{Settings, Stack};
+
+    stages!(super::own_sift);
+}
+
 #[cfg(source_found)]
 pub use found::*;
 
@@ -63,21 +189,9 @@ mod found {
         source_atan2_deg as own_angle, source_exp as own_exp, source_magnitude as own_magnitude,
     };
 
-    use super::sift::descriptor::{self, DescriptorScratch};
-    use super::sift::detect::{self, RawKeypoint};
-    use super::sift::orient::{self, OrientScratch, OrientedKeypoint};
-    use super::sift::params::SiftConfig;
     use bargeclover::{Settings, Stack};
 
-    fn config(s: &Settings) -> SiftConfig {
-        SiftConfig {
-            n_features: 0,
-            n_octave_layers: s.layers,
-            contrast_threshold: s.contrast,
-            edge_threshold: s.edge,
-            sigma: s.sigma,
-        }
-    }
+    stages!(super::sift);
 
     /// The bits of a float, one pattern for every not-a-number. The test is of the bits, since LLVM may drop one of the float.
     fn word(x: f32) -> u32 {
@@ -95,28 +209,6 @@ mod found {
             layers,
             ..Settings::default()
         }))
-    }
-
-    /// The source's search and its list, which is kept from run to run, to be timed.
-    #[derive(Default)]
-    pub struct Search(Vec<RawKeypoint>);
-
-    impl Search {
-        /// How many keypoints the layer has.
-        pub fn run(&mut self, stack: &Stack, layer: usize, octave: u32, s: &Settings) -> usize {
-            self.0.clear();
-            detect::find_extrema(
-                stack.samples,
-                stack.width,
-                stack.height,
-                stack.planes,
-                layer,
-                octave as usize,
-                &config(s),
-                &mut self.0,
-            );
-            self.0.len()
-        }
     }
 
     /// The keypoints of one layer, ten words each.
@@ -140,48 +232,6 @@ mod found {
                 ]
             })
             .collect()
-    }
-
-    fn raw(k: &[u32; 10]) -> RawKeypoint {
-        RawKeypoint {
-            x: f32::from_bits(k[0]),
-            y: f32::from_bits(k[1]),
-            size: f32::from_bits(k[2]),
-            response: f32::from_bits(k[3]),
-            octave: k[4] as i32,
-            layer: k[5] as i32,
-            xi: f32::from_bits(k[6]),
-            cc: k[7] as i32,
-            rr: k[8] as i32,
-            moves: k[9] as usize,
-        }
-    }
-
-    /// The source's orientation with its list and scratch, which are kept from run to run, to be timed.
-    #[derive(Default)]
-    pub struct Orientation(Vec<OrientedKeypoint>, OrientScratch);
-
-    impl Orientation {
-        /// The cells read.
-        fn assign(&mut self, img: &[f32], width: usize, height: usize, k: &[u32; 10]) -> usize {
-            self.0.clear();
-            let config = SiftConfig::default();
-            orient::assign_orientations(
-                img,
-                width,
-                height,
-                &raw(k),
-                &config,
-                &mut self.0,
-                &mut self.1,
-            )
-        }
-
-        /// How many directions the keypoint has.
-        pub fn run(&mut self, img: &[f32], width: usize, height: usize, k: &[u32; 10]) -> usize {
-            self.assign(img, width, height, k);
-            self.0.len()
-        }
     }
 
     /// The oriented keypoints of one keypoint, six words each, and the cells read.
@@ -224,25 +274,6 @@ mod found {
         [word(x), word(y), word(scale), word(angle)]
     }
 
-    /// The source's descriptor and its scratch, which is kept from run to run, to be timed.
-    #[derive(Default)]
-    pub struct Describe(DescriptorScratch);
-
-    impl Describe {
-        /// The samples used.
-        pub fn run(
-            &mut self,
-            img: &[f32],
-            width: usize,
-            height: usize,
-            [x, y, scale, angle]: [f32; 4],
-            out: &mut [f32; 128],
-        ) -> usize {
-            let sc = &mut self.0;
-            descriptor::compute_descriptor(img, width, height, x, y, scale, angle, out, sc)
-        }
-    }
-
     /// The 128 values by their bits, and the samples used.
     pub fn compute_descriptor(
         img: &[f32],
@@ -258,6 +289,12 @@ mod found {
 
 #[cfg(not(source_found))]
 pub use missing::*;
+
+/// The stages of the source with its own routines do not exist either.
+#[cfg(not(source_found))]
+pub mod own {
+    pub use super::missing::{Describe, Orientation, Search};
+}
 
 /// Without the source: what would be compared does not exist.
 #[cfg(not(source_found))]

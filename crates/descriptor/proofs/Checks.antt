@@ -62,7 +62,7 @@ module _ (s : Size) (p : Spot) where
         column = side-cell (s .width) (cellOf (p .x)) (c .0);
         row = side-cell (s .height) (cellOf (p .y)) (c .1);
         sized = d .0;
-        turned = d .1;
+        angled = d .1;
       }
 
   -- the patch about the two cells

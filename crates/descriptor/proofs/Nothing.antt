@@ -64,7 +64,7 @@ module _ (img : List Float) (s : Size) (p : Spot) where
     known = fault-fine s p img fine
 
     turns : inTurn (p .angle) ≡ true
-    turns = in-turn (p .angle) (known .aimed .turned)
+    turns = in-turn (p .angle) (known .aimed .angled)
 
     -- ---- a level patch
     module _ (level : Level (readsOf img t)) where

@@ -47,7 +47,7 @@ module _ (img : List Float) (s : Size) (p : Spot) (fine : faultOf img s p ≡ 0)
   known = fault-fine s p img fine
 
   turns : inTurn (p .angle) ≡ true
-  turns = in-turn (p .angle) (known .aimed .turned)
+  turns = in-turn (p .angle) (known .aimed .angled)
 
   whole : (n : ℕ) → n < values → Byte (getD (valuesAt img s p) n nan)
   unfolding valuesAt

@@ -20,7 +20,7 @@ pub record Aimed (s : Size) (p : Spot) : Type 0 where
   pub column : cellAt (cellOf (p .x)) < s .width
   pub row : cellAt (cellOf (p .y)) < s .height
   pub sized : within scaleLow scaleHigh (p .scale) ≡ true
-  pub turned : within nought wholeTurn (p .angle) ≡ true
+  pub angled : within nought wholeTurn (p .angle) ≡ true
 
 -- and the picture too
 pub record Ready (img : List Float) (s : Size) (p : Spot) : Type 0 where

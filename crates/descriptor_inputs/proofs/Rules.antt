@@ -23,12 +23,12 @@ use Rattle.params.specs.declared.Settings.{Settings}
 use Rattle.picture.specs.declared.Size.{Size}
 use Rattle.detect_refine.specs.Sound.{Sound}
 use Rattle.detect_refine.specs.declared.RawKeypoint.{RawKeypoint}
-use Rattle.orient_tally.proofs.Every.{every-at}
+use Rattle.lists.proofs.Every.{every-all}
 use Rattle.orient.specs.Entry.{orientedOf, orientedList}
 use Rattle.orient.specs.Rules.{Passed}
 use Rattle.orient.specs.declared.OrientedKeypoint.{OrientedKeypoint}
 use Rattle.orient.proofs.Rules.{orient-rule}
-use Rattle.descriptor_inputs.specs.Inputs.{octaveWrong, orientedWrong, shrinkOf, turnedOf, givenOf, inputsOf}
+use Rattle.descriptor_inputs.specs.Inputs.{octaveWrong, orientedWrong, shrinkOf, reversedOf, givenOf, inputsOf}
 use Rattle.descriptor_inputs.specs.Rules.{Taken, InputRule}
 use Rattle.descriptor_inputs.specs.declared.Inputs.{Inputs}
 use Rattle.descriptor_inputs.proofs.Checks.{finite-number, accepted}
@@ -59,9 +59,9 @@ either-in : (t : Bool) (x y : Float) → within nought wholeTurn x ≡ true → 
 either-in true x y a b = a
 either-in false x y a b = b
 
-turned-in : (angle : Float) → within nought wholeTurn angle ≡ true → within nought wholeTurn (turnedOf angle) ≡ true
-unfolding turnedOf
-turned-in angle h = either-in (absOf ((wholeTurn ⊖ angle) ⊖ wholeTurn) <ᶠ epsilon) nought (wholeTurn ⊖ angle) none-in (turn-over angle h)
+reversed-in : (angle : Float) → within nought wholeTurn angle ≡ true → within nought wholeTurn (reversedOf angle) ≡ true
+unfolding reversedOf
+reversed-in angle h = either-in (absOf ((wholeTurn ⊖ angle) ⊖ wholeTurn) <ᶠ epsilon) nought (wholeTurn ⊖ angle) none-in (turn-over angle h)
 
 -- ---- the scale of a keypoint of octave o, whose size is 2^o to 2^7 × 2^o
 
@@ -91,7 +91,7 @@ nought-is = refl
 
 module _ (o : ℕ) (size : Float) (h : o ≤ maxOctave) (a : le (float (2 ^ o)) size ≡ true) (b : le size (float (2 ^ 7 * 2 ^ o)) ≡ true) where
   test : (ends o ≡ true) × (inside o ≡ true)
-  test = and-both (ends o) (inside o) (every-at 16 o (λ o. ends o && inside o) all-octaves (omega arith))
+  test = and-both (ends o) (inside o) (every-all 16 (λ o. ends o && inside o) all-octaves o (omega arith))
 
   scale-in : within scaleLow scaleHigh (size ⊗ shrinkOf o ⊗ half) ≡ true
   scale-in =
@@ -135,7 +135,7 @@ module _ (s : Size) (octave : ℕ) (settings : Settings) (k : RawKeypoint) (o : 
 
   angle-right : within nought wholeTurn (givenOf o octave .angle) ≡ true
   unfolding givenOf
-  angle-right = turned-in (o .angle) angle
+  angle-right = reversed-in (o .angle) angle
 
   taken : Taken o octave
   taken = record { given = is-given; scale = rw is-given scale-right; angle = rw is-given angle-right }
@@ -143,6 +143,6 @@ module _ (s : Size) (octave : ℕ) (settings : Settings) (k : RawKeypoint) (o : 
 pub input-rule : InputRule
 input-rule =
     record {
-      turned = turned-in;
+      reversed = reversed-in;
       taken = λ img s octave settings k i in-range z l angle. taken s octave settings k _ in-range z (orient-rule .passed img s k i l) angle;
     }

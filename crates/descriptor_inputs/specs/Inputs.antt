@@ -40,14 +40,14 @@ unfoldable pub shrinkOf : ℕ → Float
 shrinkOf octave = one ⊘ float (2 ^ octave)
 
 -- 360 - angle, and 0 where that is within f32 epsilon of 360
-unfoldable pub turnedOf : Float → Float
-turnedOf angle = let turned = wholeTurn ⊖ angle in cond (absOf (turned ⊖ wholeTurn) <ᶠ epsilon) nought turned
+unfoldable pub reversedOf : Float → Float
+reversedOf angle = let reversed = wholeTurn ⊖ angle in cond (absOf (reversed ⊖ wholeTurn) <ᶠ epsilon) nought reversed
 
 -- a keypoint of an octave that is accepted
 unfoldable pub givenOf : OrientedKeypoint → ℕ → Inputs
 givenOf o octave =
     let by = shrinkOf octave in
-    record { number = 0; x = o .x ⊗ by; y = o .y ⊗ by; scale = o .size ⊗ by ⊗ half; angle = turnedOf (o .angle) }
+    record { number = 0; x = o .x ⊗ by; y = o .y ⊗ by; scale = o .size ⊗ by ⊗ half; angle = reversedOf (o .angle) }
 
 -- a refusal carries +0
 abbrev pub refusedWith : ℕ → Inputs

@@ -15,7 +15,7 @@ use Rattle.detect_refine.specs.Sound.{Sound}
 use Rattle.detect_refine.specs.declared.RawKeypoint.{RawKeypoint}
 use Rattle.orient.specs.Entry.{orientedOf, orientedList}
 use Rattle.orient.specs.declared.OrientedKeypoint.{OrientedKeypoint}
-use Rattle.descriptor_inputs.specs.Inputs.{turnedOf, givenOf, inputsOf}
+use Rattle.descriptor_inputs.specs.Inputs.{reversedOf, givenOf, inputsOf}
 
 -- the oriented keypoint of that octave is accepted, and its scale and angle lie where the descriptor takes them
 pub record Taken (o : OrientedKeypoint) (octave : ℕ) : Type 0 where
@@ -24,8 +24,8 @@ pub record Taken (o : OrientedKeypoint) (octave : ℕ) : Type 0 where
   pub angle : within nought wholeTurn (inputsOf o (pos octave) .angle) ≡ true
 
 pub record InputRule : Type 0 where
-  -- an angle in 0 to 360 is turned to one in 0 to 360
-  pub turned : (angle : Float) → within nought wholeTurn angle ≡ true → within nought wholeTurn (turnedOf angle) ≡ true
+  -- an angle in 0 to 360 is reversed to one in 0 to 360
+  pub reversed : (angle : Float) → within nought wholeTurn angle ≡ true → within nought wholeTurn (reversedOf angle) ≡ true
   -- every oriented keypoint that orientation gives for a keypoint of detection, its angle in 0 to 360
   pub taken : (img : List Float) (s : Size) (octave : ℕ) (settings : Settings) (k : RawKeypoint) (i : ℕ) → octave ≤ maxOctave → Sound (s .width) (s .height) settings octave k
       → i < length (orientedList img s k) → within nought wholeTurn (getD (orientedList img s k) i (orientedOf k nan) .angle) ≡ true

@@ -4,7 +4,7 @@ use orient::OrientedKeypoint;
 ghost use mathlib.Core.Path.{_≡_};
 ghost use Prim.Native.Nat.{_≤_};
 ghost use Rattle.params.specs.Limits.{maxOctave};
-ghost use Rattle.descriptor_inputs.specs.Inputs.{octaveWrong, octaveOf, orientedWrong, shrinkOf, turnedOf, givenOf, refusedWith, inputsOf};
+ghost use Rattle.descriptor_inputs.specs.Inputs.{octaveWrong, octaveOf, orientedWrong, shrinkOf, reversedOf, givenOf, refusedWith, inputsOf};
 
 // The number of a refusal, or 0, and what the descriptor is asked with; all +0 on a refusal (rule A16).
 pub struct Inputs {
@@ -43,8 +43,8 @@ fn shrink(octave: u32) -> f32
 }
 
 // The angle counted the other way round, in degrees (rule P1); what lies within f32 epsilon, 2^-23 = 0.00000011920929, of 360 is 0.
-fn turned(angle: f32) -> f32
-    ensures { λ r. ⌜ r ≡ turnedOf angle ⌝ }
+fn reversed(angle: f32) -> f32
+    ensures { λ r. ⌜ r ≡ reversedOf angle ⌝ }
 {
     let t = 360.0 - angle;
     if ieee::abs(t - 360.0) < 0.00000011920929 {
@@ -64,7 +64,7 @@ fn given(o: OrientedKeypoint, octave: u32) -> Inputs
         x: o.x * by,
         y: o.y * by,
         scale: o.size * by * 0.5,
-        angle: turned(o.angle),
+        angle: reversed(o.angle),
     }
 }
 

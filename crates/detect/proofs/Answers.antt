@@ -1,5 +1,5 @@
 -- Which answer holds, by the fault, the count and the room, and what is then in the lent words. Assumes nothing.
-use Prim.Native.Nat.{ℕ, zero, suc, _*_, _<_, _≤_}
+use Prim.Native.Nat.{ℕ, zero, suc, _*_, _/_, _<_, _≤_}
 use mathlib.Core.Path.{_≡_, refl, sym, ap, _∙_}
 use mathlib.Core.List.{List, []}
 use native.Mathlib.Omega.{arith}
@@ -41,6 +41,12 @@ module _ (ks : List RawKeypoint) (out : List ℕ) where
     written after fits e =
         let s = e ∙ sets-pasted out (words ks) (omega (arith, length-words ks)) in
         rw (← count, ← done k (length out) fits) s
+
+  -- where there is room for all, and the words were counted as they were written
+  pub all : (n : ℕ) (after : List ℕ) → n ≡ length (words ks) → keypointWords * length ks ≤ length out → after ≡ sets out 0 (words ks) → Given (Done (n / keypointWords)) after
+  all n after count fits e =
+      let k : n / keypointWords ≡ length ks = omega (arith, length-words ks) in
+      record { answer = rw k (done (length ks) (length out) fits); left = written (length ks) refl after fits e }
 
   pub none : ks ≡ [] → Given (Done 0) out
   none e =

@@ -1,7 +1,7 @@
 // Detection: the keypoints of one layer of a stack of difference planes, counted and written as words.
 
 ghost use mathlib.Core.Path.{_≡_};
-ghost use mathlib.Core.Bool.{false};
+ghost use mathlib.Core.Bool.{true, false};
 ghost use Prim.Native.Nat.{_*_, _<_, _≤_};
 ghost use lib.ListN.{length, take};
 ghost use lib.Seq.{sets};
@@ -12,53 +12,65 @@ ghost use Rattle.detect_refine.specs.Search.{searchOf};
 ghost use Rattle.detect_refine.specs.Place.{Searched};
 ghost use Rattle.detect_extrema.specs.Neighbours.{tied};
 ghost use Rattle.detect_extrema.specs.Scan.{keypoints, keypointWords, words};
+ghost use Rattle.detect_rows.specs.Forms.{layerLeaves};
 ghost use Rattle.detect.specs.Entry.{faultOf, extremaAnswer, extremaOut};
 ghost use Rattle.detect.specs.Room.{roomAnswer};
 use detect_extrema::BORDER;
 use detect_refine::Search;
+use detect_rows::Place;
 use detect_rows::WORDS;
 use params::Answer;
 use params::Settings;
 use picture::Shape;
 
-// How many keypoints are held back until it is known that all fit in what is lent: 80 KB on the stack, and more than most layers of a frame have. Where there are more,
-// the layer is searched twice: once to count them, and once to write them. Any number would do.
+// The cells of so many keypoints are held until it is known that the words of all fit in what is lent: 8 KB on the stack, and more than most layers of a frame have.
+// Where there are more, the layer is searched twice: once to count them, and once to write them. Any number would do.
 const HELD: usize = 2048;
 
 // A picture with a side no longer than its two borders has no cell to search.
 const BORDERS: usize = 2 * BORDER;
 
-// Writes the layer's keypoints, as far as there is room, and counts them all.
-fn layer_words(dog: &[f32], t: Shape, s: Search, out: &mut [u32]) -> usize
+// Finds the layer's keypoints, writes the words of their cells, or else their words, as far as there is room, and counts what it writes.
+fn layer_words(dog: &[f32], t: Shape, s: Search, cells: bool, out: &mut [u32]) -> usize
     requires { ⌜ Searched (length (now dog)) t s ⌝ }
     requires { ⌜ (2 * border < t .width) × (2 * border < t .height) ⌝ }
-    ensures { λ k. ⌜ k ≡ length (keypoints tied (now (dog .entry)) t s) ⌝ }
-    ensures { λ k. ⌜ now (out .exit) ≡ sets (now (out .entry)) 0 (words (keypoints tied (now (dog .entry)) t s)) ⌝ }
-    ensures { λ k. ⌜ k ≤ maxSide * maxSide ⌝ }
+    ensures { λ n. ⌜ n ≡ length (layerLeaves cells (now (dog .entry)) t s) ⌝ }
+    ensures { λ n. ⌜ now (out .exit) ≡ sets (now (out .entry)) 0 (layerLeaves cells (now (dog .entry)) t s) ⌝ }
 {
-    let mut k: usize = 0;
+    let mut n: usize = 0;
     for r in BORDER..t.height - BORDER {
-        k += detect_rows::row_words(dog, t, s, r, out, WORDS * k);
+        n += detect_rows::row_words(
+            dog,
+            t,
+            s,
+            r,
+            Place {
+                from: n,
+                cells: cells,
+            },
+            out,
+        );
     }
-    k
+    n
 }
 
-// Writes the layer's k keypoints where all of them fit, and else nothing. Where they are few enough to be held, `hold` has them; else they are searched for again.
+// Writes the words of the layer's k keypoints where all of them fit, and else nothing. Where they are few enough to be held, `hold` has their cells, and each is refined
+// again; else they are searched for again.
 fn land(dog: &[f32], t: Shape, s: Search, k: usize, hold: &[u32], out: &mut [u32])
     requires { ⌜ Searched (length (now dog)) t s ⌝ }
     requires { ⌜ (2 * border < t .width) × (2 * border < t .height) ⌝ }
     requires { ⌜ (k ≡ length (keypoints tied (now dog) t s)) × (k ≤ maxSide * maxSide) ⌝ }
-    requires { ⌜ (keypointWords * k ≤ length (now hold) → take (keypointWords * k) (now hold) ≡ words (keypoints tied (now dog) t s)) ⌝ }
+    requires { ⌜ (k ≤ length (now hold) → take k (now hold) ≡ layerLeaves true (now dog) t s) ⌝ }
     ensures { λ _. ⌜ now (out .exit) ≡ landed (roomAnswer (keypoints tied (now (dog .entry)) t s) (length (now (out .entry)))) (words (keypoints tied (now (dog .entry)) t s)) (now (out .entry)) ⌝ }
 {
     if WORDS * k > out.len() {
         return;
     }
-    if WORDS * k <= hold.len() {
-        detect_rows::copy(hold, WORDS * k, out, 0);
+    if k <= hold.len() {
+        detect_rows::refined_words(dog, t, s, hold, k, out);
         return;
     }
-    layer_words(dog, t, s, out);
+    layer_words(dog, t, s, false, out);
 }
 
 // The answer where so many keypoints are found, by the room for their words.
@@ -73,16 +85,20 @@ fn room_answer(k: usize, room: usize) -> Answer
     }
 }
 
-// The answer for a stack that no check before that of room refuses, where there are cells to search.
+// The answer for a stack that no check before that of room refuses, where there are cells to search. No cell gives more than one keypoint: where there is room for as many
+// keypoints as cells, their words are written as they are found.
 fn search(dog: &[f32], t: Shape, s: Search, out: &mut [u32]) -> Answer
     requires { ⌜ Searched (length (now dog)) t s ⌝ }
     requires { ⌜ (2 * border < t .width) × (2 * border < t .height) ⌝ }
     ensures { λ a. ⌜ a ≡ roomAnswer (keypoints tied (now (dog .entry)) t s) (length (now (out .entry))) ⌝ }
     ensures { λ a. ⌜ now (out .exit) ≡ landed (roomAnswer (keypoints tied (now (dog .entry)) t s) (length (now (out .entry)))) (words (keypoints tied (now (dog .entry)) t s)) (now (out .entry)) ⌝ }
 {
-    let mut hold = [0; HELD * WORDS];
-    let k = layer_words(dog, t, s, &mut hold);
     let room = out.len();
+    if WORDS * ((t.width - BORDERS) * (t.height - BORDERS)) <= room {
+        return Answer::Done(layer_words(dog, t, s, false, out) / WORDS);
+    }
+    let mut hold = [0; HELD];
+    let k = layer_words(dog, t, s, true, &mut hold);
     land(dog, t, s, k, &hold, out);
     room_answer(k, room)
 }

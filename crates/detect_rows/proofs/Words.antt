@@ -1,6 +1,6 @@
--- Keypoints as words: how long they are, and how they are written row after row. Assumes nothing.
-use Prim.Native.Nat.{ℕ, zero, suc, _+_, _-_, _*_, _<_, _≤_}
-use mathlib.Core.Path.{_≡_, refl, ap, _∙_}
+-- Keypoints as words: how long they are, and how lists are written one behind the other. Assumes nothing.
+use Prim.Native.Nat.{ℕ, zero, suc, _+_, _*_, _<_, _≤_}
+use mathlib.Core.Path.{_≡_, refl, sym, ap, _∙_}
 use mathlib.Core.List.{List, [], _∷_, _++_}
 use native.Mathlib.Nat.{zero-add}
 use native.Mathlib.Numerals.{add-one}
@@ -11,7 +11,7 @@ use Rattle.lists.specs.Ranges.{joined}
 use Rattle.lists.specs.Pasted.{pasted}
 use Rattle.lists.proofs.Ranges.{joined-more, joined-split, sets-append, sets-front}
 use Rattle.detect_refine.specs.declared.RawKeypoint.{RawKeypoint}
-use Rattle.detect_extrema.specs.Scan.{keypointWords, words, wordsOf}
+use Rattle.detect_extrema.specs.Scan.{keypointWords, words}
 
 pub length-words : (ks : List RawKeypoint) → length (words ks) ≡ keypointWords * length ks
 unfolding words
@@ -26,10 +26,6 @@ words-append (k ∷ ks) b = rw (words-append ks b)
 pub words-none : words [] ≡ []
 unfolding words
 words-none = refl
-
-pub words-one : (k : RawKeypoint) → words (k ∷ []) ≡ wordsOf k
-unfolding words
-words-one k = refl
 
 module _ {A : Type 0} where
   -- one word more
@@ -56,46 +52,27 @@ module _ {A : Type 0} where
   unfolding pasted
   sets-pasted l vs h = rw zero-add (sets-front l vs h)
 
--- one more part written, behind the k keypoints of the parts before it
-pub filled : (lo hi : ℕ) (f : ℕ → List RawKeypoint) (l out out' : List ℕ) (from at k : ℕ) (v : List RawKeypoint)
-    → lo ≤ hi
-    → f hi ≡ v
-    → k ≡ length (joined lo hi f)
-    → at ≡ from + keypointWords * k
-    → out ≡ sets l from (words (joined lo hi f))
-    → out' ≡ sets out at (words v)
-    → out' ≡ sets l from (words (joined lo (hi + 1) f))
-filled lo hi f l out out' from at k v h e n a o o' =
-    let w : words (joined lo (hi + 1) f) ≡ words (joined lo hi f) ++ words v = rw (joined-more lo hi f h, e, words-append) in
-    let z : at ≡ from + length (words (joined lo hi f)) = omega (arith, length-words (joined lo hi f)) in
-    o' ∙ rw (o, z, w, sets-append)
+-- what was counted and written from a place on is this list
+abbrev pub Filled : List ℕ → ℕ → List ℕ → List ℕ → ℕ → Type 0
+Filled old from ws out n = (n ≡ length ws) × (out ≡ sets old from ws)
 
-module _ (lo hi : ℕ) (f : ℕ → List RawKeypoint) (l out out' : List ℕ) (from k : ℕ) (h : lo ≤ hi) (n : k ≡ length (joined lo hi f)) (o : out ≡ sets l from (words (joined lo hi f))) where
-  pub filled-none : f hi ≡ [] → out' ≡ out → out' ≡ sets l from (words (joined lo (hi + 1) f))
-  filled-none e q = filled lo hi f l out out' from (from + keypointWords * k) k [] h e n refl o (q ∙ rw words-none)
+pub filled-none : (old ws : List ℕ) (from : ℕ) → ws ≡ [] → Filled old from ws old 0
+filled-none old ws from e = rw e (refl, refl)
 
-  pub filled-one : (x : RawKeypoint) → f hi ≡ x ∷ [] → out' ≡ sets out (from + keypointWords * k) (wordsOf x) → out' ≡ sets l from (words (joined lo (hi + 1) f))
-  filled-one x e q = filled lo hi f l out out' from (from + keypointWords * k) k (x ∷ []) h e n refl o (q ∙ rw words-one)
+-- one list more, behind those before it
+pub filled-more : (old : List ℕ) (from : ℕ) (a b c out out' : List ℕ) (n x : ℕ) → c ≡ a ++ b → Filled old from a out n → Filled out (from + n) b out' x → Filled old from c out' (n + x)
+filled-more old from a b c out out' n x e p q = rw e (rw length-append (omega arith), q .1 ∙ rw (p .1, p .0, sets-append))
 
--- the parts up to one and those from it on: counted, and written behind each other
-pub counted-on : {A : Type 0} (lo mid hi : ℕ) (f : ℕ → List A) (k x : ℕ) → lo ≤ mid → mid ≤ hi → k ≡ length (joined lo mid f) → x ≡ length (joined mid hi f) → k + x ≡ length (joined lo hi f)
-counted-on lo mid hi f k x a b n e = rw (← joined-split lo mid hi f a b, length-append) (omega arith)
+-- so where the lists are parts of a range: one part more, and the parts up to one and from it on
+module _ (old : List ℕ) (from lo mid : ℕ) (f : ℕ → List ℕ) (out out' : List ℕ) (n x : ℕ) (a : lo ≤ mid) (p : Filled old from (joined lo mid f) out n) where
+  pub filled-part : Filled out (from + n) (f mid) out' x → Filled old from (joined lo (mid + 1) f) out' (n + x)
+  filled-part q = filled-more old from (joined lo mid f) (f mid) (joined lo (mid + 1) f) out out' n x (joined-more lo mid f a) p q
 
-pub filled-on : (lo mid hi : ℕ) (f : ℕ → List RawKeypoint) (l out out' : List ℕ) (from k : ℕ)
-    → lo ≤ mid
-    → mid ≤ hi
-    → k ≡ length (joined lo mid f)
-    → out ≡ sets l from (words (joined lo mid f))
-    → out' ≡ sets out (from + keypointWords * k) (words (joined mid hi f))
-    → out' ≡ sets l from (words (joined lo hi f))
-filled-on lo mid hi f l out out' from k a b n o o' =
-    let w : words (joined lo hi f) ≡ words (joined lo mid f) ++ words (joined mid hi f) = rw (← joined-split lo mid hi f a b, words-append) in
-    let z : from + keypointWords * k ≡ from + length (words (joined lo mid f)) = omega (arith, length-words (joined lo mid f)) in
-    o' ∙ rw (o, z, w, sets-append (words (joined lo mid f)) (words (joined mid hi f)) l from)
+  pub filled-parts : (hi : ℕ) → mid ≤ hi → Filled out (from + n) (joined mid hi f) out' x → Filled old from (joined lo hi f) out' (n + x)
+  filled-parts hi b q = filled-more old from (joined lo mid f) (joined mid hi f) (joined lo hi f) out out' n x (sym (joined-split lo mid hi f a b)) p q
 
--- keypoints written over a list that has room for them are its front
-pub held : (ks : List RawKeypoint) (k : ℕ) (hold hold' : List ℕ) → k ≡ length ks → hold' ≡ sets hold 0 (words ks) → keypointWords * k ≤ length hold' → take (keypointWords * k) hold' ≡ words ks
-held ks k hold hold' n w room =
-    let e : keypointWords * k ≡ length (words ks) = omega (arith, length-words ks) in
-    let r : length hold' ≡ length hold = ap length w ∙ simp length-sets in
-    rw (w, e) (take-sets (length (words ks)) hold (words ks) (omega arith) (omega arith) ∙ take-length (words ks))
+-- what is written over a list that has room for it is its front
+pub held : (ws old out : List ℕ) (n : ℕ) → Filled old 0 ws out n → n ≤ length out → take n out ≡ ws
+held ws old out n p room =
+    let r : length out ≡ length old = ap length (p .1) ∙ simp length-sets in
+    rw (p .1, p .0) (take-sets (length ws) old ws (omega arith) (omega arith) ∙ take-length ws)

@@ -4,12 +4,13 @@ ghost use mathlib.Core.Path.{_≡_};
 ghost use Prim.Native.Nat.{_+_, _-_, _*_, _^_, _<_, _≤_, min};
 ghost use lib.ListN.{length, set, take};
 ghost use lib.Seq.{sets};
-ghost use Rattle.params.specs.Limits.{border};
-ghost use Rattle.detect_refine.specs.Place.{Searched};
-ghost use Rattle.detect_extrema.specs.Neighbours.{tied};
-ghost use Rattle.detect_extrema.specs.Scan.{cellsOf, rowOf, wordsOf, words};
+ghost use Rattle.params.specs.Limits.{border, maxSide};
+ghost use Rattle.detect_refine.specs.Place.{Searched, Placed};
+ghost use Rattle.detect_extrema.specs.Scan.{kept, wordsOf};
 ghost use Rattle.detect_extrema.specs.Place.{block, Along};
+ghost use Rattle.detect_rows.specs.Forms.{cellWord, cellAt, leaves, runLeaves, rowLeaves, again, allAgain, Cells};
 use detect_extrema::Run;
+use detect_refine::Cell;
 use detect_refine::RawKeypoint;
 use detect_refine::Refined;
 use detect_refine::Search;
@@ -17,6 +18,15 @@ use picture::Shape;
 
 // A keypoint goes out as so many words.
 pub const WORDS: usize = 10;
+
+// No side is longer. A cell's row times this, and its column, make one word.
+const MAX_SIDE: usize = 8192;
+
+// Where the search writes: from the place `from` on, and of each keypoint that it finds one word, that of the cell where it began, or else its ten words.
+pub struct Place {
+    pub from: usize,
+    pub cells: bool,
+}
 
 // Writes a word where there is room for it.
 fn put_word(out: &mut [u32], at: usize, x: u32)
@@ -29,7 +39,7 @@ fn put_word(out: &mut [u32], at: usize, x: u32)
 
 // Writes the first m words of `from` at a place, as far as there is room. The bounds on places, here and below, only keep a sum of places from wrapping:
 // a layer has at most 2^26 cells, so its keypoints take less than 2^30 words.
-pub fn copy(from: &[u32], m: usize, out: &mut [u32], at: usize)
+fn copy(from: &[u32], m: usize, out: &mut [u32], at: usize)
     requires { ⌜ (m ≤ length (now from)) × (at < 2 ^ 40) ⌝ }
     ensures { λ _. ⌜ now (out .exit) ≡ sets (now (out .entry)) at (take m (now (from .entry))) ⌝ }
 {
@@ -58,30 +68,59 @@ fn put(out: &mut [u32], at: usize, k: RawKeypoint)
     copy(&row, WORDS, out, at);
 }
 
-// Finds the keypoints of a run of cells, and writes their words from the place `from` on, as far as there is room: a first look at all of them, then a search of those that
-// it leaves.
-fn block_words(dog: &[f32], t: Shape, s: Search, u: Run, out: &mut [u32], from: usize) -> usize
+// A cell as one word.
+fn cell_word(r: usize, c: usize) -> u32
+    requires { ⌜ (r < maxSide) × (c < maxSide) ⌝ }
+    ensures { λ w. ⌜ w ≡ cellWord r c ⌝ }
+{
+    (r * MAX_SIDE + c) as u32
+}
+
+// Writes what is left of what the cell at row r, column c, gives, as far as there is room, and counts its words.
+fn leave(x: Refined, r: usize, c: usize, p: Place, out: &mut [u32]) -> usize
+    requires { ⌜ (r < maxSide) × (c < maxSide) × (p .from < 2 ^ 40) ⌝ }
+    ensures { λ n. ⌜ n ≡ length (leaves (p .cells) r c (kept x)) ⌝ }
+    ensures { λ n. ⌜ now (out .exit) ≡ sets (now (out .entry)) (p .from) (leaves (p .cells) r c (kept x)) ⌝ }
+{
+    let Refined::At(k) = x else {
+        return 0;
+    };
+    if p.cells {
+        put_word(out, p.from, cell_word(r, c));
+        return 1;
+    }
+    put(out, p.from, k);
+    WORDS
+}
+
+// Finds the keypoints of a run of cells, writes what is left of them, as far as there is room, and counts its words: a first look at all cells, then a search of those
+// that it leaves.
+fn block_words(dog: &[f32], t: Shape, s: Search, u: Run, p: Place, out: &mut [u32]) -> usize
     requires { ⌜ Searched (length (now dog)) t s ⌝ }
     requires { ⌜ Along t u ⌝ }
-    requires { ⌜ from < 2 ^ 39 + 2 ^ 20 ⌝ }
-    ensures { λ k. ⌜ k ≡ length (cellsOf tied (now (dog .entry)) t s (u .row) (u .lo) (u .hi)) ⌝ }
-    ensures { λ k. ⌜ now (out .exit) ≡ sets (now (out .entry)) from (words (cellsOf tied (now (dog .entry)) t s (u .row) (u .lo) (u .hi))) ⌝ }
+    requires { ⌜ p .from < 2 ^ 39 + 2 ^ 20 ⌝ }
+    ensures { λ n. ⌜ n ≡ length (runLeaves (p .cells) (now (dog .entry)) t s (u .row) (u .lo) (u .hi)) ⌝ }
+    ensures { λ n. ⌜ now (out .exit) ≡ sets (now (out .entry)) (p .from) (runLeaves (p .cells) (now (dog .entry)) t s (u .row) (u .lo) (u .hi)) ⌝ }
 {
     if !detect_extrema::any_loud(dog, t, s, u) {
         return 0;
     }
     let marks = detect_extrema::mark(dog, t, s, u);
-    let mut k: usize = 0;
+    let mut n: usize = 0;
     for c in u.lo..u.hi {
-        match detect_extrema::seen(marks[c - u.lo], dog, t, s, u.row, c) {
-            Refined::Dropped => {}
-            Refined::At(found) => {
-                put(out, from + WORDS * k, found);
-                k += 1;
-            }
-        }
+        let x = detect_extrema::seen(marks[c - u.lo], dog, t, s, u.row, c);
+        n += leave(
+            x,
+            u.row,
+            c,
+            Place {
+                from: p.from + n,
+                cells: p.cells,
+            },
+            out,
+        );
     }
-    k
+    n
 }
 
 // Where the run that starts at column c ends: a whole block on, or at the end of the row's cells.
@@ -96,20 +135,20 @@ fn block_end(c: usize, end: usize) -> usize
     }
 }
 
-// Finds a row's keypoints, and writes their words from the place `from` on, as far as there is room.
-pub fn row_words(dog: &[f32], t: Shape, s: Search, r: usize, out: &mut [u32], from: usize) -> usize
+// Finds a row's keypoints, writes what is left of them, as far as there is room, and counts its words.
+pub fn row_words(dog: &[f32], t: Shape, s: Search, r: usize, p: Place, out: &mut [u32]) -> usize
     requires { ⌜ Searched (length (now dog)) t s ⌝ }
     requires { ⌜ (2 * border < t .width) × (border ≤ r) × (r < t .height - border) ⌝ }
-    requires { ⌜ from < 2 ^ 39 ⌝ }
-    ensures { λ k. ⌜ k ≡ length (rowOf tied (now (dog .entry)) t s r) ⌝ }
-    ensures { λ k. ⌜ now (out .exit) ≡ sets (now (out .entry)) from (words (rowOf tied (now (dog .entry)) t s r)) ⌝ }
+    requires { ⌜ p .from < 2 ^ 39 ⌝ }
+    ensures { λ n. ⌜ n ≡ length (rowLeaves (p .cells) (now (dog .entry)) t s r) ⌝ }
+    ensures { λ n. ⌜ now (out .exit) ≡ sets (now (out .entry)) (p .from) (rowLeaves (p .cells) (now (dog .entry)) t s r) ⌝ }
 {
     let end = t.width - detect_extrema::BORDER;
-    let mut k: usize = 0;
+    let mut n: usize = 0;
     let mut c = detect_extrema::BORDER;
     while c < end {
         let to = block_end(c, end);
-        k += block_words(
+        n += block_words(
             dog,
             t,
             s,
@@ -118,10 +157,58 @@ pub fn row_words(dog: &[f32], t: Shape, s: Search, r: usize, out: &mut [u32], fr
                 lo: c,
                 hi: to,
             },
+            Place {
+                from: p.from + n,
+                cells: p.cells,
+            },
             out,
-            from + WORDS * k,
         );
         c = to;
     }
-    k
+    n
+}
+
+// Refines the cell of a word again, and writes the words that it gives from a place on, as far as there is room.
+fn refined(dog: &[f32], t: Shape, s: Search, w: u32, from: usize, out: &mut [u32]) -> usize
+    requires { ⌜ Searched (length (now dog)) t s ⌝ }
+    requires { ⌜ Placed t (s .settings .layers) (cellAt s w) ⌝ }
+    requires { ⌜ from < 2 ^ 40 ⌝ }
+    ensures { λ n. ⌜ n ≡ length (again (now (dog .entry)) t s w) ⌝ }
+    ensures { λ n. ⌜ now (out .exit) ≡ sets (now (out .entry)) from (again (now (dog .entry)) t s w) ⌝ }
+{
+    let r = w as usize / MAX_SIDE;
+    let c = w as usize % MAX_SIDE;
+    let x = detect_refine::refine(
+        dog,
+        t,
+        s,
+        Cell {
+            p: s.layer,
+            r: r,
+            c: c,
+        },
+    );
+    leave(
+        x,
+        r,
+        c,
+        Place {
+            from: from,
+            cells: false,
+        },
+        out,
+    )
+}
+
+// Refines the cells of the first k words of `hold` again, and writes the words that they give, as far as there is room.
+pub fn refined_words(dog: &[f32], t: Shape, s: Search, hold: &[u32], k: usize, out: &mut [u32])
+    requires { ⌜ Searched (length (now dog)) t s ⌝ }
+    requires { ⌜ (k ≤ length (now hold)) × (k ≤ maxSide * maxSide) ⌝ }
+    requires { ⌜ Cells t s k (now hold) ⌝ }
+    ensures { λ _. ⌜ now (out .exit) ≡ sets (now (out .entry)) 0 (allAgain (now (dog .entry)) t s (take k (now (hold .entry)))) ⌝ }
+{
+    let mut n: usize = 0;
+    for i in 0..k {
+        n += refined(dog, t, s, hold[i], n, out);
+    }
 }

@@ -1,6 +1,6 @@
 -- The laws of `every`: one more number passes, the first that fails decides, and the statement about each number. Assumes nothing.
 use Prim.Native.Nat.{ℕ, zero, suc, _+_, _<_, _≤_}
-use mathlib.Core.Path.{_≡_, refl, sym, subst}
+use mathlib.Core.Path.{_≡_, refl, ap}
 use mathlib.Core.Bool.{Bool, true, false, _&&_}
 use mathlib.Core.Logic.{⊎-elim}
 use native.Mathlib.Nat.{eq-or-lt-of-le, le-of-suc-le-suc}
@@ -17,6 +17,13 @@ every-none test = refl
 pub every-more : (k : ℕ) (test : ℕ → Bool) → every k test ≡ true → test k ≡ true → every (k + 1) test ≡ true
 unfolding every
 every-more k test a b = rw (add-one, a, b)
+
+pub every-step : (k : ℕ) (test : ℕ → Bool) → (every k test && test k) ≡ every (k + 1) test
+unfolding every
+every-step k test = rw add-one
+
+pub every-to : {n m : ℕ} (test : ℕ → Bool) → n ≡ m → every n test ≡ every m test
+every-to test e = ap (λ (k : ℕ). every k test) e
 
 pub every-stop : (n k : ℕ) (test : ℕ → Bool) → k < n → test k ≡ false → every n test ≡ false
 unfolding every

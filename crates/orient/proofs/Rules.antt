@@ -23,7 +23,7 @@ use Rattle.picture.specs.declared.Size.{Size}
 use Rattle.detect_refine.specs.Sound.{Sound}
 use Rattle.detect_refine.specs.declared.RawKeypoint.{RawKeypoint}
 use Rattle.orient_tally.proofs.Cells.{read-is}
-use Rattle.orient_tally.proofs.Every.{every-at}
+use Rattle.lists.proofs.Every.{every-all}
 use Rattle.orient_peaks.specs.Rules.{maxPeaks}
 use Rattle.orient_peaks.proofs.Rules.{peak-rule}
 use Rattle.orient.specs.Keypoint.{octaveIn, layerIn, cellWrong, octaveWrong, floatsWrong, scaleOf, scaleWrong, keypointWrong}
@@ -68,7 +68,7 @@ half-fine = (refl, refl)
 
 scale-in : (o : ℕ) (size : Float) → o ≤ maxOctave → le (float (2 ^ o)) size ≡ true → le size (float (2 ^ 7 * 2 ^ o)) ≡ true → within scaleLow scaleHigh (size ⊗ half ⊘ float (2 ^ o)) ≡ true
 scale-in o size h a b =
-    let c = and-both (ends o) (inside o) (every-at 16 o (λ o. ends o && inside o) all-octaves (omega arith)) in
+    let c = and-both (ends o) (inside o) (every-all 16 (λ o. ends o && inside o) all-octaves o (omega arith)) in
     let e = and-both (finite (float (2 ^ o)) && finite (float (2 ^ 7 * 2 ^ o))) _ (c .0) in
     let f = and-both (finite (float (2 ^ o))) (finite (float (2 ^ 7 * 2 ^ o))) (e .0) in
     let g = and-both (finite (low o) && finite (high o)) _ (e .1) in

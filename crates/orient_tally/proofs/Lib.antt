@@ -2,6 +2,5 @@ pub mod Cells
 pub mod Lifted
 pub mod Values
 pub mod Spans
-pub mod Every
 pub mod Bins
 pub mod Rules

@@ -37,7 +37,7 @@ use Rattle.orient_tally.specs.Rules.{readAt, TallyRule}
 use Rattle.orient_tally.specs.declared.Window.{Window}
 use Rattle.orient_tally.proofs.Cells.{read-is, cell-at, cell-in, some-cols}
 use Rattle.orient_tally.proofs.Spans.{Spans, spans}
-use Rattle.orient_tally.proofs.Every.{every-at, every-all}
+use Rattle.lists.proofs.Every.{every-all, all-every}
 
 -- ---- what is tested is what is read
 module _ (img : List Float) (win : Window) where
@@ -49,22 +49,22 @@ module _ (img : List Float) (win : Window) where
 
   read-good : windowGood img win ≡ true → every (cellsRead win) cellsTest ≡ true
   unfolding windowGood rowGood
-  read-good g = every-all (cellsRead win) cellsTest (λ k h. each k (subst (λ (n : ℕ). k < n) (read-is win) h))
+  read-good g = all-every (cellsRead win) cellsTest (λ k h. each k (subst (λ (n : ℕ). k < n) (read-is win) h))
     where
       each : (k : ℕ) → k < win .rows * win .cols → cellsTest k ≡ true
       each k h =
           let c = some-cols (win .rows) (win .cols) k h in
-          let r = every-at (win .rows) (k / win .cols) (λ i. rowGood img win (win .top + i)) g (div-lt-iff-lt-mul c .1 h) in
-          ap goodAbout (cell-at win k (cell 0 0) h) ∙ every-at (win .cols) (k % win .cols) (λ j. goodAbout (cell (win .top + k / win .cols) (win .left + j))) r (mod-lt k c)
+          let r = every-all (win .rows) (λ i. rowGood img win (win .top + i)) g (k / win .cols) (div-lt-iff-lt-mul c .1 h) in
+          ap goodAbout (cell-at win k (cell 0 0) h) ∙ every-all (win .cols) (λ j. goodAbout (cell (win .top + k / win .cols) (win .left + j))) r (k % win .cols) (mod-lt k c)
 
   good-read : every (cellsRead win) cellsTest ≡ true → windowGood img win ≡ true
   unfolding windowGood rowGood
-  good-read g = every-all (win .rows) _ (λ i a. every-all (win .cols) _ (λ j b. each i j a b))
+  good-read g = all-every (win .rows) _ (λ i a. all-every (win .cols) _ (λ j b. each i j a b))
     where
       each : (i j : ℕ) → i < win .rows → j < win .cols → goodAbout (cell (win .top + i) (win .left + j)) ≡ true
       each i j a b =
           let h : i * win .cols + j < cellsRead win = subst (λ (n : ℕ). i * win .cols + j < n) (sym (read-is win)) (packed a b) in
-          ap goodAbout (sym (cell-in win i j (cell 0 0) a b)) ∙ every-at (cellsRead win) (i * win .cols + j) cellsTest g h
+          ap goodAbout (sym (cell-in win i j (cell 0 0) a b)) ∙ every-all (cellsRead win) cellsTest g (i * win .cols + j) h
 
 same-test : (a b : Bool) → (a ≡ true → b ≡ true) → (b ≡ true → a ≡ true) → a ≡ b
 same-test true b f g = sym (f refl)
@@ -77,8 +77,8 @@ unfolding windowGood rowGood
 slopes img win i j g a b =
     let w = win .size .width in
     let y = win .top + i in
-    let r = every-at (win .rows) i (λ i. rowGood img win (win .top + i)) g a in
-    good-slope img w y (win .left + j) (every-at (win .cols) j (λ j. allGood (fourAt img w y (win .left + j))) r b)
+    let r = every-all (win .rows) (λ i. rowGood img win (win .top + i)) g i a in
+    good-slope img w y (win .left + j) (every-all (win .cols) (λ j. allGood (fourAt img w y (win .left + j))) r j b)
 
 -- ---- the exponent: over a piece of the scales from a to b
 abbrev spread : Float → Float

@@ -20,6 +20,7 @@ use Rattle.ieee.specs.Numbers.{half, one}
 use Rattle.ieee_laws.proofs.Monotone.{nil, add-le, mul-le-left, toUnsigned-le}
 use Rattle.ieee_laws.proofs.Bounds.{Bounds, bounds-finite, bounds-point, add-bounds, mul-bounds, roundEven-bounds, ofInt-bounds, abs-bounds, marked-nonneg}
 use Rattle.ieee_laws.proofs.Order.{le-fin, Marked, ended, le-trans-float, lt-le}
+use Rattle.params.specs.Limits.{border, maxSide, maxOctave}
 use Rattle.detect_refine.specs.Sound.{Near}
 use Rattle.descriptor_patch.specs.Patch.{cellOf}
 use Rattle.descriptor.specs.Place.{onSide}
@@ -33,7 +34,7 @@ unfolding ofInt
 whole n l = round-whole binary32 false n l
 
 -- and times a power of two
-raised : (n o : ℕ) → n ≤ 8192 → o ≤ 15 → HasValue (round binary32 false (n * 2 ^ o) 1) false (n * 2 ^ o) 1
+raised : (n o : ℕ) → n ≤ maxSide → o ≤ maxOctave → HasValue (round binary32 false (n * 2 ^ o) 1) false (n * 2 ^ o) 1
 raised n o a b =
     round-exact binary32 false (n * 2 ^ o) 1 n (149 + o) (lit< tt) (lt-of-le-of-lt a (lit< tt))
     (lt-of-le-of-lt (mul-le n (2 ^ (149 + o)) a (pow-mono high)) (lit< tt))
@@ -42,8 +43,8 @@ raised n o a b =
     high : 149 + o ≤ 164
     high = omega (arith, b)
 
-    mul-le : (m k : ℕ) → m ≤ 8192 → k ≤ 2 ^ 164 → m * k ≤ 8192 * 2 ^ 164
-    mul-le m k p q = native.Mathlib.Nat.mul-le-mul {n₁ = m} {m₁ = k} {n₂ = 8192} {m₂ = 2 ^ 164} p q
+    mul-le : (m k : ℕ) → m ≤ maxSide → k ≤ 2 ^ 164 → m * k ≤ maxSide * 2 ^ 164
+    mul-le m k p q = native.Mathlib.Nat.mul-le-mul {n₁ = m} {m₁ = k} {n₂ = maxSide} {m₂ = 2 ^ 164} p q
 
 -- two fractions, added
 add-value : (x y : Float) (a c b d : ℕ) → 0 < c → 0 < d → HasValue x false a c → HasValue y false b d → add binary32 x y ≡ round binary32 false (a * d + b * c) (c * d)
@@ -67,7 +68,7 @@ one-value : HasValue one false 1 1
 unfolding ofBits
 one-value = (refl, refl)
 
-next-up : (n : ℕ) → n ≤ 8192 → float n ⊕ one ≡ float (n + 1)
+next-up : (n : ℕ) → n ≤ maxSide → float n ⊕ one ≡ float (n + 1)
 unfolding ofInt
 next-up n l =
     add-value (float n) one n 1 1 1 (lit< tt) (lit< tt) (whole n (le-trans l (lit≤ tt))) one-value
@@ -75,16 +76,16 @@ next-up n l =
 
 -- ---- down to the octave's cells
 
-power-small : (o : ℕ) → o ≤ 15 → 2 ^ o ≤ 2 ^ 24
+power-small : (o : ℕ) → o ≤ maxOctave → 2 ^ o ≤ 2 ^ 24
 power-small o b = pow-mono high
   where
     high : o ≤ 24
     high = omega (arith, b)
 
-power-value : (o : ℕ) → o ≤ 15 → HasValue (float (2 ^ o)) false (2 ^ o) 1
+power-value : (o : ℕ) → o ≤ maxOctave → HasValue (float (2 ^ o)) false (2 ^ o) 1
 power-value o b = whole (2 ^ o) (power-small o b)
 
-shrink-value : (o : ℕ) → o ≤ 15 → HasValue (shrinkOf o) false 1 (2 ^ o)
+shrink-value : (o : ℕ) → o ≤ maxOctave → HasValue (shrinkOf o) false 1 (2 ^ o)
 unfolding shrinkOf
 shrink-value o b =
     subst (λ (x : Float). HasValue x false 1 (2 ^ o))
@@ -101,13 +102,13 @@ shrink-value o b =
 above : (x : Float) (a c : ℕ) → HasValue x false a c → 0 < a → T (positive x)
 above x a c v l = positive-of-value x a c v l
 
-up-is : (n o : ℕ) → 1 ≤ n → n ≤ 8192 → o ≤ 15 → float n ⊗ float (2 ^ o) ≡ round binary32 false (n * 2 ^ o) 1
+up-is : (n o : ℕ) → 1 ≤ n → n ≤ maxSide → o ≤ maxOctave → float n ⊗ float (2 ^ o) ≡ round binary32 false (n * 2 ^ o) 1
 up-is n o l a b =
     mul-at binary32 (float n) (float (2 ^ o)) n 1 (2 ^ o) 1 (above (float n) n 1 (whole n (le-trans a (lit≤ tt))) l) (above (float (2 ^ o)) (2 ^ o) 1 (power-value o b) (pow-pos o))
     (lit< tt) (lit< tt) (whole n (le-trans a (lit≤ tt))) (power-value o b)
 
 -- a whole number taken up and down again is itself
-there-and-back : (n o : ℕ) → 1 ≤ n → n ≤ 8192 → o ≤ 15 → float n ⊗ float (2 ^ o) ⊗ shrinkOf o ≡ float n
+there-and-back : (n o : ℕ) → 1 ≤ n → n ≤ maxSide → o ≤ maxOctave → float n ⊗ float (2 ^ o) ⊗ shrinkOf o ≡ float n
 unfolding ofInt
 there-and-back n o l a b =
     ap (λ (x : Float). x ⊗ shrinkOf o) (up-is n o l a b)
@@ -126,7 +127,7 @@ value-finite (fin t m e) s a c h = refl
 closest-whole : (n : ℕ) → closest n 1 ≡ n
 closest-whole n = ap₂ (λ (q r : ℕ). nearest q (compare (r * 2) 1)) (div-one n) (mod-one n)
 
-rounded-whole : (n : ℕ) → n ≤ 8192 → rounded (float n) ≡ float n
+rounded-whole : (n : ℕ) → n ≤ maxSide → rounded (float n) ≡ float n
 unfolding roundEven ofInt
 rounded-whole n l = go (float n) (whole n (le-trans l (lit≤ tt)))
   where
@@ -160,7 +161,7 @@ marked-value (inf t) a c h = absurd h
 marked-value (fin true m e) a c h = absurd (true≢false (h .0))
 marked-value (fin false m e) a c h = ended
 
-held : (n : ℕ) → n ≤ 8192 → T (inFloat binary32 (pos n))
+held : (n : ℕ) → n ≤ maxSide → T (inFloat binary32 (pos n))
 unfolding inFloat
 held n l = le→leb n (2 ^ 24) (le-trans l (lit≤ tt))
 
@@ -174,16 +175,16 @@ offset-ends : (finite half ≡ true) × (le half one ≡ true) × (finite one �
 unfolding ofBits le
 offset-ends = (refl, refl, refl)
 
-sum-ends : (finite (float 5 ⊕ neg half) ≡ true) × (finite (float 8192 ⊕ half) ≡ true)
+sum-ends : (finite (float border ⊕ neg half) ≡ true) × (finite (float maxSide ⊕ half) ≡ true)
 unfolding ofBits ofInt neg add
 sum-ends = (refl, refl)
 
-whole-ends : (finite (float 5) ≡ true) × (finite (float 8192) ≡ true)
+whole-ends : (finite (float border) ≡ true) × (finite (float maxSide) ≡ true)
 unfolding ofInt
 whole-ends = (refl, refl)
 
-module _ (c o side : ℕ) (x : Float) (from : 5 ≤ c) (to : c < side - 5) (small : side ≤ 8192) (low : o ≤ 15) (near : Near c o x) (ends : finite x ≡ true) (plus : lt nil x ≡ true) where
-  fits-below : c + 1 ≤ 8192
+module _ (c o side : ℕ) (x : Float) (from : border ≤ c) (to : c < side - border) (small : side ≤ maxSide) (low : o ≤ maxOctave) (near : Near c o x) (ends : finite x ≡ true) (plus : lt nil x ≡ true) where
+  fits-below : c + 1 ≤ maxSide
   fits-below = omega (arith, to, small)
 
   some : 1 ≤ c + 1
@@ -192,7 +193,7 @@ module _ (c o side : ℕ) (x : Float) (from : 5 ≤ c) (to : c < side - 5) (smal
   within-side : c + 1 < side
   within-side = omega (arith, to)
 
-  c-small : c ≤ 8192
+  c-small : c ≤ maxSide
   c-small = omega (arith, fits-below)
 
   offset-in : Bounds (neg half) half (near .offset)
@@ -201,12 +202,12 @@ module _ (c o side : ℕ) (x : Float) (from : 5 ≤ c) (to : c < side - 5) (smal
   offset-finite : finite (near .offset) ≡ true
   offset-finite = bounds-finite offset-in
 
-  cell-finite : (n : ℕ) → n ≤ 8192 → finite (float n) ≡ true
+  cell-finite : (n : ℕ) → n ≤ maxSide → finite (float n) ≡ true
   cell-finite n l = value-finite (float n) false n 1 (whole n (le-trans l (lit≤ tt)))
 
   moved-finite : finite (float c ⊕ near .offset) ≡ true
   moved-finite =
-      bounds-finite (add-bounds binary32 (sum-ends .0) (sum-ends .1) (ofInt-bounds binary32 5 8192 c (whole-ends .0) (whole-ends .1) from c-small) offset-in)
+      bounds-finite (add-bounds binary32 (sum-ends .0) (sum-ends .1) (ofInt-bounds binary32 border maxSide c (whole-ends .0) (whole-ends .1) from c-small) offset-in)
 
   moved-below : le (float c ⊕ near .offset) (float (c + 1)) ≡ true
   moved-below =

@@ -60,8 +60,8 @@ module _ (wide high : ℕ) (s : Settings) (r : List ℕ) (f : OfFrame wide high 
   good : Sound (q .shape .width) (q .shape .height) s (q .number) k
   good = sound s q (f .layer) (f .searched) k (f .found)
 
-  turned : Turn (o .angle)
-  turned = turn s q (f .layer) (f .searched) k (f .found) (pictureFor q k) (f .sized .picture (k .layer) (good .first) (good .last)) (f .turned) o (f .given)
+  facing : Turn (o .angle)
+  facing = turn s q (f .layer) (f .searched) k (f .found) (pictureFor q k) (f .sized .picture (k .layer) (good .first) (good .last)) (f .oriented) o (f .given)
 
   filled : Filled values
   unfolding valuesAt
@@ -73,9 +73,9 @@ module _ (wide high : ℕ) (s : Settings) (r : List ℕ) (f : OfFrame wide high 
   keeps-rules : keeps wide high (s .layers) (recordFor q k o) ≡ true
   keeps-rules =
       rw (
-        eq-eqb (length (recordFor q k o)) plainWords (record-long (q .shape .width) (q .shape .height) s (q .number) k good (o .angle) turned values filled wide high (f .sized .across) (f .sized .down) (held .low)),
-        record-right (q .shape .width) (q .shape .height) s (q .number) k good (o .angle) turned values filled wide high (f .sized .across) (f .sized .down) (held .low),
-        record-layer (q .shape .width) (q .shape .height) s (q .number) k good (o .angle) turned values filled wide high (f .sized .across) (f .sized .down) (held .low),
+        eq-eqb (length (recordFor q k o)) plainWords (record-long (q .shape .width) (q .shape .height) s (q .number) k good (o .angle) facing values filled wide high (f .sized .across) (f .sized .down) (held .low)),
+        record-right (q .shape .width) (q .shape .height) s (q .number) k good (o .angle) facing values filled wide high (f .sized .across) (f .sized .down) (held .low),
+        record-layer (q .shape .width) (q .shape .height) s (q .number) k good (o .angle) facing values filled wide high (f .sized .across) (f .sized .down) (held .low),
       )
 
   kept : keeps wide high (s .layers) r ≡ true
@@ -123,7 +123,7 @@ module _ (wide high : ℕ) (s : Settings) where
         sized = a .sized;
         searched = z;
         found = m;
-        turned = t .turned;
+        oriented = t .oriented;
         given = p .among;
         described = t .described (p .source) (p .among);
         is = p .is;

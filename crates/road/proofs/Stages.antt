@@ -71,6 +71,6 @@ module _ (s : Settings) (q : Octave) (layer : ℕ) (z : searchFault s q layer �
     through g =
         let t = oriented ∙ ap sixUnless (window-good img (sizeIn q) whole g k shape right) in
         record {
-          turned = t;
+          oriented = t;
           described = λ o n. described t o n .taken ∙ ap sixUnless (reads-good img g (turnAt (sizeIn q) (spotFor q o)) whole);
         }

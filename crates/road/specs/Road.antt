@@ -96,7 +96,7 @@ pub record OfFrame (wide high : ℕ) (s : Settings) (r : List ℕ) : Type 0 wher
   pub sized : Sized wide high s octave
   pub searched : searchFault s octave layer ≡ 0
   pub found : Among keypoint (foundIn s octave layer)
-  pub turned : turnFault (pictureFor octave keypoint) octave keypoint ≡ 0
+  pub oriented : turnFault (pictureFor octave keypoint) octave keypoint ≡ 0
   pub given : Among direction (directionsOf (pictureFor octave keypoint) octave keypoint)
   pub described : patchFault (pictureFor octave keypoint) octave direction ≡ 0
   pub is : r ≡ recordFor octave keypoint direction

@@ -36,7 +36,7 @@ pub record Served (img : List Float) (q : Octave) (o : OrientedKeypoint) : Type 
 
 -- on a picture, orientation refuses nothing of a keypoint, and the descriptor nothing of its directions
 pub record Through (img : List Float) (q : Octave) (k : RawKeypoint) : Type 0 where
-  pub turned : turnFault img q k ≡ 0
+  pub oriented : turnFault img q k ≡ 0
   pub described : (o : OrientedKeypoint) → Among o (directionsOf img q k) → patchFault img q o ≡ 0
 
 pub record RoadRule : Type 0 where

@@ -2,12 +2,19 @@
 ghost use mathlib.Core.Path.{_≡_};
 ghost use lib.ListN.{length};
 ghost use lib.Ieee.{nan};
+ghost use Rattle.detect_extrema.specs.Scan.{keypointWords};
+ghost use Rattle.orient.specs.Entry.{orientedWords};
 ghost use Rattle.words.specs.Keypoint.{wordsIn, broken, keypointIn};
 ghost use Rattle.words.specs.Inputs.{inputWords, wordsOut, inputsNumber, inputsLeft};
 ghost use Rattle.words.specs.Oriented.{sixIn, unoriented, orientedIn};
 use descriptor_inputs::Inputs;
 use detect_refine::RawKeypoint;
 use orient::OrientedKeypoint;
+
+// A keypoint goes out as so many words, and an oriented keypoint.
+const KEYPOINT_WORDS: usize = 10;
+
+const ORIENTED_WORDS: usize = 6;
 
 fn not_a_number() -> f32
     ensures { λ r. ⌜ r ≡ nan ⌝ }
@@ -36,7 +43,7 @@ fn broken_keypoint() -> RawKeypoint
 
 // The keypoint of ten words.
 fn whole_keypoint(k: &[u32]) -> RawKeypoint
-    requires { ⌜ length (now k) ≡ 10 ⌝ }
+    requires { ⌜ length (now k) ≡ keypointWords ⌝ }
     ensures { λ r. ⌜ r ≡ wordsIn (now (k .entry)) ⌝ }
 {
     RawKeypoint {
@@ -57,7 +64,7 @@ fn whole_keypoint(k: &[u32]) -> RawKeypoint
 pub fn keypoint_in(k: &[u32]) -> RawKeypoint
     ensures { λ r. ⌜ r ≡ keypointIn (now (k .entry)) ⌝ }
 {
-    if k.len() == 10 {
+    if k.len() == KEYPOINT_WORDS {
         whole_keypoint(k)
     } else {
         broken_keypoint()
@@ -81,7 +88,7 @@ fn unoriented_keypoint() -> OrientedKeypoint
 
 // The oriented keypoint of six words.
 fn whole_oriented(o: &[u32]) -> OrientedKeypoint
-    requires { ⌜ length (now o) ≡ 6 ⌝ }
+    requires { ⌜ length (now o) ≡ orientedWords ⌝ }
     ensures { λ r. ⌜ r ≡ sixIn (now (o .entry)) ⌝ }
 {
     OrientedKeypoint {
@@ -98,7 +105,7 @@ fn whole_oriented(o: &[u32]) -> OrientedKeypoint
 pub fn oriented_in(o: &[u32]) -> OrientedKeypoint
     ensures { λ r. ⌜ r ≡ orientedIn (now (o .entry)) ⌝ }
 {
-    if o.len() == 6 {
+    if o.len() == ORIENTED_WORDS {
         whole_oriented(o)
     } else {
         unoriented_keypoint()

@@ -20,7 +20,7 @@ turn-at-requires c κs = search needs
 
 gather-requires : tie.Need-gather-requires
 unfolding turnAt patchOf
-gather-requires c κs = let p = c .before .before .before .before .pre .0 in let t = c .before .turn-at .ensures in rw (t .0) (record { whole = p .whole; lies = rw (t .0) at (t .1); turn = in-turn _ (p .aimed .turned) }, p .good)
+gather-requires c κs = let p = c .before .before .before .before .pre .0 in let t = c .before .turn-at .ensures in rw (t .0) (record { whole = p .whole; lies = rw (t .0) at (t .1); turn = in-turn _ (p .aimed .angled) }, p .good)
 
 values-requires : tie.Need-values-requires
 values-requires c κs = search needs

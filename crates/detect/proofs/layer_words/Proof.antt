@@ -1,52 +1,50 @@
-use Prim.Native.Nat.{ℕ, _≤_, _-_, _+_, _*_}
-use mathlib.Core.Path.{_≡_, refl, sym, ap, _∙_}
+use Prim.Native.Nat.{ℕ, _*_, _≤_, _-_}
+use mathlib.Core.Path.{_≡_, refl, ap, _∙_}
+use mathlib.Core.List.{List}
+use native.Mathlib.Nat.{zero-add}
 use native.Mathlib.Omega.{arith}
 use denote.Ref.{now}
 use lib.ListN.{length}
-use lib.Seq.{sets, length-sets}
+use lib.Seq.{length-sets}
 use borrow.Author.Needs.{needs}
 use Rattle.lists.specs.Ranges.{joined}
-use Rattle.lists.proofs.Ranges.{joined-start, counted}
+use Rattle.lists.proofs.Ranges.{joined-start}
 use Rattle.params.specs.Limits.{border, maxSide}
-use Rattle.detect_extrema.specs.Neighbours.{tied}
-use Rattle.detect_extrema.specs.Scan.{rowOf, keypoints, words}
-use Rattle.detect_rows.proofs.Words.{filled, words-none}
-use Rattle.detect_extrema.proofs.Rows.{row-bound, rows-few}
+use Rattle.detect_extrema.specs.Scan.{keypointWords}
+use Rattle.detect_rows.specs.Forms.{rowLeaves, layerLeaves}
+use Rattle.detect_rows.proofs.Words.{Filled, filled-none, filled-part}
+use Rattle.detect_rows.proofs.Forms.{row-bound, rows-few}
 use Rattle.detect.proofs.layer_words.Statement.{statement}
 use Rattle.detect.proofs.layer_words.Tie as tie
 
 abbrev Inv-loop : tie.InvT-loop
-Inv-loop dog t s out₀ k₀ r₀ r-end out k r =
+Inv-loop dog t s cells out₀ n₀ r₀ r-end out n r =
     (border ≤ r) × (r ≤ t .height - border) × (r-end ≡ t .height - border)
-    × (k ≡ length (joined border r (λ r. rowOf tied dog t s r)))
-    × (out ≡ sets out₀ 0 (words (joined border r (λ r. rowOf tied dog t s r))))
+    × Filled out₀ 0 (joined border r (λ r. rowLeaves cells dog t s r)) out n
 
 abbrev μ-loop : tie.MeasureT-loop
-μ-loop dog t s out₀ k₀ r₀ r-end out k r = t .height - r
+μ-loop dog t s cells out₀ n₀ r₀ r-end out n r = t .height - r
 
 -- so many rows give a number that no step of the count can wrap
-bounded : (c : tie.At-loop Inv-loop μ-loop) → c .loop .k ≤ maxSide * maxSide
+bounded : (c : tie.At-loop Inv-loop μ-loop) → c .loop .n ≤ maxSide * (keypointWords * maxSide)
 bounded c =
     let a = c .before .before .before .before .args in
-    omega (arith, rows-few tied (now (a .dog)) (a .t) (a .s) border (c .loop .r) (omega arith) (omega arith))
+    omega (arith, rows-few (now (a .dog)) (a .t) (a .s) (a .cells) border (c .loop .r) (omega arith) (omega arith), c .loop .inv .3 .0)
 
 sub-r-end : tie.Need-sub-r-end Inv-loop μ-loop
 sub-r-end c = search needs
 
 loop-holds : tie.Need-loop-holds Inv-loop μ-loop
-loop-holds c = (omega arith, omega arith, refl, sym (ap length (joined-start border _)), rw (joined-start, words-none))
-
-mul-row-words : tie.Need-mul-row-words Inv-loop μ-loop
-mul-row-words c = omega (arith, bounded (c .before .before))
+loop-holds c = (omega arith, omega arith, refl, filled-none _ _ _ (joined-start border _))
 
 row-words-requires : tie.Need-row-words-requires Inv-loop μ-loop
 row-words-requires c κs = (search needs, (search needs, omega (arith, bounded (c .before .before))))
 
-add-k : tie.Need-add-k Inv-loop μ-loop
-add-k c =
+add-n : tie.Need-add-n Inv-loop μ-loop
+add-n c =
     let l = c .before .before .before .before .before in
     let a = l .before .before .before .before .args in
-    omega (arith, bounded l, c .before .before .row-words .ensures .0, row-bound tied (now (a .dog)) (a .t) (a .s) (l .loop .r))
+    omega (arith, bounded l, c .before .before .row-words .ensures .0, row-bound (now (a .dog)) (a .t) (a .s) (a .cells) (l .loop .r))
 
 add-r : tie.Need-add-r Inv-loop μ-loop
 add-r c = search needs
@@ -57,20 +55,19 @@ loop-less c = search needs
 loop-again : tie.Need-loop-again Inv-loop μ-loop
 loop-again c =
     let l = c .before .before .before .before .before .loop in
-    let g = c .before .before .row-words .ensures in
-    let n = counted border _ _ _ _ _ (l .inv .0) refl (l .inv .3) (ap (λ (x : ℕ). l .k + x) (g .0)) in
-    let o = filled border _ _ _ _ _ 0 _ _ _ (l .inv .0) refl (l .inv .3) (omega arith) (l .inv .4) (g .1) in
-    (omega arith, omega arith, refl, n, o)
+    let a = c .before .before .before .before .before .before .before .before .before .args in
+    let f : ℕ → List ℕ = λ r. rowLeaves (a .cells) (now (a .dog)) (a .t) (a .s) r in
+    (omega arith, omega arith, refl, filled-part _ 0 border (l .r) f _ _ _ _ (l .inv .0) (l .inv .3) (rw zero-add (c .before .before .row-words .ensures)))
 
 same-length : tie.Need-same-length Inv-loop μ-loop
-same-length c = ap length (c .before .loop .inv .4) ∙ simp length-sets
+same-length c = ap length (c .before .loop .inv .3 .1) ∙ simp length-sets
 
 returns : tie.Need-returns Inv-loop μ-loop
-unfolding keypoints
+unfolding layerLeaves
 returns c =
     let l = c .before .loop in
     let e : l .r ≡ c .before .before .before .before .before .args .t .height - border = omega arith in
-    (rw e at (l .inv .3), (rw e at (l .inv .4), bounded (c .before)))
+    rw e at (l .inv .3)
 
 pub layer-words-spec : {M : Type 1} → statement M
 layer-words-spec =
@@ -80,9 +77,8 @@ layer-words-spec =
     μ-loop
     sub-r-end
     loop-holds
-    mul-row-words
     row-words-requires
-    add-k
+    add-n
     add-r
     loop-less
     loop-again

@@ -1,31 +1,35 @@
-use Prim.Native.Nat.{ℕ, _<_, _≤_, _-_, _+_}
+use Prim.Native.Nat.{ℕ, _*_, _≤_, _-_}
 use mathlib.Core.Path.{_≡_, refl, sym, ap, _∙_}
-use mathlib.Core.Logic.{⊎-elim}
+use mathlib.Core.List.{List}
 use native.Mathlib.Omega.{arith}
 use borrow.Author.Needs.{needs}
 use denote.Ref.{now}
 use lib.ListN.{length}
-use lib.Seq.{sets, length-sets}
-use Rattle.lists.specs.Ranges.{joined}
-use Rattle.lists.proofs.Ranges.{joined-start, counted}
+use lib.Seq.{length-sets}
+use Rattle.lists.proofs.Ranges.{joined-start}
 use Rattle.detect_extrema.specs.Neighbours.{tied}
-use Rattle.detect_extrema.specs.Scan.{found, kept, cellsOf, words}
+use Rattle.detect_extrema.specs.Scan.{found, keypointWords}
 use Rattle.detect_extrema.proofs.Hints.{not-yes}
 use Rattle.detect_extrema.proofs.Looks.{quiet-cells}
-use Rattle.detect_rows.proofs.Words.{filled-none, filled-one, words-none}
+use Rattle.detect_rows.specs.Forms.{leaves, runLeaves}
+use Rattle.detect_rows.proofs.Words.{Filled, filled-none, filled-part}
+use Rattle.detect_rows.proofs.Forms.{cell-bound, run-bound, run-quiet}
 use Rattle.detect_rows.proofs.block_words.Statement.{statement}
 use Rattle.detect_rows.proofs.block_words.Tie as tie
 
 abbrev Inv-loop : tie.InvT-loop
-Inv-loop dog t s u out₀ from marks k₀ c₀ c-end out k c =
-    (u .lo ≤ c) × (c ≤ u .hi)
-    × (k ≡ length (cellsOf tied dog t s (u .row) (u .lo) c))
-    × (out ≡ sets out₀ from (words (cellsOf tied dog t s (u .row) (u .lo) c)))
-    × (k + u .lo ≤ c)
-    × (c-end ≡ u .hi)
+Inv-loop dog t s u p out₀ marks n₀ c₀ c-end out n c =
+    (u .lo ≤ c) × (c ≤ u .hi) × (c-end ≡ u .hi)
+    × Filled out₀ (p .from) (runLeaves (p .cells) dog t s (u .row) (u .lo) c) out n
 
 abbrev μ-loop : tie.MeasureT-loop
-μ-loop dog t s u out₀ from marks k₀ c₀ c-end out k c = u .hi - c
+μ-loop dog t s u p out₀ marks n₀ c₀ c-end out n c = u .hi - c
+
+-- so few words that no sum of places wraps
+bounded : (c : tie.At-loop Inv-loop μ-loop) → let u = c .before .before .before .before .before .before .args .u in c .loop .n ≤ keypointWords * (c .loop .c - u .lo)
+bounded c =
+    let a = c .before .before .before .before .before .before .args in
+    omega (arith, run-bound (now (a .dog)) (a .t) (a .s) (a .p .cells) (a .u .row) (a .u .lo) (c .loop .c), c .loop .inv .3 .0)
 
 any-loud-requires : tie.Need-any-loud-requires Inv-loop μ-loop
 any-loud-requires c κs = search needs
@@ -34,13 +38,13 @@ returns : tie.Need-returns Inv-loop μ-loop
 returns c =
     let a = c .before .before .before .before .args in
     let q = quiet-cells (now (a .dog)) (a .t) (a .s) (a .u .row) (a .u .lo) (a .u .hi) (sym (c .before .any-loud .ensures) ∙ not-yes _ (c .if1 .taken)) in
-    (rw q, rw (q, words-none))
+    filled-none _ _ (a .p .from) (run-quiet (now (a .dog)) (a .t) (a .s) (a .p .cells) (a .u .row) (a .u .lo) (a .u .hi) q)
 
 mark-requires : tie.Need-mark-requires Inv-loop μ-loop
 mark-requires c κs = search needs
 
 loop-holds : tie.Need-loop-holds Inv-loop μ-loop
-loop-holds c = (omega arith, omega arith, sym (ap length (joined-start _ _)), rw (joined-start, words-none), omega arith, refl)
+loop-holds c = (omega arith, omega arith, refl, filled-none _ _ _ (joined-start _ _))
 
 sub-seen : tie.Need-sub-seen Inv-loop μ-loop
 sub-seen c = search needs
@@ -53,23 +57,19 @@ seen-requires c κs =
     let l = c .before .before .loop in
     (search needs, (search needs, c .before .before .before .mark .ensures (l .c) (l .inv .0) (omega arith)))
 
-enum-told : tie.Need-enum-told Inv-loop μ-loop
-enum-told c = search needs
+add-t19 : tie.Need-add-t19 Inv-loop μ-loop
+add-t19 c = omega (arith, bounded (c .before .before .before .before))
 
-enum-known-found : tie.Need-enum-known-found Inv-loop μ-loop
-enum-known-found c = search needs
+leave-requires : tie.Need-leave-requires Inv-loop μ-loop
+leave-requires c κs = (omega arith, omega arith, omega (arith, bounded (c .before .before .before .before .before)))
 
-mul-put : tie.Need-mul-put Inv-loop μ-loop
-mul-put c = search needs
-
-add-put : tie.Need-add-put Inv-loop μ-loop
-add-put c = search needs
-
-put-requires : tie.Need-put-requires Inv-loop μ-loop
-put-requires c κs = search needs
-
-add-k : tie.Need-add-k Inv-loop μ-loop
-add-k c = search needs
+add-n : tie.Need-add-n Inv-loop μ-loop
+add-n c =
+    let b = c .before .before .before .before .before .before .before .before in
+    let a = b .before .before .before .before .before .before .args in
+    let e = c .before .before .before .before .before .seen .ensures in
+    let g = rw e at (c .before .before .leave .ensures .0) in
+    omega (arith, bounded b, g, cell-bound (now (a .dog)) (a .t) (a .s) (a .p .cells) (a .u .row) (b .loop .c))
 
 add-c : tie.Need-add-c Inv-loop μ-loop
 add-c c = search needs
@@ -79,35 +79,21 @@ loop-less c = search needs
 
 loop-again : tie.Need-loop-again Inv-loop μ-loop
 loop-again c =
-    let l = c .before .before .before .before .loop in
-    let e = sym (c .before .seen .ensures) in
-    ⊎-elim
-    (λ w. let q = e ∙ ap kept (w .1 .given .1) in (
-      omega arith,
-      omega arith,
-      counted _ _ _ _ _ _ (l .inv .0) q (l .inv .2) (w .3 ∙ omega arith),
-      filled-none _ _ _ _ _ _ _ _ (l .inv .0) (l .inv .2) (l .inv .3) q (w .2),
-      omega arith,
-      refl,
-    ))
-    (λ w. let q = e ∙ ap kept (w .1 .given .1) in (
-      omega arith,
-      omega arith,
-      counted _ _ _ _ _ _ (l .inv .0) q (l .inv .2) (w .8),
-      filled-one _ _ _ _ _ _ _ _ (l .inv .0) (l .inv .2) (l .inv .3) _ q (w .7 ∙ w .4 .ensures),
-      omega arith,
-      refl,
-    ))
-    (c .match .came)
+    let b = c .before .before .before .before .before .before .before .before in
+    let l = b .loop in
+    let a = b .before .before .before .before .before .before .args in
+    let e = c .before .before .before .before .before .seen .ensures in
+    let f : ℕ → List ℕ = λ i. leaves (a .p .cells) (a .u .row) i (found tied (now (a .dog)) (a .t) (a .s) (a .u .row) i) in
+    (omega arith, omega arith, refl, filled-part _ (a .p .from) (a .u .lo) (l .c) f _ _ _ _ (l .inv .0) (l .inv .3) (rw e at (c .before .before .leave .ensures)))
 
 same-length : tie.Need-same-length Inv-loop μ-loop
-same-length c = ap length (c .before .loop .inv .3) ∙ simp length-sets
+same-length c = ap length (c .before .loop .inv .3 .1) ∙ simp length-sets
 
 returns-2 : tie.Need-returns-2 Inv-loop μ-loop
 returns-2 c =
     let l = c .before .loop in
     let e : l .c ≡ c .before .before .before .before .before .before .before .args .u .hi = omega arith in
-    (rw e at (l .inv .2), rw e at (l .inv .3))
+    rw e at (l .inv .3)
 
 pub block-words-spec : {M : Type 1} → statement M
 block-words-spec =
@@ -122,12 +108,9 @@ block-words-spec =
     sub-seen
     array-read-seen
     seen-requires
-    enum-told
-    enum-known-found
-    mul-put
-    add-put
-    put-requires
-    add-k
+    add-t19
+    leave-requires
+    add-n
     add-c
     loop-less
     loop-again

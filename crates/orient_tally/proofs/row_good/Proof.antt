@@ -1,5 +1,5 @@
 use Prim.Native.Nat.{_+_, _-_, _≤_}
-use mathlib.Core.Path.{_≡_, refl, ap, _∙_}
+use mathlib.Core.Path.{_≡_, refl, sym, ap, _∙_}
 use native.Mathlib.Omega.{arith}
 use borrow.Author.Needs.{needs}
 use Rattle.lists.specs.Ranges.{every}
@@ -7,7 +7,7 @@ use Rattle.params.specs.Table.{allGood}
 use Rattle.picture.specs.Picture.{fourAt}
 use Rattle.orient_tally.specs.Sample.{rowGood}
 use Rattle.orient_tally.proofs.Cells.{placed}
-use Rattle.orient_tally.proofs.Every.{every-none, every-more, every-to}
+use Rattle.lists.proofs.Every.{every-none, every-step, every-to}
 use Rattle.orient_tally.proofs.row_good.Statement.{statement}
 use Rattle.orient_tally.proofs.row_good.Tie as tie
 use Rattle.orient_tally.proofs.row_good.Reads as reads
@@ -24,7 +24,7 @@ add-y : tie.Need-add-y Inv-loop μ-loop
 add-y c = search needs
 
 loop-holds : tie.Need-loop-holds Inv-loop μ-loop
-loop-holds c = (search needs, every-none _)
+loop-holds c = (search needs, sym (every-none _))
 
 add-four-good : tie.Need-add-four-good Inv-loop μ-loop
 add-four-good c = omega (arith, c .before .before .before .before .before .before .pre)
@@ -41,7 +41,7 @@ loop-less c = omega arith
 loop-again : tie.Need-loop-again Inv-loop μ-loop
 loop-again c =
     let l = c .before .before .before .before .loop in
-    (omega arith, rw (l .inv .1, c .four-good .ensures) (every-more (l .j) _))
+    (omega arith, rw (l .inv .1, c .four-good .ensures) (every-step (l .j) _))
 
 returns : tie.Need-returns Inv-loop μ-loop
 unfolding rowGood

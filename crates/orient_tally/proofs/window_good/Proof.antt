@@ -6,7 +6,7 @@ use borrow.Author.Needs.{needs}
 use borrow.Author.Tests.{not-true, not-false}
 use Rattle.lists.specs.Ranges.{every}
 use Rattle.orient_tally.specs.Sample.{rowGood, windowGood}
-use Rattle.orient_tally.proofs.Every.{every-none, every-on, every-to, every-fails}
+use Rattle.lists.proofs.Every.{every-none, every-more, every-to, every-stop}
 use Rattle.orient_tally.proofs.window_good.Statement.{statement}
 use Rattle.orient_tally.proofs.window_good.Tie as tie
 use Rattle.orient_tally.proofs.window_good.Reads as reads
@@ -20,7 +20,7 @@ abbrev μ-loop : tie.MeasureT-loop
 μ-loop img win i₀ i = win .rows - i
 
 loop-holds : tie.Need-loop-holds Inv-loop μ-loop
-loop-holds c = (search needs, every-none _)
+loop-holds c = (search needs, sym (every-none _))
 
 row-good-requires : tie.Need-row-good-requires Inv-loop μ-loop
 row-good-requires c κs = (c .before .before .before .before .pre, c .if1 .taken)
@@ -29,7 +29,7 @@ returns : tie.Need-returns Inv-loop μ-loop
 unfolding windowGood
 returns c =
     let r = c .before .row-good in
-    sym (every-fails _ (c .before .before .before .before .loop .i) _ (c .before .before .if1 .taken) (sym (r .ensures) ∙ not-true (r .result) (c .if2 .taken)))
+    sym (every-stop _ (c .before .before .before .before .loop .i) _ (c .before .before .if1 .taken) (sym (r .ensures) ∙ not-true (r .result) (c .if2 .taken)))
 
 add-i : tie.Need-add-i Inv-loop μ-loop
 add-i c = omega arith
@@ -41,7 +41,7 @@ loop-again : tie.Need-loop-again Inv-loop μ-loop
 loop-again c =
     let l = c .before .before .before .before .loop in
     let r = c .before .row-good in
-    (omega arith, every-on (l .i) _ (l .inv .1) (sym (r .ensures) ∙ not-false (r .result) (c .if2 .left)))
+    (omega arith, sym (every-more (l .i) _ (sym (l .inv .1)) (sym (r .ensures) ∙ not-false (r .result) (c .if2 .left))))
 
 returns-2 : tie.Need-returns-2 Inv-loop μ-loop
 unfolding windowGood

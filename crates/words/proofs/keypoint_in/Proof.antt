@@ -4,18 +4,19 @@ use mathlib.Core.List.{List}
 use lib.ListN.{length}
 use mathlib.Core.Bool.{Bool, cond}
 use borrow.Author.Tests.{eq-eqb, ne-eqb}
+use Rattle.detect_extrema.specs.Scan.{keypointWords}
 use Rattle.words.specs.Keypoint.{wordsIn, broken, keypointIn}
 use borrow.Author.Needs.{needs}
 use Rattle.words.proofs.keypoint_in.Statement.{statement}
 use Rattle.words.proofs.keypoint_in.Tie as tie
 
-whole-is : (k : List ℕ) → length k ≡ 10 → wordsIn k ≡ keypointIn k
+whole-is : (k : List ℕ) → length k ≡ keypointWords → wordsIn k ≡ keypointIn k
 unfolding keypointIn
-whole-is k h = sym (ap (λ (b : Bool). cond b (wordsIn k) broken) (eq-eqb (length k) 10 h))
+whole-is k h = sym (ap (λ (b : Bool). cond b (wordsIn k) broken) (eq-eqb (length k) keypointWords h))
 
-broken-is : (k : List ℕ) → (length k ≡ 10 → ⊥) → broken ≡ keypointIn k
+broken-is : (k : List ℕ) → (length k ≡ keypointWords → ⊥) → broken ≡ keypointIn k
 unfolding keypointIn
-broken-is k h = sym (ap (λ (b : Bool). cond b (wordsIn k) broken) (ne-eqb (length k) 10 h))
+broken-is k h = sym (ap (λ (b : Bool). cond b (wordsIn k) broken) (ne-eqb (length k) keypointWords h))
 
 whole-keypoint-requires : tie.Need-whole-keypoint-requires
 whole-keypoint-requires c κs = search needs

@@ -4,18 +4,19 @@ use mathlib.Core.List.{List}
 use lib.ListN.{length}
 use mathlib.Core.Bool.{Bool, cond}
 use borrow.Author.Tests.{eq-eqb, ne-eqb}
+use Rattle.orient.specs.Entry.{orientedWords}
 use Rattle.words.specs.Oriented.{sixIn, unoriented, orientedIn}
 use borrow.Author.Needs.{needs}
 use Rattle.words.proofs.oriented_in.Statement.{statement}
 use Rattle.words.proofs.oriented_in.Tie as tie
 
-whole-is : (o : List ℕ) → length o ≡ 6 → sixIn o ≡ orientedIn o
+whole-is : (o : List ℕ) → length o ≡ orientedWords → sixIn o ≡ orientedIn o
 unfolding orientedIn
-whole-is o h = sym (ap (λ (b : Bool). cond b (sixIn o) unoriented) (eq-eqb (length o) 6 h))
+whole-is o h = sym (ap (λ (b : Bool). cond b (sixIn o) unoriented) (eq-eqb (length o) orientedWords h))
 
-unoriented-is : (o : List ℕ) → (length o ≡ 6 → ⊥) → unoriented ≡ orientedIn o
+unoriented-is : (o : List ℕ) → (length o ≡ orientedWords → ⊥) → unoriented ≡ orientedIn o
 unfolding orientedIn
-unoriented-is o h = sym (ap (λ (b : Bool). cond b (sixIn o) unoriented) (ne-eqb (length o) 6 h))
+unoriented-is o h = sym (ap (λ (b : Bool). cond b (sixIn o) unoriented) (ne-eqb (length o) orientedWords h))
 
 whole-oriented-requires : tie.Need-whole-oriented-requires
 whole-oriented-requires c κs = search needs

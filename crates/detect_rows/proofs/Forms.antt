@@ -1,0 +1,184 @@
+-- What the search leaves of the keypoints that it finds, part for part: how long it is, that it is their words, and that the cells left give their words again.
+-- Assumes nothing.
+use Prim.Native.Nat.{ℕ, zero, suc, _+_, _-_, _*_, _/_, _%_, _<_, _≤_}
+use mathlib.Core.Path.{_≡_, refl, sym, ap, _∙_}
+use mathlib.Core.Bool.{Bool, true, false, cond}
+use mathlib.Core.List.{List, [], _∷_, _++_, append-assoc, append-nil}
+use native.Mathlib.Nat.{le-of-suc-le-suc, le-trans, mul-le-mul}
+use native.Mathlib.Numerals.{add-one}
+use native.Mathlib.Omega.{arith}
+use borrow.Author.Tests.{leb-true}
+use lib.Dec.{leb}
+use lib.ListN.{length, getD, take, set, length-append}
+use lib.Seq.{sets, take-suc, getD-take}
+use lib.Ieee.{Float}
+use Rattle.lists.specs.Each.{Each, none, more}
+use Rattle.lists.specs.Ranges.{joined}
+use Rattle.lists.proofs.Each.{each-append, each-one}
+use Rattle.lists.proofs.Ranges.{joined-bound}
+use Rattle.params.specs.Limits.{border, maxSide}
+use Rattle.picture.specs.declared.Shape.{Shape}
+use Rattle.detect_refine.specs.Keypoint.{refineOf}
+use Rattle.detect_refine.specs.Place.{Searched, Placed}
+use Rattle.detect_refine.specs.declared.Search.{Search}
+use Rattle.detect_refine.specs.declared.RawKeypoint.{RawKeypoint}
+use Rattle.detect_refine.specs.declared.Refined.{Refined}
+use Rattle.detect_refine.specs.declared.Refined.the-variants.{Dropped, At}
+use Rattle.detect_extrema.specs.Neighbours.{tied, candidate}
+use Rattle.detect_extrema.specs.Scan.{kept, cellOf, found, cellsOf, rowOf, keypoints, keypointWords, words, wordsOf}
+use Rattle.detect_extrema.proofs.Rows.{cells-bound}
+use Rattle.detect_rows.specs.Forms.{cellWord, cellAt, leaves, runLeaves, rowLeaves, layerLeaves, again, allAgain, Cells}
+use Rattle.detect_rows.proofs.Words.{Filled, filled-none, words-append, words-none}
+
+-- ---- a relation of two lists, through what they are made of
+module _ {A B : Type 0} (R : List A → List B → Type 0) (start : R [] []) where
+  both-when : (b : Bool) (x : List A) (y : List B) → (b ≡ true → R x y) → R (cond b x []) (cond b y [])
+  both-when true x y f = f refl
+  both-when false x y f = start
+
+  pub both-joined : ((a a' : List A) (b b' : List B) → R a b → R a' b' → R (a ++ a') (b ++ b')) → (lo hi : ℕ) (f : ℕ → List A) (g : ℕ → List B)
+      → ((i : ℕ) → lo ≤ i → i < hi → R (f i) (g i)) → R (joined lo hi f) (joined lo hi g)
+  unfolding joined
+  both-joined on lo zero f g h = start
+  both-joined on lo (suc hi) f g h =
+      both-when (leb lo hi) (joined lo hi f ++ f hi) (joined lo hi g ++ g hi)
+      (λ e. on (joined lo hi f) (f hi) (joined lo hi g) (g hi) (both-joined on lo hi f g (λ i a b. h i a (omega arith))) (h hi (leb-true lo hi e) (omega arith)))
+
+-- ---- what holds of each member of a list holds of the one at a place
+pub each-at : {A : Type 0} {P : A → Type 0} (xs : List A) → Each P xs → (past : A) (i : ℕ) → i < length xs → P (getD xs i past)
+each-at [] none past i l = absurd (omega arith)
+each-at (x ∷ xs) (more p ps) past zero l = p
+each-at (x ∷ xs) (more p ps) past (suc i) l = each-at xs ps past i (le-of-suc-le-suc l)
+
+-- ---- what one cell leaves
+pub leaves-none : (cells : Bool) (r c : ℕ) → leaves cells r c [] ≡ []
+unfolding words
+leaves-none true r c = refl
+leaves-none false r c = refl
+
+pub leaves-one : (r c : ℕ) (k : RawKeypoint) → leaves false r c (k ∷ []) ≡ wordsOf k
+unfolding words
+leaves-one r c k = refl
+
+few-one : (cells : Bool) (r c : ℕ) (k : RawKeypoint) → length (leaves cells r c (k ∷ [])) ≤ keypointWords
+few-one true r c k = omega arith
+few-one false r c k = rw (leaves-one r c k) (omega arith)
+
+module _ (cells : Bool) (r c : ℕ) (x : Refined) (old : List ℕ) (from : ℕ) where
+  pub left-dropped : x ≡ Dropped → Filled old from (leaves cells r c (kept x)) old 0
+  left-dropped e = filled-none old (leaves cells r c (kept x)) from (rw e (leaves-none cells r c))
+
+  pub left-cell : (out : List ℕ) (k : RawKeypoint) (w : ℕ) → cells ≡ true → x ≡ At k → w ≡ cellWord r c → out ≡ set old from w → Filled old from (leaves cells r c (kept x)) out 1
+  left-cell out k w b e v o = rw (b, e) (refl, rw v at o)
+
+  pub left-words : (out : List ℕ) (k : RawKeypoint) → cells ≡ false → x ≡ At k → out ≡ sets old from (wordsOf k) → Filled old from (leaves cells r c (kept x)) out keypointWords
+  left-words out k b e o = rw (b, e, leaves-one r c k) (refl, o)
+
+-- a cell's word is read as that cell
+pub cell-back : (s : Search) (r c : ℕ) → c < maxSide → cellAt s (cellWord r c) ≡ cellOf s r c
+cell-back s r c l =
+    let a : cellWord r c / maxSide ≡ r = omega arith in
+    let b : cellWord r c % maxSide ≡ c = omega arith in
+    rw (a, b)
+
+module _ (d : List Float) (t : Shape) (s : Search) where
+  -- a cell gives nothing, or the keypoint that it is refined to
+  found-cases : (P : List RawKeypoint → Type 0) (r c : ℕ) → P [] → ((k : RawKeypoint) → refineOf d t s (cellOf s r c) ≡ At k → P (k ∷ [])) → P (found tied d t s r c)
+  unfolding found
+  found-cases P r c z f = go (candidate tied (s .threshold) d t (s .layer) r c) (refineOf d t s (cellOf s r c)) refl
+    where
+      go : (b : Bool) (x : Refined) → refineOf d t s (cellOf s r c) ≡ x → P (cond b (kept x) [])
+      go true Dropped e = z
+      go true (At k) e = f k e
+      go false x e = z
+
+  -- ---- a relation of what is left and of the keypoints that it is left of
+  module _ (cells : Bool) (R : List ℕ → List RawKeypoint → Type 0) (start : R [] []) (on : (a a' : List ℕ) (b b' : List RawKeypoint) → R a b → R a' b' → R (a ++ a') (b ++ b')) where
+    abbrev AtCell : ℕ → ℕ → Type 0
+    AtCell r c = (k : RawKeypoint) → refineOf d t s (cellOf s r c) ≡ At k → R (leaves cells r c (k ∷ [])) (k ∷ [])
+
+    pub both-run : (r lo hi : ℕ) → ((c : ℕ) → lo ≤ c → c < hi → AtCell r c) → R (runLeaves cells d t s r lo hi) (cellsOf tied d t s r lo hi)
+    both-run r lo hi at =
+        both-joined R start on lo hi _ _ (λ c a b. found-cases (λ ks. R (leaves cells r c ks) ks) r c (rw (leaves-none cells r c) start) (at c a b))
+
+    pub both-layer : ((r c : ℕ) → border ≤ r → r < t .height - border → border ≤ c → c < t .width - border → AtCell r c) → R (layerLeaves cells d t s) (keypoints tied d t s)
+    unfolding layerLeaves rowLeaves keypoints rowOf
+    both-layer at = both-joined R start on border (t .height - border) _ _ (λ r u b. both-run r border (t .width - border) (λ c l e. at r c u b l e))
+
+  -- ---- how long it is
+  pub cell-bound : (cells : Bool) (r c : ℕ) → length (leaves cells r c (found tied d t s r c)) ≤ keypointWords
+  cell-bound cells r c = found-cases (λ ks. length (leaves cells r c ks) ≤ keypointWords) r c (rw (leaves-none cells r c) (omega arith)) (λ k _. few-one cells r c k)
+
+  run-few : (cells : Bool) (r lo hi : ℕ) → length (runLeaves cells d t s r lo hi) ≤ keypointWords * length (cellsOf tied d t s r lo hi)
+  run-few cells r lo hi =
+      both-run cells (λ ws ks. length ws ≤ keypointWords * length ks) (omega arith) (λ a a' b b' p q. rw (length-append, length-append) (omega arith)) r lo hi
+      (λ c _ _ k _. few-one cells r c k)
+
+  pub run-bound : (cells : Bool) (r lo hi : ℕ) → length (runLeaves cells d t s r lo hi) ≤ keypointWords * (hi - lo)
+  run-bound cells r lo hi = omega (arith, run-few cells r lo hi, cells-bound tied d t s r lo hi)
+
+  pub run-quiet : (cells : Bool) (r lo hi : ℕ) → cellsOf tied d t s r lo hi ≡ [] → runLeaves cells d t s r lo hi ≡ []
+  run-quiet cells r lo hi e = empty (runLeaves cells d t s r lo hi) (omega (arith, run-few cells r lo hi, ap length e))
+    where
+      empty : (l : List ℕ) → length l ≡ 0 → l ≡ []
+      empty [] e = refl
+      empty (x ∷ l) e = absurd (omega arith)
+
+  pub row-bound : (cells : Bool) (r : ℕ) → length (rowLeaves cells d t s r) ≤ keypointWords * (t .width - border - border)
+  unfolding rowLeaves
+  row-bound cells r = run-bound cells r border (t .width - border)
+
+  -- few enough to number
+  pub rows-few : (cells : Bool) (lo hi : ℕ) → hi ≤ maxSide → t .width ≤ maxSide → length (joined lo hi (λ r. rowLeaves cells d t s r)) ≤ maxSide * (keypointWords * maxSide)
+  rows-few cells lo hi a b =
+      le-trans (joined-bound (keypointWords * (t .width - border - border)) lo hi (λ r. rowLeaves cells d t s r) (row-bound cells))
+      (mul-le-mul {n₁ = hi - lo} {m₁ = keypointWords * (t .width - border - border)} {n₂ = maxSide} {m₂ = keypointWords * maxSide} (omega arith) (omega arith))
+
+  -- ---- the words that a layer leaves are those of its keypoints
+  pub layer-left : layerLeaves false d t s ≡ words (keypoints tied d t s)
+  layer-left =
+      both-layer false (λ ws ks. ws ≡ words ks) (sym words-none) (λ a a' b b' p q. rw (p, q) (sym (words-append b b'))) (λ r c _ _ _ _ k _. refl)
+
+  -- ---- the cells that it leaves are as many as its keypoints, and give their words again
+  pub layer-count : length (layerLeaves true d t s) ≡ length (keypoints tied d t s)
+  layer-count =
+      both-layer true (λ ws ks. length ws ≡ length ks) refl (λ a a' b b' p q. rw (length-append, length-append, p, q)) (λ r c _ _ _ _ k _. refl)
+
+  pub again-none : allAgain d t s [] ≡ []
+  unfolding allAgain
+  again-none = refl
+
+  again-one : (w : ℕ) → allAgain d t s (w ∷ []) ≡ again d t s w
+  unfolding allAgain
+  again-one w = append-nil (again d t s w)
+
+  again-append : (a b : List ℕ) → allAgain d t s (a ++ b) ≡ allAgain d t s a ++ allAgain d t s b
+  unfolding allAgain
+  again-append [] b = refl
+  again-append (w ∷ a) b = rw (again-append a b, append-assoc)
+
+  pub again-more : (ws : List ℕ) (i : ℕ) → i < length ws → allAgain d t s (take (i + 1) ws) ≡ allAgain d t s (take i ws) ++ again d t s (getD ws i 0)
+  again-more ws i l = rw (add-one, take-suc ws i 0 l, again-append, again-one)
+
+  pub again-bound : (w : ℕ) → length (again d t s w) ≤ keypointWords
+  unfolding words
+  again-bound w = go (refineOf d t s (cellAt s w))
+    where
+      go : (x : Refined) → length (words (kept x)) ≤ keypointWords
+      go Dropped = omega arith
+      go (At k) = omega arith
+
+  module _ (len : ℕ) (q : Searched len t s) where
+    pub layer-again : allAgain d t s (layerLeaves true d t s) ≡ words (keypoints tied d t s)
+    layer-again =
+        both-layer true (λ ws ks. allAgain d t s ws ≡ words ks) (again-none ∙ sym words-none) (λ a a' b b' p q. rw (again-append, p, q) (sym (words-append b b')))
+        (λ r c _ _ _ l k e. again-one (cellWord r c) ∙ rw (cell-back s r c (omega (arith, q .wide)), e))
+
+    layer-cells : Each (λ w. Placed t (s .settings .layers) (cellAt s w)) (layerLeaves true d t s)
+    layer-cells =
+        both-layer true (λ ws _. Each (λ w. Placed t (s .settings .layers) (cellAt s w)) ws) none (λ a a' b b' p q. each-append p q)
+        (λ r c u b l e k _. each-one (rw (cell-back s r c (omega (arith, q .wide))) (record { first = q .first; last = q .last; top = u; bottom = b; start = l; end = e })))
+
+    pub held-cells : (hold : List ℕ) (k : ℕ) → k ≡ length (layerLeaves true d t s) → take k hold ≡ layerLeaves true d t s → Cells t s k hold
+    held-cells hold k n e i l =
+        rw (← getD-take k hold i 0 l, e) (each-at (layerLeaves true d t s) layer-cells 0 i (omega arith))

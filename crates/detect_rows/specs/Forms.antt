@@ -1,0 +1,51 @@
+-- Inner: what the search leaves of the keypoints that it finds, their words or the cells where they began; no part of a public contract. Definitions only.
+use Prim.Native.Nat.{ℕ, _+_, _-_, _*_, _/_, _%_, _<_}
+use mathlib.Core.Bool.{Bool, true, false}
+use mathlib.Core.List.{List, [], _∷_, _++_, map}
+use lib.ListN.{getD}
+use lib.Ieee.{Float}
+use Rattle.lists.specs.Ranges.{joined}
+use Rattle.params.specs.Limits.{border, maxSide}
+use Rattle.picture.specs.declared.Shape.{Shape}
+use Rattle.detect_refine.specs.Keypoint.{refineOf}
+use Rattle.detect_refine.specs.Place.{Placed}
+use Rattle.detect_refine.specs.declared.Cell.{Cell}
+use Rattle.detect_refine.specs.declared.Search.{Search}
+use Rattle.detect_refine.specs.declared.RawKeypoint.{RawKeypoint}
+use Rattle.detect_extrema.specs.Neighbours.{tied}
+use Rattle.detect_extrema.specs.Scan.{kept, cellOf, found, words}
+
+-- a cell of the layer as one word, and back
+abbrev pub cellWord : ℕ → ℕ → ℕ
+cellWord r c = r * maxSide + c
+
+abbrev pub cellAt : Search → ℕ → Cell
+cellAt s w = cellOf s (w / maxSide) (w % maxSide)
+
+-- what the keypoints found at row r, column c, leave: the word of that cell for each, or their words
+abbrev pub leaves : Bool → ℕ → ℕ → List RawKeypoint → List ℕ
+leaves true r c ks = map (λ _. cellWord r c) ks
+leaves false r c ks = words ks
+
+-- what the cells of a row from column lo to below hi leave
+abbrev pub runLeaves : Bool → List Float → Shape → Search → ℕ → ℕ → ℕ → List ℕ
+runLeaves cells d t s r lo hi = joined lo hi (λ c. leaves cells r c (found tied d t s r c))
+
+-- the cells of a row, and of all rows, that are at least the border from the edges
+unfoldable pub rowLeaves : Bool → List Float → Shape → Search → ℕ → List ℕ
+rowLeaves cells d t s r = runLeaves cells d t s r border (t .width - border)
+
+unfoldable pub layerLeaves : Bool → List Float → Shape → Search → List ℕ
+layerLeaves cells d t s = joined border (t .height - border) (λ r. rowLeaves cells d t s r)
+
+-- what the cell of a word gives where it is refined again, as words; and the cells of a list of words, one after the other
+abbrev pub again : List Float → Shape → Search → ℕ → List ℕ
+again d t s w = words (kept (refineOf d t s (cellAt s w)))
+
+unfoldable pub allAgain : List Float → Shape → Search → List ℕ → List ℕ
+allAgain d t s [] = []
+allAgain d t s (w ∷ ws) = again d t s w ++ allAgain d t s ws
+
+-- each of the first k words is that of a cell at least the border from the edges
+abbrev pub Cells : Shape → Search → ℕ → List ℕ → Type 0
+Cells t s k ws = (i : ℕ) → i < k → Placed t (s .settings .layers) (cellAt s (getD ws i 0))

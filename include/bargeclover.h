@@ -33,7 +33,7 @@
  *
  * Stack, in bytes, that a call takes at most on x86-64, what memcpy and memset take not counted. A test measures it:
  *
- *   find_extrema: 86016
+ *   find_extrema: 12288
  *   compute_descriptor: 5120
  *   assign_orientations: 3072
  *   exp2, exp: 1536

@@ -7,7 +7,7 @@ use mathlib.Core.List.{List, [], _∷_, _++_}
 use native.Mathlib.Nat.{eq-or-lt-of-le, le-of-suc-le-suc}
 use native.Mathlib.Numerals.{add-one}
 use native.Mathlib.Omega.{arith}
-use lib.ListN.{length, getD, set, length-append, List·getD-append}
+use lib.ListN.{length, getD, set, replicate, length-append, length-replicate, List·getD-append}
 use lib.Seq.{sets, getD-append-seam}
 use lib.Ieee.{Float}
 use Rattle.lists.proofs.Naturals.{le-or-lt}
@@ -19,7 +19,8 @@ use Rattle.picture.specs.declared.Shape.{Shape}
 use Rattle.detect_refine.specs.declared.Search.{Search}
 use Rattle.detect_extrema.specs.Neighbours.{tied, loud}
 use Rattle.detect_extrema.specs.Scan.{cellsOf}
-use Rattle.detect_extrema.specs.Hints.{hintAt, anyLoud, looks, Marked}
+use Rattle.detect_extrema.specs.Hints.{hintAt, anyLoud, looks}
+use Rattle.detect_extrema.specs.Place.{block}
 use Rattle.detect_extrema.specs.declared.Run.{Run}
 use Rattle.detect_extrema.proofs.Cells.{found-quiet}
 use Rattle.detect_extrema.proofs.Hints.{blank, not-yes}
@@ -102,9 +103,12 @@ module _ (d : List Float) (t : Shape) (s : Search) (r lo : ℕ) where
       (sets-append (joined lo c (λ c. hintAt (s .threshold) d t (s .layer) r c ∷ [])) (hintAt (s .threshold) d t (s .layer) r c ∷ []) old 0)
 
 -- what is read of them
-pub marks-read : (d : List Float) (t : Shape) (s : Search) (u : Run) (old marks : List Bool) → u .hi - u .lo ≤ length old → marks ≡ sets old 0 (looks d t s (u .row) (u .lo) (u .hi)) → Marked d t s u marks
+pub marks-read : (d : List Float) (t : Shape) (s : Search) (u : Run) (marks : List Bool) → u .hi ≤ u .lo + block → marks ≡ sets (replicate block false) 0 (looks d t s (u .row) (u .lo) (u .hi))
+    → (c : ℕ) → u .lo ≤ c → c < u .hi → getD marks (c - u .lo) false ≡ hintAt (s .threshold) d t (s .layer) (u .row) c
 unfolding looks
-marks-read d t s u old marks room e c a b =
+marks-read d t s u marks room e c a b =
+    let old = replicate block false in
+    let n : length old ≡ block = length-replicate block false in
     let look = hintAt (s .threshold) d t (s .layer) (u .row) in
     let m = ones-length look (u .lo) (u .hi) in
     rw (e, sets-front old (joined (u .lo) (u .hi) (λ c. look c ∷ [])) (omega (arith, m)))

@@ -1,17 +1,14 @@
 -- Inner: a first look at a cell, which every candidate passes. It decides nothing, and spares the search among all neighbours for most cells; no part of a public contract.
 -- Definitions only.
-use Prim.Native.Nat.{ℕ, _+_, _-_, _<_, _≤_}
-use mathlib.Core.Path.{_≡_}
-use mathlib.Core.Bool.{Bool, false, _&&_, not}
+use Prim.Native.Nat.{ℕ, _+_, _-_}
+use mathlib.Core.Bool.{Bool, _&&_, not}
 use mathlib.Core.List.{List, [], _∷_}
-use lib.ListN.{getD}
 use lib.Ieee.{Float}
 use Rattle.lists.specs.Ranges.{every, joined}
 use Rattle.picture.specs.Stack.{sample}
 use Rattle.picture.specs.declared.Shape.{Shape}
 use Rattle.detect_refine.specs.declared.Search.{Search}
 use Rattle.detect_extrema.specs.Neighbours.{tied, keepsOver, loud}
-use Rattle.detect_extrema.specs.declared.Run.{Run}
 
 -- the cell (p, r, c) is loud, and not beaten to the left or right, above or below, in the plane before or after
 unfoldable pub hintAt : Float → List Float → Shape → ℕ → ℕ → ℕ → Bool
@@ -29,7 +26,3 @@ anyLoud d t s r lo hi = not (every (hi - lo) (λ i. not (loud (s .threshold) (sa
 -- the first look at these cells, from left to right
 unfoldable pub looks : List Float → Shape → Search → ℕ → ℕ → ℕ → List Bool
 looks d t s r lo hi = joined lo hi (λ c. hintAt (s .threshold) d t (s .layer) r c ∷ [])
-
--- what is read of marks: those of a run's cells
-abbrev pub Marked : List Float → Shape → Search → Run → List Bool → Type 0
-Marked d t s u marks = (c : ℕ) → u .lo ≤ c → c < u .hi → getD marks (c - u .lo) false ≡ hintAt (s .threshold) d t (s .layer) (u .row) c

@@ -1,7 +1,9 @@
 // The cells of one layer of a stack of difference planes: a first look at them, the search among a cell's neighbours, and what a cell gives.
 
 ghost use mathlib.Core.Path.{_≡_};
-ghost use lib.ListN.{length};
+ghost use mathlib.Core.Bool.{false};
+ghost use lib.ListN.{length, replicate};
+ghost use lib.Seq.{sets};
 ghost use Rattle.ieee.specs.F32.{_<ᶠ_};
 ghost use Rattle.ieee.specs.Numbers.{nought};
 ghost use Rattle.picture.specs.Stack.{sample};
@@ -9,15 +11,12 @@ ghost use Rattle.detect_fit.specs.Place.{Around};
 ghost use Rattle.detect_refine.specs.Place.{Searched, Placed};
 ghost use Rattle.detect_extrema.specs.Neighbours.{tied, keepsAs, centre, isExtremum, loud};
 ghost use Rattle.detect_extrema.specs.Scan.{kept, cellOf, found};
-ghost use Rattle.detect_extrema.specs.Hints.{hintAt, anyLoud, Marked};
-ghost use Rattle.detect_extrema.specs.Place.{Along};
+ghost use Rattle.detect_extrema.specs.Hints.{hintAt, anyLoud, looks};
+ghost use Rattle.detect_extrema.specs.Place.{block, Along};
 use detect_refine::Cell;
 use detect_refine::Refined;
 use detect_refine::Search;
 use picture::Shape;
-
-// Cells this near to an edge are not searched.
-pub const BORDER: usize = 5;
 
 // So many cells of a row are looked at before the first of them is searched. Their samples and marks stay in the processor's nearest memory, and where none of so many
 // is loud, which is the rule in a calm frame, no mark is made. Any number above 0 would do.
@@ -144,11 +143,11 @@ pub fn any_loud(dog: &[f32], t: Shape, s: Search, u: Run) -> bool
     any
 }
 
-// Takes the first look at a run's cells.
+// Takes the first look at a run's cells. The marks past its end are false.
 pub fn mark(dog: &[f32], t: Shape, s: Search, u: Run) -> [bool; BLOCK]
     requires { ⌜ Searched (length (now dog)) t s ⌝ }
     requires { ⌜ Along t u ⌝ }
-    ensures { λ marks. ⌜ Marked (now (dog .entry)) t s u marks ⌝ }
+    ensures { λ marks. ⌜ marks ≡ sets (replicate block false) 0 (looks (now (dog .entry)) t s (u .row) (u .lo) (u .hi)) ⌝ }
 {
     let mut marks = [false; BLOCK];
     for c in u.lo..u.hi {

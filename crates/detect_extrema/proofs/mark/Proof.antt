@@ -7,7 +7,7 @@ use lib.ListN.{length, length-set}
 use lib.Seq.{sets}
 use Rattle.detect_extrema.specs.Hints.{looks}
 use Rattle.detect_extrema.specs.Place.{block}
-use Rattle.detect_extrema.proofs.Looks.{marks-none, marks-more, marks-read}
+use Rattle.detect_extrema.proofs.Looks.{marks-none, marks-more}
 use Rattle.detect_extrema.proofs.mark.Statement.{statement}
 use Rattle.detect_extrema.proofs.mark.Tie as tie
 
@@ -46,7 +46,7 @@ returns c =
     let l = c .before .loop in
     let a = c .before .before .before .args in
     let e : l .c ≡ a .u .hi = omega arith in
-    marks-read _ _ _ (a .u) _ _ (omega (arith, l .inv .5)) (rw e at (l .inv .3))
+    rw e at (l .inv .3)
 
 pub mark-spec : {M : Type 1} → statement M
 mark-spec =

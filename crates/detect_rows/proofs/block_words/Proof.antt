@@ -10,7 +10,7 @@ use Rattle.lists.proofs.Ranges.{joined-start}
 use Rattle.detect_extrema.specs.Neighbours.{tied}
 use Rattle.detect_extrema.specs.Scan.{found, keypointWords}
 use Rattle.detect_extrema.proofs.Hints.{not-yes}
-use Rattle.detect_extrema.proofs.Looks.{quiet-cells}
+use Rattle.detect_extrema.proofs.Looks.{quiet-cells, marks-read}
 use Rattle.detect_rows.specs.Forms.{leaves, runLeaves}
 use Rattle.detect_rows.proofs.Words.{Filled, filled-none, filled-part}
 use Rattle.detect_rows.proofs.Forms.{cell-bound, run-bound, run-quiet}
@@ -55,7 +55,8 @@ array-read-seen c = search needs
 seen-requires : tie.Need-seen-requires Inv-loop μ-loop
 seen-requires c κs =
     let l = c .before .before .loop in
-    (search needs, (search needs, c .before .before .before .mark .ensures (l .c) (l .inv .0) (omega arith)))
+    let a = c .before .before .before .before .before .before .before .before .args in
+    (search needs, (search needs, marks-read (now (a .dog)) (a .t) (a .s) (a .u) _ (omega arith) (c .before .before .before .mark .ensures) (l .c) (l .inv .0) (omega arith)))
 
 add-t19 : tie.Need-add-t19 Inv-loop μ-loop
 add-t19 c = omega (arith, bounded (c .before .before .before .before))

@@ -16,7 +16,8 @@ use mathlib.Core.Logic.{_⊎_, inl, inr}
 use Rattle.lists.proofs.Naturals.{le-or-lt}
 use Rattle.ieee.specs.declared.Way.{Way}
 use Rattle.ieee.specs.declared.Way.the-variants.{Zero}
-use Rattle.ieee.specs.Whole.{wholeSize, whole, saturate}
+use Rattle.ieee.specs.Whole.{saturate}
+use Rattle.ieee.specs.Parts.{wholeSize, whole}
 use Rattle.packing.specs.Parts.{Splits}
 use Rattle.ieee.proofs.Wholes.{whole-is, whole-other, size-up, size-down, up-cross}
 use Rattle.ieee.proofs.Flat.{size-le}

@@ -16,7 +16,7 @@ use lib.Ieee.Nearest.{closest, closest-mono}
 use Rattle.lists.proofs.Naturals.{le-or-lt}
 use Rattle.ieee.specs.declared.Way.{Way}
 use Rattle.ieee.specs.declared.Way.the-variants.{Zero, Down, Near}
-use Rattle.ieee.specs.Whole.{wholeSize, beforeCut}
+use Rattle.ieee.specs.Parts.{wholeSize, beforeCut}
 use Rattle.packing.proofs.Half.{closest-is, cmp-lt, cmp-eq, cmp-gt}
 use Rattle.ieee.proofs.Nearby.{even-or-odd}
 use Rattle.ieee.proofs.Wholes.{floor-none, near-none, ceil-one, ceil-zero, ceil-le}

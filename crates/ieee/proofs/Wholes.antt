@@ -16,7 +16,8 @@ use lib.Ieee.Scale.{round-same, finite}
 use Rattle.packing.proofs.Half.{closest-is}
 use Rattle.ieee.specs.declared.Way.{Way}
 use Rattle.ieee.specs.declared.Way.the-variants.{Zero, Down, Near}
-use Rattle.ieee.specs.Whole.{floorSize, wholeSize, whole, floor, roundEven, saturate}
+use Rattle.ieee.specs.Whole.{floorSize, floor, roundEven, saturate}
+use Rattle.ieee.specs.Parts.{wholeSize, whole}
 
 -- (a + (b - 1)) / b is at most t exactly where a is at most t * b
 pub ceil-le : (a b t : ℕ) → 0 < b → a ≤ t * b → (a + (b - 1)) / b ≤ t

@@ -9,12 +9,12 @@ ghost use lib.Ieee.{Float, binary32, binary64, round, ofBits, toSigned};
 ghost use lib.Dec.{T};
 ghost use lib.Ieee.Scale.{finite};
 ghost use lib.Ieee.Positive.{positive};
-ghost use Rattle.ieee.specs.Root.{sqrt, RootOrZero};
+ghost use Rattle.ieee.specs.Root.{sqrt};
 ghost use Rattle.ieee.specs.Operations.{IsFma, IsConverted, IsRoot};
-ghost use Rattle.ieee.specs.Whole.{beforeCut, wholeSize, whole, saturate};
+ghost use Rattle.ieee.specs.Whole.{saturate};
 ghost use Rattle.ieee.specs.F32.{_⊗_, f32, fused, rootOf, narrowed, floorOf, rounded, toI32, bitsOf, absOf};
 ghost use Rattle.ieee.specs.Fused.{fma, convert};
-ghost use Rattle.ieee.specs.Parts.{RoundsOnce, narrowBits, FusedWide};
+ghost use Rattle.ieee.specs.Parts.{RoundsOnce, narrowBits, FusedWide, beforeCut, wholeSize, whole, RootOrZero};
 
 // Neither an infinity nor a NaN (IEEE 754-2019, 5.7.2).
 pub fn is_finite(v: f32) -> bool

@@ -7,7 +7,7 @@ use mathlib.Core.Bool.{Bool, true, false}
 use lib.Pow.{pow-pos}
 use Rattle.ieee.specs.declared.Way.{Way}
 use Rattle.ieee.specs.declared.Way.the-variants.{Zero, Down, Near}
-use Rattle.ieee.specs.Whole.{beforeCut}
+use Rattle.ieee.specs.Parts.{beforeCut}
 use Rattle.ieee.proofs.Flat.{one-shift, twice-less}
 use Rattle.ieee.proofs.before_cut.Statement.{statement}
 use Rattle.ieee.proofs.before_cut.Tie as tie

@@ -4,7 +4,7 @@ use mathlib.Core.Path.{_≡_, refl, sym, ap, _∙_, subst}
 use Prim.Native.Nat.{ℕ, _+_, _-_, _*_, _/_, _%_, _^_, _≤_, _<_, min}
 use native.Mathlib.Omega.{arith}
 use lib.Pow.{pow-pos}
-use Rattle.ieee.specs.Whole.{wholeSize}
+use Rattle.ieee.specs.Parts.{wholeSize}
 use Rattle.ieee.proofs.Flat.{size-stop, size-sum, size-le, cut-le, power-lt}
 use Rattle.ieee.proofs.whole_size.Statement.{statement}
 use Rattle.ieee.proofs.whole_size.Tie as tie

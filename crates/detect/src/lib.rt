@@ -15,7 +15,7 @@ ghost use Rattle.detect_extrema.specs.Scan.{keypoints, keypointWords, words};
 ghost use Rattle.detect_rows.specs.Forms.{layerLeaves};
 ghost use Rattle.detect.specs.Entry.{faultOf, extremaAnswer, extremaOut};
 ghost use Rattle.detect.specs.Room.{roomAnswer};
-use detect_extrema::BORDER;
+use detect_refine::BORDER;
 use detect_refine::Search;
 use detect_rows::Place;
 use detect_rows::WORDS;

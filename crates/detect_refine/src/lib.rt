@@ -62,7 +62,7 @@ pub enum Refined {
 }
 
 // Cells this near to an edge are not searched.
-const BORDER: usize = 5;
+pub const BORDER: usize = 5;
 
 // A candidate that is not settled after so many moves is dropped.
 const MAX_MOVES: u32 = 5;

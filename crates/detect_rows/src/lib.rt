@@ -14,13 +14,11 @@ use detect_refine::Cell;
 use detect_refine::RawKeypoint;
 use detect_refine::Refined;
 use detect_refine::Search;
+use params::MAX_SIDE;
 use picture::Shape;
 
 // A keypoint goes out as so many words.
 pub const WORDS: usize = 10;
-
-// No side is longer. A cell's row times this, and its column, make one word.
-const MAX_SIDE: usize = 8192;
 
 // Where the search writes: from the place `from` on, and of each keypoint that it finds one word, that of the cell where it began, or else its ten words.
 pub struct Place {
@@ -68,7 +66,7 @@ fn put(out: &mut [u32], at: usize, k: RawKeypoint)
     copy(&row, WORDS, out, at);
 }
 
-// A cell as one word.
+// A cell as one word: no column is as large as the longest side.
 fn cell_word(r: usize, c: usize) -> u32
     requires { ⌜ (r < maxSide) × (c < maxSide) ⌝ }
     ensures { λ w. ⌜ w ≡ cellWord r c ⌝ }
@@ -143,9 +141,9 @@ pub fn row_words(dog: &[f32], t: Shape, s: Search, r: usize, p: Place, out: &mut
     ensures { λ n. ⌜ n ≡ length (rowLeaves (p .cells) (now (dog .entry)) t s r) ⌝ }
     ensures { λ n. ⌜ now (out .exit) ≡ sets (now (out .entry)) (p .from) (rowLeaves (p .cells) (now (dog .entry)) t s r) ⌝ }
 {
-    let end = t.width - detect_extrema::BORDER;
+    let end = t.width - detect_refine::BORDER;
     let mut n: usize = 0;
-    let mut c = detect_extrema::BORDER;
+    let mut c = detect_refine::BORDER;
     while c < end {
         let to = block_end(c, end);
         n += block_words(

@@ -32,7 +32,8 @@ pub enum Threshold {
     Refused(u32),
 }
 
-const MAX_SIDE: usize = 8192;
+// The longest side.
+pub const MAX_SIDE: usize = 8192;
 
 const MAX_LAYERS: usize = 15;
 

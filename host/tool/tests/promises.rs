@@ -105,12 +105,16 @@ fn specs() -> Vec<String> {
     all
 }
 
+/// What stands under the last heading: the table of all pages of definitions.
+fn last_table(page: &str) -> &str {
+    let heading = "\n## What a reader has to believe\n";
+    page.split_once(heading).unwrap().1
+}
+
 #[test]
 fn every_page_of_definitions_is_placed_once() {
     let page = page();
-    let (_, last) = page
-        .split_once("\n## What a reader has to believe\n")
-        .unwrap();
+    let last = last_table(&page);
     let placed: Vec<&str> = links(last).into_iter().map(|(_, target)| target).collect();
     let specs = specs();
     assert!(specs.len() > 80, "{}", specs.len());
@@ -135,9 +139,7 @@ fn kind(target: &str) -> usize {
 #[test]
 fn the_table_says_of_each_page_what_its_first_line_says() {
     let page = page();
-    let (_, last) = page
-        .split_once("\n## What a reader has to believe\n")
-        .unwrap();
+    let last = last_table(&page);
     let mut seen = 0;
     for row in last.lines().filter(|l| l.starts_with("| `")) {
         let cells: Vec<&str> = row.split('|').skip(2).take(3).collect();

@@ -1,32 +1,32 @@
 -- Where all that is read is level, each sample has no slope; and four neighbours are read for each sample. Assumes nothing.
 use Prim.Native.Nat.{ℕ, zero, suc, _+_, _-_, _*_, _<_, _≤_}
 use mathlib.Core.Path.{_≡_, refl, sym, ap, _∙_, subst}
-use mathlib.Core.Bool.{Bool, true, false, cond}
-use mathlib.Core.Logic.{_⊎_, ⊎-elim}
+use mathlib.Core.Bool.{Bool, true, cond}
+use mathlib.Core.Logic.{⊎-elim}
 use mathlib.Core.List.{List, [], _∷_, _++_}
 use native.Mathlib.Nat.{eq-or-lt-of-le, le-of-suc-le-suc}
 use native.Mathlib.Numerals.{add-one}
 use native.Mathlib.Omega.{arith}
-use lib.Dec.{leb}
 use lib.ListN.{length, length-append, List·getD-append}
 use lib.Seq.{getD-append-add}
 use lib.IntN.{pos, _-ℤ_}
-use lib.Ieee.{Float, nan, ofBits, neg, le}
+use lib.Ieee.{Float, binary32, nan, ofBits, neg, le}
 use lib.Ieee.Scale.{finite}
 use Rattle.lists.proofs.Bools.{and-both}
 use Rattle.ieee.specs.F32.{_=ᶠ_}
 use Rattle.ieee.specs.Numbers.{nought}
 use Rattle.ieee_laws.proofs.Monotone.{nil}
+use Rattle.ieee_laws.proofs.Level.{sub-level}
 use Rattle.ieee_laws.proofs.Bounds.{bounds-finite}
 use Rattle.lists.specs.Ranges.{joined}
 use Rattle.lists.proofs.Ranges.{joined-more}
+use Rattle.lists.proofs.Both.{both-when, both-joined}
 use Rattle.params.specs.Limits.{sampleLimit}
 use Rattle.params.specs.Table.{goodSample, allGood}
 use Rattle.picture.specs.Picture.{pixel, slopeAt, fourAt, firstIn, pastIn}
 use Rattle.descriptor_patch.specs.Patch.{endsOf, inRun, gridAt, usedAt, sampleAt, overCells, samplesOf, readsOf}
 use Rattle.descriptor_patch.specs.Rules.{Used}
 use Rattle.descriptor_patch.specs.declared.Patch.{Patch}
-use Rattle.descriptor_laws.proofs.Parts.{sub-level}
 use Rattle.descriptor.specs.Nothing.{Level}
 
 -- ---- a part of what is level is level
@@ -86,20 +86,19 @@ module _ (img : List Float) (t : Patch) where
       let a = and-both (goodSample (pixel img w r (c + 1))) _ g in
       let b = and-both (goodSample (pixel img w r (c - 1))) _ (a .1) in
       let d = and-both (goodSample (pixel img w (r - 1) c)) _ (b .1) in
-      (rw nought-is (sub-level (pixel img w r (c + 1)) (pixel img w r (c - 1)) (good-finite _ (a .0)) (f 0 1 (omega arith) (omega arith))), rw nought-is (sub-level (pixel img w (r - 1) c) (pixel img w (r + 1) c) (good-finite _ (d .0)) (f 2 3 (omega arith) (omega arith))))
+      (rw nought-is (sub-level binary32 (pixel img w r (c + 1)) (pixel img w r (c - 1)) (good-finite _ (a .0)) (f 0 1 (omega arith) (omega arith))), rw nought-is (sub-level binary32 (pixel img w (r - 1) c) (pixel img w (r + 1) c) (good-finite _ (d .0)) (f 2 3 (omega arith) (omega arith))))
 
 -- ---- four for one
+-- two lists of which the first is four times as long
 module _ {A B : Type 0} where
-  four-where : (b : Bool) (x : List A) (y : List B) → length x ≡ 4 * length y → length (cond b x []) ≡ 4 * length (cond b y [])
-  four-where true x y e = e
-  four-where false x y e = refl
+  abbrev FourFor : List A → List B → Type 0
+  FourFor x y = length x ≡ 4 * length y
 
-  four-joined : (lo hi : ℕ) (f : ℕ → List A) (g : ℕ → List B) → ((i : ℕ) → length (f i) ≡ 4 * length (g i)) → length (joined lo hi f) ≡ 4 * length (joined lo hi g)
-  unfolding joined
-  four-joined lo zero f g e = refl
-  four-joined lo (suc hi) f g e = four-where (leb lo hi) (joined lo hi f ++ f hi) (joined lo hi g ++ g hi) (simp length-append (omega (arith, four-joined lo hi f g e, e hi)))
+  four-append : (a a' : List A) (b b' : List B) → FourFor a b → FourFor a' b' → FourFor (a ++ a') (b ++ b')
+  four-append a a' b b' p q = simp length-append (omega (arith, p, q))
 
 pub read : (img : List Float) (t : Patch) → length (readsOf img t) ≡ 4 * length (samplesOf img t)
 unfolding readsOf samplesOf overCells fourAt
 read img t =
-    four-joined _ _ _ _ (λ r. four-joined _ _ _ _ (λ c. four-where (usedAt t r c) (fourAt img (t .size .width) r c) (sampleAt img t r c ∷ []) refl))
+    both-joined FourFor refl four-append _ _ _ _
+    (λ r _ _. both-joined FourFor refl four-append _ _ _ _ (λ c _ _. both-when FourFor refl (usedAt t r c) (fourAt img (t .size .width) r c) (sampleAt img t r c ∷ []) (λ _. refl)))

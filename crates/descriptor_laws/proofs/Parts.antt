@@ -1,27 +1,23 @@
 -- A share m, from 0 to some top, split by a factor from 0 to 1: both parts lie in 0 to that top. Assumes nothing.
-use Prim.Native.Nat.{ℕ, _+_, _*_, _-_, _<_}
+use Prim.Native.Nat.{_*_}
 use mathlib.Core.Path.{_≡_, refl, subst}
-use mathlib.Core.Bool.{Bool, true, false, not, _&&_, false≢true}
-use native.Mathlib.Nat.{mul-one, mul-pos}
-use native.Mathlib.Omega.{arith}
-use borrow.Author.Tests.{le-ltb, eqb-true}
-use lib.Dec.{T, ltb, eqb}
-use lib.IntN.{pos}
-use lib.Ieee.{Float, nan, inf, fin, binary32, up, down, sum, level, ofBits, neg, add, sub, mul, eq, le, fits}
-use lib.Ieee.Fits.{down-pos, mul-fits, sub-fits}
+use mathlib.Core.Bool.{true, false, false≢true}
+use native.Mathlib.Nat.{mul-one}
+use lib.Dec.{T}
+use lib.Ieee.{Float, nan, inf, fin, binary32, up, down, ofBits, mul, le, fits}
+use lib.Ieee.Fits.{mul-fits, sub-fits}
 use lib.Ieee.Scale.{finite}
-use Rattle.lists.proofs.Bools.{and-both}
-use Rattle.ieee.specs.F32.{_⊖_, _⊗_, _=ᶠ_}
+use Rattle.ieee.specs.F32.{_⊖_, _⊗_}
 use Rattle.ieee.specs.Numbers.{one}
-use Rattle.ieee.proofs.SignedParts.{round-zero}
 use Rattle.ieee.proofs.Meaning.{round-held}
 use Rattle.ieee_laws.proofs.Order.{le-trans-float}
 use Rattle.ieee_laws.proofs.Monotone.{nil, mul-le, sub-le}
+use Rattle.ieee_laws.proofs.Level.{sub-same}
 use Rattle.ieee_laws.proofs.Bounds.{Bounds, bounds-point, bounds-finite, bounds-wider, sub-bounds, mul-bounds}
 use Rattle.descriptor_grid.specs.Grid.{sharesOf}
 use Rattle.descriptor_laws.specs.GridRules.{Eight}
 
--- ---- m × 1 is m, and m − m is +0
+-- ---- m × 1 is m
 
 mul-same : (m : Float) → T (fits binary32 m) → finite m ≡ true → m ⊗ one ≡ m
 unfolding ofBits mul
@@ -29,54 +25,6 @@ mul-same nan f h = absurd (false≢true h)
 mul-same (inf s) f h = absurd (false≢true h)
 mul-same (fin true m e) f h = rw (mul-one (m * up e), mul-one (down e)) (round-held binary32 true m e f)
 mul-same (fin false m e) f h = rw (mul-one (m * up e), mul-one (down e)) (round-held binary32 false m e f)
-
-pub sub-same : (m : Float) → finite m ≡ true → m ⊖ m ≡ nil
-unfolding sub add neg sum
-sub-same nan h = absurd (false≢true h)
-sub-same (inf s) h = absurd (false≢true h)
-sub-same (fin true m e) h =
-    let a = m * up e * down e in
-    let z : ltb (m * up e * down e) (m * up e * down e) ≡ false = le-ltb a a (omega arith) in
-    rw z (round-zero binary32 false (a - a) (down e * down e) (mul-pos (down-pos e) (down-pos e)) (omega arith))
-sub-same (fin false m e) h =
-    let a = m * up e * down e in
-    let z : ltb (m * up e * down e) (m * up e * down e) ≡ false = le-ltb a a (omega arith) in
-    rw z (round-zero binary32 false (a - a) (down e * down e) (mul-pos (down-pos e) (down-pos e)) (omega arith))
-
--- ---- two that are equal as numbers differ by a zero, of either sign
-
-zero-level : (s : Bool) → (fin s 0 (pos 0) =ᶠ nil) ≡ true
-unfolding eq
-zero-level true = refl
-zero-level false = refl
-
--- ±x / c less ±y / c, where the two are level
-level-sum : (s t : Bool) (x y c : ℕ) → 0 < c → level s x t y ≡ true → (sum binary32 s x (not t) y c =ᶠ nil) ≡ true
-unfolding sum
-level-sum true true x y c C q =
-    let e = eqb-true x y (and-both (eqb x y) true q .0) in
-    rw (le-ltb x y (omega arith), round-zero binary32 (ltb y x) (x - y) c C (omega arith)) (zero-level (ltb y x))
-level-sum false false x y c C q =
-    let e = eqb-true x y (and-both (eqb x y) true q .0) in
-    rw (le-ltb x y (omega arith), round-zero binary32 false (x - y) c C (omega arith)) (zero-level false)
-level-sum true false x y c C q =
-    let b = and-both (eqb x y) (eqb x 0) q in
-    let e = eqb-true x y (b .0) in
-    let z = eqb-true x 0 (b .1) in
-    rw (round-zero binary32 true (x + y) c C (omega arith)) (zero-level true)
-level-sum false true x y c C q =
-    let b = and-both (eqb x y) (eqb x 0) q in
-    let e = eqb-true x y (b .0) in
-    let z = eqb-true x 0 (b .1) in
-    rw (round-zero binary32 false (x + y) c C (omega arith)) (zero-level false)
-
-pub sub-level : (a b : Float) → finite a ≡ true → (a =ᶠ b) ≡ true → (a ⊖ b =ᶠ nil) ≡ true
-unfolding sub add neg eq
-sub-level nan b h q = absurd (false≢true h)
-sub-level (inf s) b h q = absurd (false≢true h)
-sub-level (fin s m e) nan h q = absurd (false≢true q)
-sub-level (fin s m e) (inf t) h q = absurd (false≢true q)
-sub-level (fin s m e) (fin t n d) h q = level-sum s t (m * up e * down d) (n * up d * down e) (down e * down d) (mul-pos (down-pos e) (down-pos d)) q
 
 -- ---- a part, and a split of it
 
@@ -113,7 +61,7 @@ module _ {top m b : Float} (t : Top top) (p : Part top m) (u : Bounds nil one b)
 
   rest-low : le nil (m ⊖ m ⊗ b) ≡ true
   rest-low =
-      subst (λ (x : Float). le x (m ⊖ m ⊗ b) ≡ true) (sub-same m here)
+      subst (λ (x : Float). le x (m ⊖ m ⊗ b) ≡ true) (sub-same binary32 m here)
       (sub-le binary32 m m m (m ⊗ b) here here here (bounds-finite product-bounds) self product-le)
 
   rest-high : le (m ⊖ m ⊗ b) top ≡ true

@@ -21,7 +21,7 @@ use Rattle.detect_refine.proofs.Settled.{few-moves}
 use Rattle.detect_refine.proofs.Sounds.{refine-sound}
 use Rattle.detect_extrema.specs.Neighbours.{tied, candidate}
 use Rattle.detect_extrema.specs.Scan.{kept, cellOf, found, rowOf, keypoints}
-use Rattle.detect_rows.proofs.Forms.{each-at}
+use Rattle.lists.proofs.Each.{each-at}
 use Rattle.detect.specs.Rules.{DetectRule}
 use Rattle.detect.proofs.Faults.{Right, right}
 use Rattle.detect.proofs.Few.{few-cells}
@@ -44,7 +44,7 @@ module _ (P : RawKeypoint → Type 0) (d : List Float) (t : Shape) (s : Search) 
       each-when (candidate tied (s .threshold) d t (s .layer) r c) _ (λ _. of-kept r c u b l e _ refl)))
 
   of-each : (past : RawKeypoint) (i : ℕ) → i < length (keypoints tied d t s) → P (getD (keypoints tied d t s) i past)
-  of-each past i l = each-at (keypoints tied d t s) of-list past i l
+  of-each past i l = each-at of-list past i l
 
 -- ---- every keypoint is sound
 sound-at : (d : List Float) (t : Shape) (layer octave : ℕ) (s : Settings) → Right d t layer octave s → Held (Sound (t .width) (t .height) s octave) d t (searchOf layer octave s)

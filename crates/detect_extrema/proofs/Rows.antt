@@ -3,13 +3,13 @@ use Prim.Native.Nat.{ℕ, _-_, _*_, _≤_}
 use mathlib.Core.Path.{_≡_}
 use mathlib.Core.Bool.{Bool, true, false, cond}
 use mathlib.Core.List.{List, []}
-use native.Mathlib.Nat.{mul-le-mul, mul-one, le-trans}
+use native.Mathlib.Nat.{mul-one}
 use native.Mathlib.Omega.{arith}
 use lib.ListN.{length}
 use lib.Ieee.{Float}
 use Rattle.lists.specs.Ranges.{joined}
 use Rattle.lists.proofs.Ranges.{joined-none, joined-empty, joined-bound}
-use Rattle.params.specs.Limits.{border, maxSide}
+use Rattle.params.specs.Limits.{border}
 use Rattle.picture.specs.declared.Shape.{Shape}
 use Rattle.detect_refine.specs.Keypoint.{refineOf}
 use Rattle.detect_refine.specs.declared.Search.{Search}
@@ -44,12 +44,6 @@ module _ (rule : Rule) (d : List Float) (t : Shape) (s : Search) where
   -- the rows up to one
   pub rows-bound : (lo hi : ℕ) → length (joined lo hi (λ r. rowOf rule d t s r)) ≤ (hi - lo) * (t .width - border - border)
   rows-bound lo hi = joined-bound (t .width - border - border) lo hi (λ r. rowOf rule d t s r) (λ r. row-bound r)
-
-  -- that is few enough to number their words
-  pub rows-few : (lo hi : ℕ) → hi ≤ maxSide → t .width ≤ maxSide → length (joined lo hi (λ r. rowOf rule d t s r)) ≤ maxSide * maxSide
-  rows-few lo hi a b =
-      le-trans (rows-bound lo hi)
-      (mul-le-mul {n₁ = hi - lo} {m₁ = t .width - border - border} {n₂ = maxSide} {m₂ = maxSide} (omega arith) (omega arith))
 
   -- a picture too small for the border
   pub few-rows : t .height ≤ 2 * border → keypoints rule d t s ≡ []

@@ -18,7 +18,7 @@ use Rattle.hal.proofs.Range.{ge-of, le-of}
 use Rattle.hal.proofs.ExpLaws.{exp2-within}
 use Rattle.lists.specs.Ranges.{every}
 use Rattle.params.specs.Limits.{maxLayers}
-use Rattle.detect_refine.proofs.Counts.{each}
+use Rattle.lists.proofs.Every.{every-all}
 
 -- 1.5
 abbrev pub most : Float
@@ -55,7 +55,7 @@ passed i t =
     }
 
 layers-at : (n i : ℕ) → n ≡ suc i → i < maxLayers → Layers n
-layers-at n i e h = rw e (passed i (each maxLayers layerTest layers-pass i h))
+layers-at n i e h = rw e (passed i (every-all maxLayers layerTest layers-pass i h))
 
 layers-each : (n : ℕ) → 1 ≤ n → n ≤ maxLayers → Layers n
 layers-each n a b = layers-at n (n - 1) (omega arith) (omega arith)

@@ -1,5 +1,5 @@
 -- Position and size of a keypoint: finite and above zero, for each octave. Assumes nothing.
-use Prim.Native.Nat.{ℕ, _+_, _*_, _^_, _<_, _≤_}
+use Prim.Native.Nat.{ℕ, _+_, _*_, _^_, _≤_}
 use mathlib.Core.Path.{_≡_, refl}
 use mathlib.Core.Bool.{Bool, true, false, _&&_}
 use native.Mathlib.Omega.{arith}
@@ -14,7 +14,7 @@ use Rattle.ieee_laws.proofs.Monotone.{nil}
 use Rattle.ieee_laws.proofs.Bounds.{Bounds, bounds-finite, bounds-above, add-bounds, mul-bounds, mul-bounds-by, ofInt-bounds, abs-bounds}
 use Rattle.lists.specs.Ranges.{every}
 use Rattle.params.specs.Limits.{border, maxSide, maxOctave}
-use Rattle.detect_refine.proofs.Counts.{each}
+use Rattle.lists.proofs.Every.{every-all}
 
 -- the least and the largest position in the octave's own cells, 4.5 and 8192.5; and the least and the largest half size there, 0.5 and 64
 abbrev nearest : Float
@@ -78,7 +78,7 @@ passed o t =
     }
 
 octave : (o : ℕ) → o ≤ maxOctave → Octave o
-octave o h = passed o (each (maxOctave + 1) octaveTest octaves-pass o (omega arith))
+octave o h = passed o (every-all (maxOctave + 1) octaveTest octaves-pass o (omega arith))
 
 nought-is : nought ≡ nil
 unfolding ofBits

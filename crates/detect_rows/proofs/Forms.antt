@@ -1,20 +1,19 @@
 -- What the search leaves of the keypoints that it finds, part for part: how long it is, that it is their words, and that the cells left give their words again.
 -- Assumes nothing.
-use Prim.Native.Nat.{ℕ, zero, suc, _+_, _-_, _*_, _/_, _%_, _<_, _≤_}
+use Prim.Native.Nat.{ℕ, _+_, _-_, _*_, _/_, _%_, _<_, _≤_}
 use mathlib.Core.Path.{_≡_, refl, sym, ap, _∙_}
 use mathlib.Core.Bool.{Bool, true, false, cond}
 use mathlib.Core.List.{List, [], _∷_, _++_, append-assoc, append-nil}
-use native.Mathlib.Nat.{le-of-suc-le-suc, le-trans, mul-le-mul}
+use native.Mathlib.Nat.{le-trans, mul-le-mul}
 use native.Mathlib.Numerals.{add-one}
 use native.Mathlib.Omega.{arith}
-use borrow.Author.Tests.{leb-true}
-use lib.Dec.{leb}
 use lib.ListN.{length, getD, take, set, length-append}
 use lib.Seq.{sets, take-suc, getD-take}
 use lib.Ieee.{Float}
-use Rattle.lists.specs.Each.{Each, none, more}
+use Rattle.lists.specs.Each.{Each, none}
 use Rattle.lists.specs.Ranges.{joined}
-use Rattle.lists.proofs.Each.{each-append, each-one}
+use Rattle.lists.proofs.Each.{each-append, each-one, each-at}
+use Rattle.lists.proofs.Both.{both-joined}
 use Rattle.lists.proofs.Ranges.{joined-bound}
 use Rattle.params.specs.Limits.{border, maxSide}
 use Rattle.picture.specs.declared.Shape.{Shape}
@@ -29,26 +28,6 @@ use Rattle.detect_extrema.specs.Scan.{kept, cellOf, found, cellsOf, rowOf, keyp
 use Rattle.detect_extrema.proofs.Rows.{cells-bound}
 use Rattle.detect_rows.specs.Forms.{cellWord, cellAt, leaves, runLeaves, rowLeaves, layerLeaves, again, allAgain, Cells}
 use Rattle.detect_rows.proofs.Words.{Filled, filled-none, words-append, words-none}
-
--- ---- a relation of two lists, through what they are made of
-module _ {A B : Type 0} (R : List A → List B → Type 0) (start : R [] []) where
-  both-when : (b : Bool) (x : List A) (y : List B) → (b ≡ true → R x y) → R (cond b x []) (cond b y [])
-  both-when true x y f = f refl
-  both-when false x y f = start
-
-  pub both-joined : ((a a' : List A) (b b' : List B) → R a b → R a' b' → R (a ++ a') (b ++ b')) → (lo hi : ℕ) (f : ℕ → List A) (g : ℕ → List B)
-      → ((i : ℕ) → lo ≤ i → i < hi → R (f i) (g i)) → R (joined lo hi f) (joined lo hi g)
-  unfolding joined
-  both-joined on lo zero f g h = start
-  both-joined on lo (suc hi) f g h =
-      both-when (leb lo hi) (joined lo hi f ++ f hi) (joined lo hi g ++ g hi)
-      (λ e. on (joined lo hi f) (f hi) (joined lo hi g) (g hi) (both-joined on lo hi f g (λ i a b. h i a (omega arith))) (h hi (leb-true lo hi e) (omega arith)))
-
--- ---- what holds of each member of a list holds of the one at a place
-pub each-at : {A : Type 0} {P : A → Type 0} (xs : List A) → Each P xs → (past : A) (i : ℕ) → i < length xs → P (getD xs i past)
-each-at [] none past i l = absurd (omega arith)
-each-at (x ∷ xs) (more p ps) past zero l = p
-each-at (x ∷ xs) (more p ps) past (suc i) l = each-at xs ps past i (le-of-suc-le-suc l)
 
 -- ---- what one cell leaves
 pub leaves-none : (cells : Bool) (r c : ℕ) → leaves cells r c [] ≡ []
@@ -181,4 +160,4 @@ module _ (d : List Float) (t : Shape) (s : Search) where
 
     pub held-cells : (hold : List ℕ) (k : ℕ) → k ≡ length (layerLeaves true d t s) → take k hold ≡ layerLeaves true d t s → Cells t s k hold
     held-cells hold k n e i l =
-        rw (← getD-take k hold i 0 l, e) (each-at (layerLeaves true d t s) layer-cells 0 i (omega arith))
+        rw (← getD-take k hold i 0 l, e) (each-at layer-cells 0 i (omega arith))

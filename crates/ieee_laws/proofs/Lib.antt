@@ -4,6 +4,8 @@ pub mod TurnedOps
 pub mod Order
 pub mod Monotone
 pub mod Bounds
+pub mod Level
+pub mod Wholes
 pub mod Floors
 pub mod Paths
 pub mod Unique

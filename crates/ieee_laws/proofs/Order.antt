@@ -1,6 +1,6 @@
 -- The order of floats: it is that of the fractions that they stand for, with their signs; it is total and transitive but for a not-a-number; and rounding keeps it.
 -- For both formats. Assumes nothing.
-use Prim.Native.Nat.{ℕ, zero, suc, _+_, _-_, _*_, _^_, _<_, _≤_}
+use Prim.Native.Nat.{ℕ, zero, suc, _+_, _*_, _^_, _<_, _≤_}
 use mathlib.Core.Path.{_≡_, refl, sym, _∙_}
 use mathlib.Core.Bool.{Bool, true, false, not, _&&_, _||_, cond, true≢false, false≢true}
 use mathlib.Core.Logic.{_⊎_, inl, inr, ⊎-elim}
@@ -13,7 +13,7 @@ use lib.Ieee.{Float, nan, inf, fin, Format, prec, emax, low, up, down, odd, unit
 use lib.Ieee.Fits.{down-pos}
 use lib.Ieee.Bits.{is-true}
 use lib.Ieee.Order.{round-mono}
-use Rattle.lists.proofs.Bools.{and-left, and-right, both-and, or-right}
+use Rattle.lists.proofs.Bools.{and-left, and-right, both-and, or-right, or-cases}
 use Rattle.ieee_laws.specs.Sign.{turned}
 use Rattle.ieee.proofs.SignedParts.{round-zero, plus, minus, plus-mul, minus-mul}
 use Rattle.ieee_laws.proofs.Turned.{round-turned, le-turned, lt-turned, neg-opp}
@@ -26,10 +26,6 @@ pub record Less (s : Bool) (a c : ℕ) (t : Bool) (b d : ℕ) : Type 0 where
   pub cross : plus s a * d + minus t b * c < plus t b * c + minus s a * d
 
 -- ---- the tests of `lib.Ieee` are this order
-
-or-cases : (a b : Bool) → (a || b) ≡ true → (a ≡ true) ⊎ (b ≡ true)
-or-cases true b h = inl refl
-or-cases false b h = inr h
 
 test-le : (s t : Bool) (x y : ℕ) → (below s x t y || level s x t y) ≡ true → plus s x + minus t y ≤ plus t y + minus s x
 test-le false false x y h = ⊎-elim (λ l. let k = ltb-true x y l in omega arith) (λ l. let k = eqb-true x y (and-left (eqb x y) true l) in omega arith) (or-cases (ltb x y) (eqb x y && true) h)

@@ -1,6 +1,7 @@
 -- Small laws of `&&`, `||` and `not`. Assumes nothing.
 use mathlib.Core.Path.{_≡_, refl, subst, sym}
 use mathlib.Core.Bool.{Bool, true, false, _&&_, _||_, not, false≢true}
+use mathlib.Core.Logic.{_⊎_, inl, inr}
 use lib.Dec.{T}
 
 pub and-true : (a : Bool) → (a && true) ≡ a
@@ -38,6 +39,10 @@ or-true false = refl
 pub or-right : (a b : Bool) → b ≡ true → (a || b) ≡ true
 or-right true b h = refl
 or-right false b h = h
+
+pub or-cases : (a b : Bool) → (a || b) ≡ true → (a ≡ true) ⊎ (b ≡ true)
+or-cases true b h = inl refl
+or-cases false b h = inr h
 
 pub not-not : (a : Bool) → not (not a) ≡ a
 not-not true = refl

@@ -4,3 +4,4 @@ pub mod Ranges
 pub mod Pasted
 pub mod Every
 pub mod Each
+pub mod Both

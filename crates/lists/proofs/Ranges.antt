@@ -1,15 +1,15 @@
 -- Laws of joined lists and of runs of stores. Assumes nothing.
-use Prim.Native.Nat.{ℕ, zero, suc, _+_, _-_, _*_, _<_, _≤_, zero-le, suc-le-suc}
-use mathlib.Core.Path.{_≡_, refl, sym, ap, subst, _∙_}
+use Prim.Native.Nat.{ℕ, zero, suc, _+_, _-_, _*_, _<_, _≤_}
+use mathlib.Core.Path.{_≡_, refl, _∙_}
 use mathlib.Core.Bool.{Bool, true, false, cond}
-use mathlib.Core.Logic.{_⊎_, inl, inr, ⊎-elim}
+use mathlib.Core.Logic.{⊎-elim}
 use mathlib.Core.List.{List, [], _∷_, _++_, append-assoc, append-nil}
 use native.Mathlib.Nat.{eq-or-lt-of-le, le-of-suc-le-suc, add-zero, suc-mul}
 use native.Mathlib.Numerals.{add-one}
 use native.Mathlib.Omega.{arith}
 use borrow.Author.Tests.{le-leb, lt-leb}
-use lib.ListN.{length, take, drop, set, length-append, length-set}
-use lib.Seq.{sets, sets-eq, length-sets}
+use lib.ListN.{length, drop, set, length-append}
+use lib.Seq.{sets, sets-eq}
 use Rattle.lists.proofs.Naturals.{le-or-lt}
 use Rattle.lists.specs.Ranges.{joined}
 
@@ -70,10 +70,6 @@ module _ {A : Type 0} where
       (let z : hi + 1 - lo ≡ suc (hi - lo) = omega arith in rw (z, suc-mul) (omega (arith, joined-bound m lo hi f e, e hi))))
       (λ h. rw (joined-none lo (suc hi) f h) (omega arith))
       (le-or-lt lo hi)
-
-  -- one more part counted
-  pub counted : (lo hi : ℕ) (f : ℕ → List A) (k k' : ℕ) (v : List A) → lo ≤ hi → f hi ≡ v → k ≡ length (joined lo hi f) → k' ≡ k + length v → k' ≡ length (joined lo (hi + 1) f)
-  counted lo hi f k k' v h e p q = rw (joined-more lo hi f h, length-append, e) (omega arith)
 
 pub sets-append : {A : Type 0} (a b l : List A) (i : ℕ) → sets (sets l i a) (i + length a) b ≡ sets l i (a ++ b)
 sets-append [] b l i = rw add-zero

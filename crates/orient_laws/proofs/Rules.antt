@@ -1,35 +1,32 @@
 -- The law of orientation's angles that specs/Rules.antt states. Assumes nothing.
-use Prim.Native.Nat.{ℕ, zero, suc, _+_, _-_, _*_, _/_, _%_, _^_, _<_, _≤_}
-use mathlib.Core.Path.{_≡_, refl, sym, ap, _∙_, subst}
-use mathlib.Core.Bool.{Bool, true, false, not, _&&_, _||_, Bool·beq, false≢true}
+use Prim.Native.Nat.{ℕ, _+_, _-_, _*_, _/_, _%_, _^_, _<_, _≤_}
+use mathlib.Core.Path.{_≡_, refl, sym, ap, subst}
+use mathlib.Core.Bool.{Bool, true, false, not, _&&_}
 use mathlib.Core.List.{List, [], _∷_, map}
-use mathlib.Core.Logic.{_⊎_, inl, inr, ⊎-elim}
 use native.Mathlib.Omega.{arith}
-use native.Mathlib.Nat.{zero-mul, mul-pos, mul-right-comm, eq-of-mul-eq-mul-right}
-use borrow.Author.Tests.{eqb-true, not-false, le-ltb}
-use lib.Dec.{T, eqb, lit≤}
+use borrow.Author.Tests.{eqb-true, not-false}
+use lib.Dec.{T, lit≤}
 use lib.ListN.{length, getD, List·getD-map}
-use lib.IntN.{ℤ, pos}
-use lib.Ieee.{Float, nan, inf, fin, binary32, up, down, sum, neg, add, sub, lt, le, eq, ofBits}
+use lib.IntN.{pos}
+use lib.Ieee.{Float, nan, inf, fin, binary32, up, down, lt, eq, ofBits}
 use lib.Ieee.Bits.{is-true}
-use lib.Ieee.Fits.{down-pos}
 use lib.Ieee.Scale.{finite}
 use Rattle.lists.proofs.Bools.{and-both, is-T}
 use Rattle.ieee.specs.F32.{_⊖_, _<ᶠ_, _≤ᶠ_, absOf}
 use Rattle.ieee.specs.Numbers.{nought, one}
-use Rattle.ieee.proofs.SignedParts.{round-zero}
 use Rattle.ieee_laws.proofs.Monotone.{nil}
 use Rattle.ieee_laws.proofs.Order.{le-lt-trans, le-trans-float, lt-not-le, Marked, endless, ended}
-use Rattle.ieee_laws.proofs.Bounds.{Bounds, bounds-finite, bounds-point, marked-nonneg}
+use Rattle.ieee_laws.proofs.Bounds.{Bounds, bounds-finite, bounds-point, marked-nonneg, zero-is}
+use Rattle.ieee_laws.proofs.Level.{eq-both, sub-finite, sub-level}
 use Rattle.lists.proofs.Ranges.{joined-empty}
 use Rattle.params.specs.Table.{firstFault, line, shapeWrong, lengthWrong}
 use Rattle.detect_refine.specs.declared.RawKeypoint.{RawKeypoint}
 use Rattle.hal.specs.Angle.{small, inAngle}
 use Rattle.hal.specs.Rules.{In}
-use Rattle.hal.proofs.AngleValues.{null}
+use Rattle.hal.proofs.AngleValues.{small-nan, small-inf}
 use Rattle.hal.proofs.Rules.{exp-rule, magnitude-rule}
-use Rattle.lists.specs.Each.{Each, none, more}
-use Rattle.lists.proofs.Each.{each-one, each-when, each-joined}
+use Rattle.lists.specs.Each.{Each, none}
+use Rattle.lists.proofs.Each.{each-one, each-at, each-when, each-joined}
 use Rattle.picture.specs.Picture.{pixel, slopeAt}
 use Rattle.picture.specs.Place.{Around}
 use Rattle.picture.specs.declared.Size.{Size}
@@ -89,11 +86,6 @@ module _ (b : List Float) (f : Filled brim b) where
       degrees-in (wrapped (crestOf j x y z)) (wrapped-in (crestOf j x y z) (crest-in j x y z l o))
 
 -- ---- all of them
-each-at : {P : Float → Type 0} {l : List Float} → Each P l → (i : ℕ) → i < length l → P (getD l i nan)
-each-at none i h = absurd (omega arith)
-each-at (more p ps) zero h = p
-each-at (more p ps) (suc i) h = each-at ps i (omega arith)
-
 each-peak : (b : List Float) → Filled brim b → (j : ℕ) → j < bins → Each Angle (peakOf (smoothed b) (leastOf (smoothed b)) j)
 unfolding peakOf
 each-peak b f j l =
@@ -124,101 +116,14 @@ module _ (b : List Float) (f : Filled nil b) where
   unfolding anglesOf anglesIn peakOf
   no-angle = joined-empty 0 bins _ (λ j. rw (level-bins (leastOf (smoothed b)) j))
 
-self-zero : (s : Bool) (a c : ℕ) → 0 < c → sum binary32 s a (not s) a c ≡ fin false 0 (pos 0)
-unfolding sum
-self-zero true a c C = rw (le-ltb a a (omega arith)) (round-zero binary32 false (a - a) c C (omega arith))
-self-zero false a c C = rw (le-ltb a a (omega arith)) (round-zero binary32 false (a - a) c C (omega arith))
-
-zero-level : eq nil nought ≡ true
-unfolding ofBits eq
-zero-level = refl
+small-finite : (x : Float) → small (absOf x) ≡ true → finite x ≡ true
+small-finite nan h = absurd (small-nan (is-T _ h))
+small-finite (inf s) h = absurd (small-inf s (is-T _ h))
+small-finite (fin s m e) h = refl
 
 -- two that equal the same number have the difference 0, where it is in the angle's range
-sum-none : (s t : Bool) (c : ℕ) → 0 < c → eq (sum binary32 s 0 t 0 c) nought ≡ true
-unfolding sum eq ofBits
-sum-none true true c C = rw (round-zero binary32 true (0 + 0) c C refl) refl
-sum-none true false c C = rw (round-zero binary32 false (0 - 0) c C refl) refl
-sum-none false true c C = rw (round-zero binary32 false (0 - 0) c C refl) refl
-sum-none false false c C = rw (round-zero binary32 false (0 + 0) c C refl) refl
-
-like : (s t : Bool) → Bool·beq s t ≡ true → s ≡ t
-like true true h = refl
-like true false h = absurd (false≢true h)
-like false true h = absurd (false≢true h)
-like false false h = refl
-
-either : (a b : Bool) → (a || b) ≡ true → (a ≡ true) ⊎ (b ≡ true)
-either true b h = inl refl
-either false b h = inr h
-
-eq-fin : (s : Bool) (m : ℕ) (e : ℤ) (t : Bool) (n : ℕ) (d : ℤ) → eq (fin s m e) (fin t n d) ≡ true → (m * up e * down d ≡ n * up d * down e) × ((s ≡ t) ⊎ (m * up e * down d ≡ 0))
-unfolding eq
-eq-fin s m e t n d h =
-    let p = and-both (eqb (m * up e * down d) (n * up d * down e)) _ h in
-    (eqb-true (m * up e * down d) (n * up d * down e) (p .0), ⊎-elim (λ q. inl (like s t q)) (λ q. inr (eqb-true (m * up e * down d) 0 q)) (either (Bool·beq s t) _ (p .1)))
-
--- a / e, b / d and o / g are one fraction
-module _ (a e b d o g : ℕ) (E : 0 < e) (D : 0 < d) (G : 0 < g) (p : a * g ≡ o * e) (q : b * g ≡ o * d) where
-  same-size : a * d ≡ b * e
-  same-size =
-      eq-of-mul-eq-mul-right g G (a * d) (b * e)
-      (mul-right-comm a d g ∙ ap (λ (z : ℕ). z * d) p ∙ mul-right-comm o e d ∙ ap (λ (z : ℕ). z * e) (sym q) ∙ mul-right-comm b g e)
-
-  none-left : a * g ≡ 0 → (a ≡ 0) × (b ≡ 0)
-  none-left z =
-      let x : a ≡ 0 = null a g G z in
-      let y : o ≡ 0 = null o e E (sym p ∙ z) in
-      (x, null b g G (q ∙ ap (λ (z : ℕ). z * d) y ∙ zero-mul d))
-
-  none-right : b * g ≡ 0 → (a ≡ 0) × (b ≡ 0)
-  none-right z =
-      let y : o ≡ 0 = null o d D (sym q ∙ z) in
-      (null a g G (p ∙ ap (λ (z : ℕ). z * e) y ∙ zero-mul e), null b g G z)
-
-self-sum : (s t u : Bool) (a b c : ℕ) → 0 < c → s ≡ u → t ≡ u → a ≡ b → eq (sum binary32 s a (not t) b c) nought ≡ true
-self-sum s t u a b c C x y e =
-    subst (λ (v : Bool). eq (sum binary32 v a (not t) b c) nought ≡ true) (sym x)
-    (subst (λ (v : Bool). eq (sum binary32 u a (not v) b c) nought ≡ true) (sym y)
-    (subst (λ (n : ℕ). eq (sum binary32 u a (not u) n c) nought ≡ true) e (ap (λ (z : Float). eq z nought) (self-zero u a c C) ∙ zero-level)))
-
-level-sum : (s t u : Bool) (a e b d o g : ℕ) → 0 < e → 0 < d → 0 < g → (a * g ≡ o * e) × ((s ≡ u) ⊎ (a * g ≡ 0)) → (b * g ≡ o * d) × ((t ≡ u) ⊎ (b * g ≡ 0)) → eq (sum binary32 s (a * d) (not t) (b * e) (e * d)) nought ≡ true
-level-sum s t u a e b d o g E D G p q =
-    ⊎-elim
-    (λ x. ⊎-elim
-    (λ y. self-sum s t u (a * d) (b * e) (e * d) (mul-pos E D) x y (same-size a e b d o g E D G (p .0) (q .0)))
-    (λ y. none (none-right a e b d o g E D G (p .0) (q .0) y))
-    (q .1))
-    (λ x. none (none-left a e b d o g E D G (p .0) (q .0) x))
-    (p .1)
-  where
-    none : (a ≡ 0) × (b ≡ 0) → eq (sum binary32 s (a * d) (not t) (b * e) (e * d)) nought ≡ true
-    none z = rw (z .0, z .1, zero-mul d, zero-mul e) (sum-none s (not t) (e * d) (mul-pos E D))
-
-sub-fin : (s : Bool) (m : ℕ) (e : ℤ) (t : Bool) (n : ℕ) (d : ℤ) → fin s m e ⊖ fin t n d ≡ sum binary32 s (m * up e * down d) (not t) (n * up d * down e) (down e * down d)
-unfolding sub neg add
-sub-fin s m e t n d = refl
-
-level-fin : (s : Bool) (m : ℕ) (e : ℤ) (t : Bool) (n : ℕ) (d : ℤ) (u : Bool) (o : ℕ) (g : ℤ) → eq (fin s m e) (fin u o g) ≡ true → eq (fin t n d) (fin u o g) ≡ true → eq (fin s m e ⊖ fin t n d) nought ≡ true
-level-fin s m e t n d u o g p q =
-    rw (sub-fin s m e t n d) (level-sum s t u (m * up e) (down e) (n * up d) (down d) (o * up g) (down g) (down-pos e) (down-pos d) (down-pos g) (eq-fin s m e u o g p) (eq-fin t n d u o g q))
-
 level-pair : (x y v : Float) → small (absOf (x ⊖ y)) ≡ true → eq x v ≡ true → eq y v ≡ true → eq (x ⊖ y) nought ≡ true
-unfolding sub neg add absOf le lt eq ofBits
-level-pair nan y v r p q = absurd (false≢true p)
-level-pair (inf true) nan v r p q = absurd (false≢true q)
-level-pair (inf true) (inf true) v r p q = absurd (false≢true r)
-level-pair (inf true) (inf false) v r p q = absurd (false≢true r)
-level-pair (inf true) (fin t n d) v r p q = absurd (false≢true r)
-level-pair (inf false) nan v r p q = absurd (false≢true q)
-level-pair (inf false) (inf true) v r p q = absurd (false≢true r)
-level-pair (inf false) (inf false) v r p q = absurd (false≢true r)
-level-pair (inf false) (fin t n d) v r p q = absurd (false≢true r)
-level-pair (fin s m e) nan v r p q = absurd (false≢true q)
-level-pair (fin s m e) (inf true) v r p q = absurd (false≢true r)
-level-pair (fin s m e) (inf false) v r p q = absurd (false≢true r)
-level-pair (fin s m e) (fin t n d) nan r p q = absurd (false≢true p)
-level-pair (fin s m e) (fin t n d) (inf u) r p q = absurd (false≢true p)
-level-pair (fin s m e) (fin t n d) (fin u o g) r p q = level-fin s m e t n d u o g p q
+level-pair x y v r p q = rw (zero-is binary32) (sub-level binary32 x y (sub-finite binary32 x y (small-finite (x ⊖ y) r)) (eq-both x y v p q))
 
 -- ---- accepted arguments
 in-bounds : {lo hi r : Float} → finite lo ≡ true → finite hi ≡ true → In lo hi r → Bounds lo hi r
@@ -289,7 +194,7 @@ module _ (img : List Float) (s : Size) (k : RawKeypoint) (fine : orientFault img
   unfolding orientedList anglesAt
   angle i l =
       let e = List·getD-map (orientedOf k) (anglesAt img s k) i nan in
-      subst (λ (o : OrientedKeypoint). Turn (o .angle)) (sym e) (turn-of _ (each-at (each-angle _ filled) i (subst (λ (n : ℕ). i < n) (length-map k (anglesAt img s k)) l)))
+      subst (λ (o : OrientedKeypoint). Turn (o .angle)) (sym e) (turn-of _ (each-at (each-angle _ filled) nan i (subst (λ (n : ℕ). i < n) (length-map k (anglesAt img s k)) l)))
 
   -- ---- nothing rises or falls
   module _ (still : (i j : ℕ) → i < win .rows → j < win .cols → Still (slopeAt img (win .size .width) (win .top + i) (win .left + j))) where

@@ -1,4 +1,4 @@
-use Rattle.detect_refine.proofs.Counts.{held}
+use Rattle.ieee_laws.proofs.Wholes.{held}
 use borrow.Author.Needs.{needs}
 use Rattle.detect_refine.proofs.float.Statement.{statement}
 use Rattle.detect_refine.proofs.float.Tie as tie

@@ -1,5 +1,5 @@
 use native.Mathlib.Omega.{arith}
-use Rattle.detect_refine.proofs.Counts.{held}
+use Rattle.ieee_laws.proofs.Wholes.{held}
 use Rattle.detect_refine.specs.Keypoint.{dim}
 use borrow.Author.Needs.{needs}
 use Rattle.detect_refine.proofs.is_dim.Statement.{statement}

@@ -1,7 +1,8 @@
 use native.Mathlib.Nat.{le-trans}
 use lib.Dec.{lit≤}
 use lib.Pow.{pow-mono}
-use Rattle.detect_refine.proofs.Counts.{held, one-shift}
+use Rattle.ieee_laws.proofs.Wholes.{held}
+use Rattle.detect_refine.proofs.Counts.{one-shift}
 use borrow.Author.Needs.{needs}
 use Rattle.detect_refine.proofs.scale_of.Statement.{statement}
 use Rattle.detect_refine.proofs.scale_of.Tie as tie

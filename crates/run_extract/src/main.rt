@@ -1,7 +1,9 @@
 // From the planes of an octave to a sheet, with no other program at hand: detection, orientation, descriptor, the sheet's writer and its reader, each by the proved entry.
 // The file has 8 planes of 44 rows of 56 samples, by their bits, least significant byte first: the five difference planes, then the Gaussian planes of the layers 1 to 3
 // (data/README.md says how they were made). What is printed: a line for each record as the reader gives it, and the sheet's bytes, the header first and then a record a line.
+ghost use mathlib.Core.Path.{_≡_};
 ghost use Prim.Native.Nat.{_+_, _<_, _≤_};
+ghost use lib.ListN.{length};
 use descriptor::Described;
 use descriptor::Spot;
 use detect_refine::RawKeypoint;
@@ -24,7 +26,7 @@ const PLANES: usize = 5;
 const MOST: usize = 64;
 
 // The lengths of the arrays below:
-//     2,464 = 44 × 56, the samples of a plane; 12,320 = 5 × 2,464, those of the difference planes
+//     2,464 = 44 × 56, the samples of a plane; 12,320 = 5 × 2,464, those of the difference planes; 7,392 = 3 × 2,464, those of the Gaussian planes
 //     320 = 10 × 32, the words of 32 keypoints, the most that a layer's list has room for; 108 = 6 × 18, those of 18 oriented keypoints, the most that a keypoint has
 //     8,832 = 138 × 64, the words of 64 records; 8,896 = 139 × 64, the same as the reader gives them; 9,864 = 8 + 154 × 64, the bytes of their sheet
 
@@ -62,12 +64,12 @@ fn read_differences(fd: i32, counts: &mut [u64; 9]) -> [f32; 12320] {
     planes
 }
 
-fn read_plane(fd: i32, counts: &mut [u64; 9]) -> [f32; 2464] {
-    let mut plane = [0.0f32; 2464];
-    for i in 0..2464 {
-        plane[i] = run_replay::next_float(fd, counts);
+fn read_pictures(fd: i32, counts: &mut [u64; 9]) -> [f32; 7392] {
+    let mut pictures = [0.0f32; 7392];
+    for i in 0..7392 {
+        pictures[i] = run_replay::next_float(fd, counts);
     }
-    plane
+    pictures
 }
 
 // ---- printing
@@ -300,62 +302,65 @@ fn add_on(picture: &[f32], k: RawKeypoint, records: &mut [u32; 8832], written: u
     add_peaks(picture, k, &out, peaks, records, written)
 }
 
+// Which of the three pictures is a layer's.
+fn picture_of(layer: u32) -> usize
+    ensures { λ r. ⌜ r ≤ 2 ⌝ }
+{
+    if layer == 1 {
+        return 0;
+    }
+    if layer == 2 {
+        return 1;
+    }
+    2
+}
+
 // A keypoint's picture is the plane of the layer where it settled, which may be another than the one searched.
-fn add_keypoint<'a>(
-    one: &'a [f32],
-    two: &'a [f32],
-    three: &'a [f32],
+fn add_keypoint(
+    pictures: &[f32],
     k: RawKeypoint,
     records: &mut [u32; 8832],
     written: usize,
 ) -> usize
-    requires { ⌜ written ≤ 64 ⌝ }
+    requires { ⌜ (length (now pictures) ≡ 7392) × (written ≤ 64) ⌝ }
     ensures { λ r. ⌜ r ≤ 64 ⌝ }
 {
-    if k.layer == 1 {
-        return add_on(one, k, records, written);
-    }
-    if k.layer == 2 {
-        return add_on(two, k, records, written);
-    }
-    add_on(three, k, records, written)
+    let from = 2464 * picture_of(k.layer);
+    let to = from + 2464;
+    add_on(&pictures[from..to], k, records, written)
 }
 
-fn add_found<'a>(
-    one: &'a [f32],
-    two: &'a [f32],
-    three: &'a [f32],
+fn add_found(
+    pictures: &[f32],
     found: &[u32; 320],
     count: usize,
     records: &mut [u32; 8832],
     written: usize,
 ) -> usize
-    requires { ⌜ (count ≤ 32) × (written ≤ 64) ⌝ }
+    requires { ⌜ (length (now pictures) ≡ 7392) × (count ≤ 32) × (written ≤ 64) ⌝ }
     ensures { λ r. ⌜ r ≤ 64 ⌝ }
 {
     let mut n = written;
     for i in 0..count {
-        n = add_keypoint(one, two, three, keypoint_at(found, i), records, n);
+        n = add_keypoint(pictures, keypoint_at(found, i), records, n);
     }
     n
 }
 
 // Searches a layer, and adds the records of what is found there.
-fn add_layer<'a>(
-    dog: &'a [f32],
-    one: &'a [f32],
-    two: &'a [f32],
-    three: &'a [f32],
+fn add_layer(
+    dog: &[f32],
+    pictures: &[f32],
     layer: usize,
     records: &mut [u32; 8832],
     written: usize,
 ) -> usize
-    requires { ⌜ written ≤ 64 ⌝ }
+    requires { ⌜ (length (now pictures) ≡ 7392) × (written ≤ 64) ⌝ }
     ensures { λ r. ⌜ r ≤ 64 ⌝ }
 {
     let mut found = [0u32; 320];
     let n = find(dog, layer, &mut found);
-    add_found(one, two, three, &found, n, records, written)
+    add_found(pictures, &found, n, records, written)
 }
 
 // ---- the sheet
@@ -473,11 +478,13 @@ fn show(records: [u32; 8832], count: usize)
 }
 
 // The whole way: the records by the layer searched, in each as detection lists the keypoints and orientation their directions.
-fn extract<'a>(dog: &'a [f32], one: &'a [f32], two: &'a [f32], three: &'a [f32]) {
+fn extract(dog: &[f32], pictures: &[f32])
+    requires { ⌜ length (now pictures) ≡ 7392 ⌝ }
+{
     let mut records = [0u32; 8832];
-    let first = add_layer(dog, one, two, three, 1, &mut records, 0);
-    let second = add_layer(dog, one, two, three, 2, &mut records, first);
-    let third = add_layer(dog, one, two, three, 3, &mut records, second);
+    let first = add_layer(dog, pictures, 1, &mut records, 0);
+    let second = add_layer(dog, pictures, 2, &mut records, first);
+    let third = add_layer(dog, pictures, 3, &mut records, second);
     show(records, third);
 }
 
@@ -490,13 +497,11 @@ fn main() {
     }
     let mut counts = [0u64; 9];
     let dog = read_differences(fd, &mut counts);
-    let one = read_plane(fd, &mut counts);
-    let two = read_plane(fd, &mut counts);
-    let three = read_plane(fd, &mut counts);
+    let pictures = read_pictures(fd, &mut counts);
     libc::close(fd);
     if !run_replay::readable(&counts) {
         print(b"the file is too short\n");
         return;
     }
-    extract(&dog, &one, &two, &three);
+    extract(&dog, &pictures);
 }

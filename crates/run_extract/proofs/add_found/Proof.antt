@@ -4,10 +4,10 @@ use Rattle.run_extract.proofs.add_found.Statement.{statement}
 use Rattle.run_extract.proofs.add_found.Tie as tie
 
 abbrev Inv-loop : tie.InvT-loop
-Inv-loop one two three found count records₀ written n₀ i₀ records n i = (i ≤ count) × (n ≤ 64)
+Inv-loop pictures found count records₀ written n₀ i₀ records n i = (i ≤ count) × (n ≤ 64)
 
 abbrev μ-loop : tie.MeasureT-loop
-μ-loop one two three found count records₀ written n₀ i₀ records n i = count - i
+μ-loop pictures found count records₀ written n₀ i₀ records n i = count - i
 
 loop-holds : tie.Need-loop-holds Inv-loop μ-loop
 loop-holds c = search needs

@@ -1,13 +1,13 @@
 use borrow.Author.Needs.{needs}
 use Prim.Native.Nat.{_-_, _≤_}
-use Rattle.run_extract.proofs.read_plane.Statement.{statement}
-use Rattle.run_extract.proofs.read_plane.Tie as tie
+use Rattle.run_extract.proofs.read_pictures.Statement.{statement}
+use Rattle.run_extract.proofs.read_pictures.Tie as tie
 
 abbrev Inv-loop : tie.InvT-loop
-Inv-loop fd counts₀ plane₀ i₀ counts plane i = i ≤ 2464
+Inv-loop fd counts₀ pictures₀ i₀ counts pictures i = i ≤ 7392
 
 abbrev μ-loop : tie.MeasureT-loop
-μ-loop fd counts₀ plane₀ i₀ counts plane i = 2464 - i
+μ-loop fd counts₀ pictures₀ i₀ counts pictures i = 7392 - i
 
 loop-holds : tie.Need-loop-holds Inv-loop μ-loop
 loop-holds c = search needs
@@ -15,11 +15,11 @@ loop-holds c = search needs
 next-float-requires : tie.Need-next-float-requires Inv-loop μ-loop
 next-float-requires c κs = search needs
 
-mul-plane : tie.Need-mul-plane Inv-loop μ-loop
-mul-plane c = search needs
+mul-pictures : tie.Need-mul-pictures Inv-loop μ-loop
+mul-pictures c = search needs
 
-array-write-plane : tie.Need-array-write-plane Inv-loop μ-loop
-array-write-plane c = search needs
+array-write-pictures : tie.Need-array-write-pictures Inv-loop μ-loop
+array-write-pictures c = search needs
 
 add-i : tie.Need-add-i Inv-loop μ-loop
 add-i c = search needs
@@ -33,16 +33,16 @@ loop-again c = search needs
 returns : tie.Need-returns Inv-loop μ-loop
 returns c = search needs
 
-pub read-plane-spec : {M : Type 1} → statement M
-read-plane-spec =
+pub read-pictures-spec : {M : Type 1} → statement M
+read-pictures-spec =
     tie.close
     (tie.spec
     Inv-loop
     μ-loop
     loop-holds
     next-float-requires
-    mul-plane
-    array-write-plane
+    mul-pictures
+    array-write-pictures
     add-i
     loop-less
     loop-again

@@ -9,12 +9,13 @@ use lib.Seq.{take-suc, take-suc-set, take-all}
 use lib.Ieee.{Float, nan}
 use Rattle.ieee.specs.F32.{bitsOf}
 use Rattle.ieee.specs.Numbers.{nought}
+use Rattle.params.specs.Limits.{valueCount}
 use Rattle.picture.specs.declared.Size.{Size}
 use Rattle.descriptor_patch.specs.Patch.{samplesOf}
 use Rattle.descriptor_patch.specs.declared.Patch.{Patch}
 use Rattle.descriptor_grid.specs.Grid.{gatheredIn, gathered}
 use Rattle.descriptor_values.specs.Places.{places}
-use Rattle.descriptor_values.specs.Values.{values, valuesOf}
+use Rattle.descriptor_values.specs.Values.{valuesOf}
 use Rattle.descriptor.specs.Place.{turnAt}
 use Rattle.descriptor.specs.Entry.{faultOf, valuesAt, wordsAt, describedOf, describedOut}
 use Rattle.descriptor.specs.declared.Spot.{Spot}
@@ -54,18 +55,18 @@ module _ (img : List Float) (s : Size) (p : Spot) where
   out-refused f out e n = rw (← answer-refused f (length out) e n)
 
   module _ (fine : fault ≡ 0) where
-    pub answer-short : (room : ℕ) → (room ≡ values → ⊥) → Short ≡ describedOf img s p room
+    pub answer-short : (room : ℕ) → (room ≡ valueCount → ⊥) → Short ≡ describedOf img s p room
     unfolding describedOf
-    answer-short room n = rw (fine, ne-eqb room values n)
+    answer-short room n = rw (fine, ne-eqb room valueCount n)
 
-    pub out-short : (out : List ℕ) → (length out ≡ values → ⊥) → out ≡ describedOut img s p out
+    pub out-short : (out : List ℕ) → (length out ≡ valueCount → ⊥) → out ≡ describedOut img s p out
     unfolding describedOut
     out-short out n = rw (← answer-short (length out) n)
 
-    pub answer-done : (n room : ℕ) → n ≡ used → room ≡ values → Done n ≡ describedOf img s p room
+    pub answer-done : (n room : ℕ) → n ≡ used → room ≡ valueCount → Done n ≡ describedOf img s p room
     unfolding describedOf
-    answer-done n room e r = rw (fine, eq-eqb room values r, e)
+    answer-done n room e r = rw (fine, eq-eqb room valueCount r, e)
 
-    pub out-done : (n : ℕ) (out new : List ℕ) → n ≡ used → length out ≡ values → new ≡ wordsAt img s p → new ≡ describedOut img s p out
+    pub out-done : (n : ℕ) (out new : List ℕ) → n ≡ used → length out ≡ valueCount → new ≡ wordsAt img s p → new ≡ describedOut img s p out
     unfolding describedOut
     out-done n out new e r v = rw (← answer-done n (length out) e r) v

@@ -11,6 +11,7 @@ use Rattle.ieee.specs.Numbers.{nought}
 use Rattle.hal.specs.Turn.{inTurn}
 use Rattle.picture.specs.declared.Size.{Size}
 use Rattle.lists.specs.Each.{Each}
+use Rattle.params.specs.Limits.{valueCount}
 use Rattle.descriptor_patch.specs.Patch.{sampleAt, samplesOf, readsOf}
 use Rattle.descriptor_patch.specs.Rules.{Used}
 use Rattle.descriptor_patch.proofs.Rules.{each, fair, patch-rule}
@@ -18,7 +19,6 @@ use Rattle.descriptor_patch.specs.declared.Patch.{Patch}
 use Rattle.descriptor_grid.specs.Grid.{gatheredIn, gathered}
 use Rattle.descriptor_laws.specs.GridRules.{Flat}
 use Rattle.descriptor_laws.proofs.GridRules.{grid-rule}
-use Rattle.descriptor_values.specs.Values.{values}
 use Rattle.descriptor_laws.proofs.ValuesRules.{value-rule}
 use Rattle.descriptor.specs.Place.{turnAt}
 use Rattle.descriptor.specs.Entry.{faultOf, valuesAt, wordsAt, usedOf, describedOf, describedOut}
@@ -50,12 +50,12 @@ module _ (img : List Float) (s : Size) (p : Spot) where
   abbrev t : Patch
   t = turnAt s p
 
-  zero-words : valuesAt img s p ≡ replicate values nought → wordsAt img s p ≡ zeros
+  zero-words : valuesAt img s p ≡ replicate valueCount nought → wordsAt img s p ≡ zeros
   unfolding wordsAt
-  zero-words e = rw (e, map-replicate bitsOf values nought, no-bits)
+  zero-words e = rw (e, map-replicate bitsOf valueCount nought, no-bits)
 
   -- ---- no sample
-  none-zeros : length (samplesOf img t) ≡ 0 → valuesAt img s p ≡ replicate values nought
+  none-zeros : length (samplesOf img t) ≡ 0 → valuesAt img s p ≡ replicate valueCount nought
   unfolding valuesAt gathered gatheredIn
   none-zeros e = rw (nil-of (samplesOf img t) e) (value-rule .zeros)
 
@@ -77,12 +77,12 @@ module _ (img : List Float) (s : Size) (p : Spot) where
       flats : Each (Flat (p .angle)) (samplesOf img t)
       flats = each (Flat (p .angle)) img t flat-at
 
-      level-zeros : valuesAt img s p ≡ replicate values nought
+      level-zeros : valuesAt img s p ≡ replicate valueCount nought
       unfolding valuesAt
       level-zeros = rw (grid-rule .flat (p .angle) (samplesOf img t) flats) (value-rule .zeros)
 
     -- ---- what is answered and left
-    module _ (out : List ℕ) (room : length out ≡ values) where
+    module _ (out : List ℕ) (room : length out ≡ valueCount) where
       samples-are : usedOf (describedOf img s p (length out)) ≡ length (samplesOf img t)
       samples-are = ap usedOf (sym (answer-done img s p fine (length (samplesOf img t)) (length out) refl room))
 

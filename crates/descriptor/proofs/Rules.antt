@@ -1,5 +1,5 @@
 -- The laws of the descriptor that specs/Rules.antt states. Assumes nothing.
-use Prim.Native.Nat.{ℕ, _-_, _<_}
+use Prim.Native.Nat.{ℕ, _<_}
 use mathlib.Core.Path.{_≡_}
 use mathlib.Core.Bool.{true, false, _||_}
 use mathlib.Core.List.{List}
@@ -7,6 +7,7 @@ use lib.IntN.{pos}
 use lib.ListN.{getD}
 use lib.Ieee.{Float, nan}
 use Rattle.lists.proofs.Each.{each-weaker}
+use Rattle.params.specs.Limits.{valueCount}
 use Rattle.picture.specs.declared.Size.{Size}
 use Rattle.hal.specs.Turn.{inTurn}
 use Rattle.orient.specs.declared.OrientedKeypoint.{OrientedKeypoint}
@@ -20,7 +21,6 @@ use Rattle.descriptor_patch.specs.declared.Patch.{Patch}
 use Rattle.descriptor_grid.specs.Grid.{gathered}
 use Rattle.descriptor_laws.specs.GridRules.{Counts}
 use Rattle.descriptor_laws.proofs.GridRules.{grid-rule}
-use Rattle.descriptor_values.specs.Values.{values}
 use Rattle.descriptor_laws.specs.ValuesRules.{Byte}
 use Rattle.descriptor_laws.proofs.ValuesRules.{value-rule}
 use Rattle.descriptor.specs.Place.{spotWrong, turnWrong, turnAt}
@@ -49,7 +49,7 @@ module _ (img : List Float) (s : Size) (p : Spot) (fine : faultOf img s p ≡ 0)
   turns : inTurn (p .angle) ≡ true
   turns = in-turn (p .angle) (known .aimed .angled)
 
-  whole : (n : ℕ) → n < values → Byte (getD (valuesAt img s p) n nan)
+  whole : (n : ℕ) → n < valueCount → Byte (getD (valuesAt img s p) n nan)
   unfolding valuesAt
   whole n l =
       value-rule .whole (gathered (p .angle) (samplesOf img t))

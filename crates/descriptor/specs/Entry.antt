@@ -6,12 +6,13 @@ use lib.Dec.{eqb}
 use lib.ListN.{length}
 use lib.Ieee.{Float}
 use Rattle.ieee.specs.F32.{bitsOf}
+use Rattle.params.specs.Limits.{valueCount}
 use Rattle.params.specs.Table.{line, firstFault, shapeWrong, lengthWrong, allGood}
 use Rattle.params.specs.Answers.{onFault}
 use Rattle.picture.specs.declared.Size.{Size}
 use Rattle.descriptor_patch.specs.Patch.{samplesOf, readsOf}
 use Rattle.descriptor_grid.specs.Grid.{gathered}
-use Rattle.descriptor_values.specs.Values.{values, valuesOf}
+use Rattle.descriptor_values.specs.Values.{valuesOf}
 use Rattle.descriptor.specs.Place.{spotWrong, turnWrong, turnAt}
 use Rattle.descriptor.specs.declared.Spot.{Spot}
 use Rattle.descriptor.specs.declared.Described.{Described}
@@ -24,8 +25,8 @@ numberOf Short = 7
 numberOf (Refused k) = k
 
 abbrev pub countOf : Described → ℕ
-countOf (Done n) = values
-countOf Short = values
+countOf (Done n) = valueCount
+countOf Short = valueCount
 countOf (Refused k) = 0
 
 abbrev pub usedOf : Described → ℕ
@@ -47,7 +48,7 @@ faultOf img s p =
 unfoldable pub describedOf : List Float → Size → Spot → ℕ → Described
 describedOf img s p room =
     onFault (faultOf img s p)
-    (cond (eqb room values) (Done (length (samplesOf img (turnAt s p)))) Short)
+    (cond (eqb room valueCount) (Done (length (samplesOf img (turnAt s p)))) Short)
     (Refused (faultOf img s p))
 
 -- the values of a patch that is accepted

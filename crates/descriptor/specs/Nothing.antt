@@ -8,9 +8,9 @@ use mathlib.Core.List.{List, []}
 use lib.ListN.{length, getD, replicate}
 use lib.Ieee.{Float, nan}
 use Rattle.ieee.specs.F32.{_=ᶠ_}
+use Rattle.params.specs.Limits.{valueCount}
 use Rattle.picture.specs.declared.Size.{Size}
 use Rattle.descriptor_patch.specs.Patch.{readsOf}
-use Rattle.descriptor_values.specs.Values.{values}
 use Rattle.descriptor.specs.Place.{turnAt}
 use Rattle.descriptor.specs.declared.Spot.{Spot}
 use Rattle.descriptor.specs.Entry.{faultOf, usedOf, describedOf, describedOut}
@@ -21,7 +21,7 @@ Level l = (i j : ℕ) → i < length l → j < length l → (getD l i nan =ᶠ g
 
 -- 128 times the bits of +0
 abbrev pub zeros : List ℕ
-zeros = replicate values 0
+zeros = replicate valueCount 0
 
 -- a call, and the words lent for it
 module _ (img : List Float) (s : Size) (p : Spot) (out : List ℕ) where
@@ -49,4 +49,4 @@ module _ (img : List Float) (s : Size) (p : Spot) (out : List ℕ) where
 
 pub record NothingRule : Type 0 where
   -- for every call that is accepted, with the 128 places that it asks for
-  pub told : (img : List Float) (s : Size) (p : Spot) (out : List ℕ) → faultOf img s p ≡ 0 → length out ≡ values → Told img s p out
+  pub told : (img : List Float) (s : Size) (p : Spot) (out : List ℕ) → faultOf img s p ≡ 0 → length out ≡ valueCount → Told img s p out

@@ -7,13 +7,13 @@ use lib.IntN.{pos}
 use lib.ListN.{getD}
 use lib.Ieee.{Float, nan}
 use lib.Ieee.Scale.{finite}
+use Rattle.params.specs.Limits.{valueCount}
 use Rattle.picture.specs.declared.Size.{Size}
 use Rattle.orient.specs.declared.OrientedKeypoint.{OrientedKeypoint}
 use Rattle.descriptor_inputs.specs.Inputs.{inputsOf}
 use Rattle.descriptor_inputs.specs.Rules.{Taken}
 use Rattle.descriptor_inputs.specs.declared.Inputs.{Inputs}
 use Rattle.descriptor_patch.specs.Patch.{cellOf}
-use Rattle.descriptor_values.specs.Values.{values}
 use Rattle.descriptor_laws.specs.ValuesRules.{Byte}
 use Rattle.descriptor.specs.Place.{onSide, spotWrong, turnWrong}
 use Rattle.descriptor.specs.Entry.{faultOf, valuesAt}
@@ -32,7 +32,7 @@ pub record Inside (s : Size) (i : Inputs) : Type 0 where
 
 pub record DescriptorRule : Type 0 where
   -- each of the 128 values is a whole number from 0 to 255
-  pub whole : (img : List Float) (s : Size) (p : Spot) → faultOf img s p ≡ 0 → (n : ℕ) → n < values → Byte (getD (valuesAt img s p) n nan)
+  pub whole : (img : List Float) (s : Size) (p : Spot) → faultOf img s p ≡ 0 → (n : ℕ) → n < valueCount → Byte (getD (valuesAt img s p) n nan)
   -- the inputs of an oriented keypoint that orientation gave pass number 5 where the position rounds into the picture
   pub accepted : (s : Size) (octave : ℕ) (o : OrientedKeypoint) → Taken o octave → Inside s (inputsOf o (pos octave))
       → (spotWrong s (spotOf (inputsOf o (pos octave))) || turnWrong (spotOf (inputsOf o (pos octave)))) ≡ false

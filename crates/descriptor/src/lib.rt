@@ -7,9 +7,9 @@ ghost use mathlib.Core.List.{map};
 ghost use Prim.Native.Nat.{_+_, _*_, _<_, _≤_};
 ghost use lib.ListN.{length};
 ghost use Rattle.ieee.specs.F32.{bitsOf};
+ghost use Rattle.params.specs.Limits.{valueCount};
 ghost use Rattle.descriptor_patch.specs.Patch.{samplesOf};
 ghost use Rattle.descriptor_patch.specs.Place.{Lies};
-ghost use Rattle.descriptor_values.specs.Values.{values as wanted};
 ghost use Rattle.descriptor.specs.Place.{onSide, cellAt, spotWrong, turnWrong, turnAt};
 ghost use Rattle.descriptor.specs.Entry.{numberOf, countOf, usedOf, faultOf, wordsAt, describedOf, describedOut};
 ghost use Rattle.descriptor.specs.Accepted.{Aimed, Ready};
@@ -105,7 +105,7 @@ fn fault_of(img: &[f32], s: Size, p: Spot) -> u32
 
 // The bits of all of v, to a list as long.
 fn put(v: &[f32; 128], out: &mut [u32])
-    requires { ⌜ (length (now v) ≡ wanted) × (length (now out) ≡ wanted) ⌝ }
+    requires { ⌜ (length (now v) ≡ valueCount) × (length (now out) ≡ valueCount) ⌝ }
     ensures { λ _. ⌜ now (out .exit) ≡ map bitsOf (now (v .entry)) ⌝ }
 {
     let mut n: usize = 0;
@@ -117,7 +117,7 @@ fn put(v: &[f32; 128], out: &mut [u32])
 
 // The values of the patch by their bits, and the number of its samples.
 fn fill(img: &[f32], s: Size, p: Spot, out: &mut [u32]) -> usize
-    requires { ⌜ Ready (now img) s p × (length (now out) ≡ wanted) ⌝ }
+    requires { ⌜ Ready (now img) s p × (length (now out) ≡ valueCount) ⌝ }
     ensures { λ n. ⌜ n ≡ length (samplesOf (now (img .entry)) (turnAt s p)) ⌝ }
     ensures { λ _. ⌜ now (out .exit) ≡ wordsAt (now (img .entry)) s p ⌝ }
 {

@@ -8,8 +8,9 @@ use lib.ListN.{length, getD, replicate}
 use lib.Ieee.{Float, nan, binary32, ofInt}
 use Rattle.ieee.specs.F32.{_≤ᶠ_, f32, absOf}
 use Rattle.ieee.specs.Numbers.{nought}
+use Rattle.params.specs.Limits.{valueCount}
 use Rattle.descriptor_values.specs.Places.{places}
-use Rattle.descriptor_values.specs.Values.{values, valuesOf}
+use Rattle.descriptor_values.specs.Values.{valuesOf}
 
 -- 2 ^ 46
 abbrev pub most : Float
@@ -28,8 +29,8 @@ pub record Byte (x : Float) : Type 0 where
 
 pub record ValueRule : Type 0 where
   -- 128 of them
-  pub count : (hist : List Float) → length (valuesOf hist) ≡ values
+  pub count : (hist : List Float) → length (valuesOf hist) ≡ valueCount
   -- each a whole number from 0 to 255
-  pub whole : (hist : List Float) → ((i : ℕ) → i < places → Held (getD hist i nan)) → (n : ℕ) → n < values → Byte (getD (valuesOf hist) n nan)
+  pub whole : (hist : List Float) → ((i : ℕ) → i < places → Held (getD hist i nan)) → (n : ℕ) → n < valueCount → Byte (getD (valuesOf hist) n nan)
   -- an empty histogram gives zeros
-  pub zeros : valuesOf (replicate places nought) ≡ replicate values nought
+  pub zeros : valuesOf (replicate places nought) ≡ replicate valueCount nought

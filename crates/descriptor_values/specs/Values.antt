@@ -9,11 +9,8 @@ use Rattle.ieee.specs.F32.{_⊕_, _⊗_, _⊘_, f32, fused, rootOf, rounded}
 use Rattle.ieee.specs.Numbers.{nought, epsilon, topByte}
 use Rattle.lists.specs.Ranges.{joined}
 use Rattle.bounds.specs.Bounds.{maxOf, minOf, clampOf}
+use Rattle.params.specs.Limits.{valueCount}
 use Rattle.descriptor_values.specs.Places.{bins, place}
-
--- the values of a descriptor: 4 × 4 cells of 8 slots
-abbrev pub values : ℕ
-values = 128
 
 -- DESCR_MAG_THR = 0.2, INT_DESCR_FCTR = 512
 abbrev pub clampRatio : Float
@@ -30,7 +27,7 @@ foldedAt h i j k =
 
 -- a list of values, each by its number
 abbrev pub listed : (ℕ → Float) → List Float
-listed f = joined 0 values (λ n. f n ∷ [])
+listed f = joined 0 valueCount (λ n. f n ∷ [])
 
 unfoldable pub rawOf : List Float → List Float
 rawOf h = listed (λ n. foldedAt h (n / 32) (n / 8 % 4) (n % 8))
@@ -58,7 +55,7 @@ plainNorm v (suc n) = plainNorm v n ⊕ at v n ⊗ at v n
 
 -- 512 over the larger of the root and f32 epsilon
 unfoldable pub scaleOf : List Float → Float
-scaleOf v = factor ⊘ maxOf (rootOf (plainNorm v values)) epsilon
+scaleOf v = factor ⊘ maxOf (rootOf (plainNorm v valueCount)) epsilon
 
 -- rounded, and held in 0 to 255 (rule P17)
 unfoldable pub finished : List Float → List Float

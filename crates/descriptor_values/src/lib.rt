@@ -1,11 +1,12 @@
 // From a descriptor's histogram to its 128 values.
 ghost use mathlib.Core.Path.{_≡_};
 ghost use Prim.Native.Nat.{ℕ, _+_, _*_, _/_, _%_, _<_};
-ghost use Rattle.descriptor_values.specs.Values.{values as wanted, foldedAt, rawOf, lane, norm2, clamped, plainNorm, scaleOf, finished, valuesOf};
+ghost use Rattle.params.specs.Limits.{valueCount};
+ghost use Rattle.descriptor_values.specs.Values.{foldedAt, rawOf, lane, norm2, clamped, plainNorm, scaleOf, finished, valuesOf};
 
 // Value n of the inner cells: slot n % 8 of the cell at row n / 32, column n / 8 % 4. The first slot takes the ninth.
 fn folded(hist: &[f32; 360], n: usize) -> f32
-    requires { ⌜ n < wanted ⌝ }
+    requires { ⌜ n < valueCount ⌝ }
     ensures { λ r. ⌜ r ≡ foldedAt (now (hist .entry)) (n / 32) (n / 8 % 4) (n % 8) ⌝ }
 {
     let at = ((n / 32 + 1) * 6 + (n / 8 % 4 + 1)) * 10;
@@ -66,7 +67,7 @@ fn clamp_all(v: &[f32; 128]) -> [f32; 128]
 
 // The sum of the squares, each product and each sum rounded.
 fn plain_sum(v: &[f32; 128]) -> f32
-    ensures { λ r. ⌜ r ≡ plainNorm (now (v .entry)) wanted ⌝ }
+    ensures { λ r. ⌜ r ≡ plainNorm (now (v .entry)) valueCount ⌝ }
 {
     let mut s: f32 = 0.0;
     let mut n: usize = 0;

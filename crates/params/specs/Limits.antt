@@ -24,6 +24,10 @@ border = 5
 abbrev pub maxMoves : ℕ
 maxMoves = 5
 
+-- the values of a descriptor, 4 × 4 cells of 8 slots: so many are written, and so many has a record of the sheet
+abbrev pub valueCount : ℕ
+valueCount = 128
+
 -- 2 ^ 20, the largest magnitude of a sample
 abbrev pub sampleLimit : Float
 sampleLimit = ofBits binary32 0x4980_0000

@@ -15,7 +15,7 @@ use Rattle.ieee.specs.F32.{bitsOf, absOf}
 use Rattle.ieee.specs.Numbers.{nought}
 use Rattle.ieee_laws.proofs.Monotone.{nil}
 use Rattle.ieee_laws.proofs.Bounds.{zero-is}
-use Rattle.params.specs.Limits.{border, maxOctave}
+use Rattle.params.specs.Limits.{border, maxOctave, valueCount}
 use Rattle.params.specs.declared.Settings.{Settings}
 use Rattle.detect_refine.specs.Sound.{Sound, Number}
 use Rattle.detect_refine.specs.declared.RawKeypoint.{RawKeypoint}
@@ -24,7 +24,7 @@ use Rattle.orient.specs.Entry.{orientedOf}
 use Rattle.orient_laws.specs.Rules.{Turn}
 use Rattle.descriptor_laws.specs.ValuesRules.{Byte}
 use Rattle.sheet.specs.Pack.{Slot, slot, sound}
-use Rattle.sheet.specs.Layout.{Frame, edition1, valueCount, valueSlots, headSlots, floatSlots, largestFinite, leastPositive}
+use Rattle.sheet.specs.Layout.{Frame, edition1, valueSlots, headSlots, floatSlots, largestFinite, leastPositive}
 use Rattle.sheet.specs.Sheet.{recordRight}
 use Rattle.sheet.specs.Words.{plainWords, headWords, filled}
 use Rattle.sheet.specs.Writes.{frameOf, wordsRight, layerRight}

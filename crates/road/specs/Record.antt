@@ -5,12 +5,12 @@ use mathlib.Core.List.{List, [], _∷_, _++_, map}
 use lib.ListN.{length, getD}
 use lib.Ieee.{Float, nan, toUnsigned}
 use Rattle.ieee.specs.F32.{bitsOf}
+use Rattle.params.specs.Limits.{valueCount}
 use Rattle.detect_refine.specs.declared.RawKeypoint.{RawKeypoint}
 use Rattle.orient.specs.Keypoint.{octaveIn, layerIn}
 use Rattle.orient.specs.Entry.{orientedOf}
 use Rattle.orient.specs.declared.OrientedKeypoint.{OrientedKeypoint}
 use Rattle.descriptor_laws.specs.ValuesRules.{Byte}
-use Rattle.sheet.specs.Layout.{valueCount}
 
 -- the code is the octave word's third byte, above which nothing stands (rule A12)
 abbrev pub codeIn : ℕ → ℕ

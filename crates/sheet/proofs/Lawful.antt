@@ -7,9 +7,9 @@ use native.Mathlib.Omega.{arith}
 use lib.Dec.{lit<}
 use lib.ListN.{replicate}
 use lib.Pow.{pow-pos, ones-lt}
-use Rattle.params.specs.Limits.{maxLayers}
+use Rattle.params.specs.Limits.{maxLayers, valueCount}
 use Rattle.sheet.specs.Pack.{Slot, slot, bits, sound, Held}
-use Rattle.sheet.specs.Layout.{Layout, Frame, edition1, headerSize, markBits, headerSlots, recordSize, largestAngle, valueCount, valueSlots, recordSlots}
+use Rattle.sheet.specs.Layout.{Layout, Frame, edition1, headerSize, markBits, headerSlots, recordSize, largestAngle, valueSlots, recordSlots}
 use Rattle.sheet.specs.Sheet.{recordRight}
 use Rattle.sheet.specs.Trip.{Lawful}
 use Rattle.sheet.proofs.Packed.{Roomy, held}

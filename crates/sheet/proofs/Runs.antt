@@ -11,9 +11,10 @@ use lib.ListN.{length, getD, take, drop, replicate, length-append, length-take, 
 use lib.Seq.{drop-drop, take-take, take-add, drop-at, take-append-le}
 use Rattle.lists.specs.Pasted.{pasted}
 use Rattle.lists.proofs.Pasted.{length-pasted, pasted-append}
+use Rattle.params.specs.Limits.{valueCount}
 use Rattle.sheet.specs.Pack.{Slot, slot, bits, number, bytes, pack, value, fields, unpack, sound, Held, Bytes}
 use Rattle.sheet.specs.Pack.Held.{none, one}
-use Rattle.sheet.specs.Layout.{Layout, Frame, edition1, headSize, frontSize, largestFinite, leastPositive, largestAngle, headSlots, floatSlots, valueCount, valueSlots, recordSlots}
+use Rattle.sheet.specs.Layout.{Layout, Frame, edition1, headSize, frontSize, largestFinite, leastPositive, largestAngle, headSlots, floatSlots, valueSlots, recordSlots}
 use Rattle.sheet.specs.Sheet.{recordRight}
 use Rattle.sheet.specs.Fields.{headValues, HeadFits}
 use Rattle.sheet.specs.declared.Head.{Head}

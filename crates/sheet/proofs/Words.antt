@@ -7,7 +7,8 @@ use native.Mathlib.Nat.{zero-add, suc-add}
 use native.Mathlib.Omega.{arith}
 use lib.ListN.{length, getD, take, drop, length-append, length-take, length-drop, take-append-drop}
 use lib.Seq.{take-at, drop-at, take-all, take-add, take-nil, drop-drop, drop-cons, drop-append-add, getD-append-add, getD-drop}
-use Rattle.sheet.specs.Layout.{Layout, markBits, valueCount}
+use Rattle.params.specs.Limits.{valueCount}
+use Rattle.sheet.specs.Layout.{Layout, markBits}
 use Rattle.sheet.specs.Words.{plainWords, readWords, headWords, headFields, frontFields, frontWords, takenWords, filled, blankOf, worded, withBlank}
 
 pub drop-take : (k m : ℕ) (l : List ℕ) → drop k (take (k + m) l) ≡ take m (drop k l)

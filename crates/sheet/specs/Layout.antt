@@ -3,7 +3,7 @@ use mathlib.Core.Bool.{Bool, true, false, cond}
 use mathlib.Core.List.{List, [], _∷_, _++_}
 use Prim.Native.Nat.{ℕ, _+_, _-_, _*_, _^_}
 use lib.ListN.{replicate}
-use Rattle.params.specs.Limits.{maxLayers, maxOctave}
+use Rattle.params.specs.Limits.{maxLayers, maxOctave, valueCount}
 use Rattle.sheet.specs.Pack.{Slot, slot}
 
 -- What an edition fixes. A field that an edition leaves out keeps its slot, which then has no bits and no value but 0.
@@ -91,9 +91,6 @@ floatSlots l =
     slot (cond (l .angled) 32 0) 0 (cond (l .angled) largestAngle 0) ∷ []
 
 -- rule S3, the values: a byte each
-abbrev pub valueCount : ℕ
-valueCount = 128
-
 abbrev pub valueSlots : List Slot
 valueSlots = replicate valueCount (slot 8 0 255)
 

@@ -4,7 +4,8 @@ use mathlib.Core.List.{List, [], _∷_, _++_}
 use Prim.Native.Nat.{ℕ, _-_}
 use lib.Dec.{eqb}
 use lib.ListN.{getD, take, drop}
-use Rattle.sheet.specs.Layout.{Layout, valueCount}
+use Rattle.params.specs.Limits.{valueCount}
+use Rattle.sheet.specs.Layout.{Layout}
 
 -- rule S7: the words of a record as the writer takes them, five whole numbers, five floats and 128 values; and as the reader gives them, one more
 abbrev pub plainWords : ℕ

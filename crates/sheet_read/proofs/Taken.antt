@@ -10,11 +10,12 @@ use lib.Dec.{leb, eqb}
 use lib.ListN.{length, set, take, drop, length-append, length-take, length-drop}
 use Rattle.lists.specs.Pasted.{pasted}
 use Rattle.lists.proofs.Pasted.{length-pasted, pasted-append, pasted-one}
+use Rattle.params.specs.Limits.{valueCount}
 use Rattle.params.specs.Table.{line, firstFault}
 use Rattle.params.specs.declared.Answer.{Answer}
 use Rattle.params.specs.declared.Answer.the-variants.{Done, Short, Refused}
 use Rattle.sheet.specs.Pack.{unpack, sound, Bytes}
-use Rattle.sheet.specs.Layout.{Frame, edition1, headerSize, headerSlots, headSize, frontSize, valueCount, headSlots, floatSlots, recordSlots, recordSize}
+use Rattle.sheet.specs.Layout.{Frame, edition1, headerSize, headerSlots, headSize, frontSize, headSlots, floatSlots, recordSlots, recordSize}
 use Rattle.sheet.specs.Sheet.{parts, allPass, recordRight, headerIn, readFrame, readCount, recordsIn, readSheet, bytesRight}
 use Rattle.sheet.specs.Words.{plainWords, readWords, headWords, frontWords, blankOf, worded}
 use Rattle.sheet.specs.Fields.{headerList, headValues, floatValues, anyFrame, bytesFront, bytesWords, recordBytesRight}

@@ -10,13 +10,13 @@ use lib.ListN.{length, getD, take, drop, length-append, length-take, length-drop
 use lib.Seq.{getD-take, getD-drop}
 use Rattle.lists.specs.Pasted.{pasted}
 use Rattle.lists.proofs.Pasted.{pasted-append}
-use Rattle.params.specs.Limits.{maxSide, maxLayers}
+use Rattle.params.specs.Limits.{maxSide, maxLayers, valueCount}
 use Rattle.params.specs.Table.{shapeWrong}
 use Rattle.params.specs.Answers.{landed}
 use Rattle.params.specs.declared.Answer.{Answer}
 use Rattle.params.specs.declared.Answer.the-variants.{Done, Short, Refused}
 use Rattle.sheet.specs.Pack.{bits, bytes, number, pack, sound, Held}
-use Rattle.sheet.specs.Layout.{Frame, edition1, headerSize, maxCount, headerSlots, headerValues, headSize, frontSize, valueCount, headSlots, floatSlots, valueSlots, recordSlots, recordSize}
+use Rattle.sheet.specs.Layout.{Frame, edition1, headerSize, maxCount, headerSlots, headerValues, headSize, frontSize, headSlots, floatSlots, valueSlots, recordSlots, recordSize}
 use Rattle.sheet.specs.Sheet.{parts, allPass, recordRight}
 use Rattle.sheet.specs.Words.{plainWords, headWords, floatWords, frontWords, headFields, filled}
 use Rattle.sheet.specs.Fields.{headValues, HeadFits, anyFrame, wordsBytes}

@@ -5,7 +5,7 @@ use native.Mathlib.Omega.{arith}
 use borrow.Author.Needs.{needs}
 use lib.ListN.{length, take, length-set}
 use Rattle.ieee.specs.F32.{bitsOf}
-use Rattle.descriptor_values.specs.Values.{values}
+use Rattle.params.specs.Limits.{valueCount}
 use Rattle.descriptor.proofs.Answers.{put-more, put-all}
 use Rattle.descriptor.proofs.put.Statement.{statement}
 use Rattle.descriptor.proofs.put.Tie as tie
@@ -13,10 +13,10 @@ use Rattle.descriptor.proofs.put.Reads as reads
 use Rattle.descriptor.proofs.put.Lts as lts
 
 abbrev Inv-loop : tie.InvT-loop
-Inv-loop v out₀ n₀ out n = (n ≤ values) × ((length out ≡ values) × (take n out ≡ take n (map bitsOf v)))
+Inv-loop v out₀ n₀ out n = (n ≤ valueCount) × ((length out ≡ valueCount) × (take n out ≡ take n (map bitsOf v)))
 
 abbrev μ-loop : tie.MeasureT-loop
-μ-loop v out₀ n₀ out n = values - n
+μ-loop v out₀ n₀ out n = valueCount - n
 
 loop-holds : tie.Need-loop-holds Inv-loop μ-loop
 loop-holds c = (omega arith, (c .before .pre .1, refl))

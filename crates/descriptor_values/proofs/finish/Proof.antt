@@ -1,5 +1,5 @@
 -- The array is the finished values up to n, and then what is not filled yet. Assumes nothing.
-use Prim.Native.Nat.{ℕ, _+_, _-_, _≤_}
+use Prim.Native.Nat.{ℕ, _-_, _≤_}
 use mathlib.Core.Path.{_≡_, refl, sym, ap, _∙_}
 use mathlib.Core.List.{List}
 use native.Mathlib.Omega.{arith}
@@ -9,7 +9,7 @@ use lib.ListN.{length, take, length-set}
 use Rattle.ieee.specs.F32.{_⊗_, rounded}
 use Rattle.ieee.specs.Numbers.{nought, topByte}
 use Rattle.bounds.specs.Bounds.{clampOf}
-use Rattle.descriptor_values.specs.Values.{values, at, finished}
+use Rattle.descriptor_values.specs.Values.{at, finished}
 use Rattle.descriptor_values.proofs.Listed.{upTo, start, listed-more, listed-all}
 use Rattle.descriptor_values.proofs.finish.Statement.{statement}
 use Rattle.descriptor_values.proofs.finish.Tie as tie
@@ -17,16 +17,17 @@ use Rattle.descriptor_values.proofs.finish.Reads as reads
 use Rattle.descriptor_values.proofs.finish.Lts as lts
 use Rattle.bounds.proofs.clamp.Reads as clamp-reads
 use Rattle.ieee.proofs.round_ties_even.Reads as round-ties-even-reads
+use Rattle.params.specs.Limits.{valueCount}
 use Rattle.descriptor_values.proofs.scale.Reads as scale-reads
 
 abbrev value : List Float → Float → ℕ → Float
 value v by m = clampOf (rounded (at v m ⊗ by)) nought topByte
 
 abbrev Inv-loop : tie.InvT-loop
-Inv-loop v by u₀ n₀ u n = (n ≤ values) × ((length u ≡ values) × (take n u ≡ upTo (value v by) n))
+Inv-loop v by u₀ n₀ u n = (n ≤ valueCount) × ((length u ≡ valueCount) × (take n u ≡ upTo (value v by) n))
 
 abbrev μ-loop : tie.MeasureT-loop
-μ-loop v by u₀ n₀ u n = values - n
+μ-loop v by u₀ n₀ u n = valueCount - n
 
 -- src/lib.rt:92:9
 scale-requires : tie.Need-scale-requires Inv-loop μ-loop
@@ -88,8 +89,8 @@ unfolding finished
 returns c =
     let v = c .before .before .before .args .v .now in
     let inv = c .before .loop .inv in
-    listed-all (value v (c .before .before .scale .result)) (c .before .loop .u) (c .before .loop .n) values (inv .1 .0) (omega arith) (omega arith) (inv .1 .1)
-    ∙ ap (λ (x : Float). upTo (value v x) values) (c .before .before .scale .ensures)
+    listed-all (value v (c .before .before .scale .result)) (c .before .loop .u) (c .before .loop .n) valueCount (inv .1 .0) (omega arith) (omega arith) (inv .1 .1)
+    ∙ ap (λ (x : Float). upTo (value v x) valueCount) (c .before .before .scale .ensures)
 
 pub finish-spec : {M : Type 1} → statement M
 finish-spec =

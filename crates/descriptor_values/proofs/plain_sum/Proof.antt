@@ -1,11 +1,10 @@
 -- The sum so far is that of the values passed. Assumes nothing.
-use Prim.Native.Nat.{ℕ, _+_, _-_, _*_, _≤_}
-use mathlib.Core.Path.{_≡_, refl, sym, ap, _∙_}
-use native.Mathlib.Numerals.{add-one}
+use Prim.Native.Nat.{_-_, _≤_}
+use mathlib.Core.Path.{_≡_}
 use native.Mathlib.Omega.{arith}
 use borrow.Author.Needs.{needs}
-use lib.Ieee.{ofBits}
-use Rattle.descriptor_values.specs.Values.{values, plainNorm}
+use Rattle.params.specs.Limits.{valueCount}
+use Rattle.descriptor_values.specs.Values.{plainNorm}
 use Rattle.descriptor_values.proofs.Listed.{plain-more}
 use Rattle.descriptor_values.proofs.plain_sum.Statement.{statement}
 use Rattle.descriptor_values.proofs.plain_sum.Tie as tie
@@ -13,10 +12,10 @@ use Rattle.descriptor_values.proofs.plain_sum.Reads as reads
 use Rattle.descriptor_values.proofs.plain_sum.Lts as lts
 
 abbrev Inv-loop : tie.InvT-loop
-Inv-loop v s₀ n₀ s n = (n ≤ values) × (s ≡ plainNorm v n)
+Inv-loop v s₀ n₀ s n = (n ≤ valueCount) × (s ≡ plainNorm v n)
 
 abbrev μ-loop : tie.MeasureT-loop
-μ-loop v s₀ n₀ s n = values - n
+μ-loop v s₀ n₀ s n = valueCount - n
 
 loop-holds : tie.Need-loop-holds Inv-loop μ-loop
 unfolding plainNorm
@@ -38,7 +37,7 @@ loop-again : tie.Need-loop-again Inv-loop μ-loop
 loop-again c = (omega arith, rw plain-more (cc))
 
 returns : tie.Need-returns Inv-loop μ-loop
-returns c = let e : c .before .loop .n ≡ values = omega arith in cc
+returns c = let e : c .before .loop .n ≡ valueCount = omega arith in cc
 
 pub plain-sum-spec : {M : Type 1} → statement M
 plain-sum-spec =

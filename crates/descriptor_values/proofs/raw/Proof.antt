@@ -1,12 +1,13 @@
 -- The array is the values up to n, and then what is not filled yet. Assumes nothing.
-use Prim.Native.Nat.{ℕ, _+_, _-_, _*_, _/_, _%_, _≤_}
-use mathlib.Core.Path.{_≡_, refl, sym, ap, _∙_}
+use Prim.Native.Nat.{ℕ, _-_, _/_, _%_, _≤_}
+use mathlib.Core.Path.{_≡_, refl, sym}
 use native.Mathlib.Omega.{arith}
 use borrow.Author.Needs.{needs}
 use mathlib.Core.List.{List}
 use lib.Ieee.{Float}
 use lib.ListN.{length, take, length-set}
-use Rattle.descriptor_values.specs.Values.{values, foldedAt, rawOf}
+use Rattle.params.specs.Limits.{valueCount}
+use Rattle.descriptor_values.specs.Values.{foldedAt, rawOf}
 use Rattle.descriptor_values.proofs.Listed.{upTo, start, listed-more, listed-all}
 use Rattle.descriptor_values.proofs.raw.Statement.{statement}
 use Rattle.descriptor_values.proofs.raw.Tie as tie
@@ -18,10 +19,10 @@ abbrev value : List Float → ℕ → Float
 value hist m = foldedAt hist (m / 32) (m / 8 % 4) (m % 8)
 
 abbrev Inv-loop : tie.InvT-loop
-Inv-loop hist v₀ n₀ v n = (n ≤ values) × ((length v ≡ values) × (take n v ≡ upTo (value hist) n))
+Inv-loop hist v₀ n₀ v n = (n ≤ valueCount) × ((length v ≡ valueCount) × (take n v ≡ upTo (value hist) n))
 
 abbrev μ-loop : tie.MeasureT-loop
-μ-loop hist v₀ n₀ v n = values - n
+μ-loop hist v₀ n₀ v n = valueCount - n
 
 loop-holds : tie.Need-loop-holds Inv-loop μ-loop
 loop-holds c = (omega arith, (refl, sym (start (value (c .args .hist .now)))))
@@ -47,7 +48,7 @@ loop-again c =
 
 returns : tie.Need-returns Inv-loop μ-loop
 unfolding rawOf
-returns c = listed-all (value (c .before .before .args .hist .now)) (c .before .loop .v) (c .before .loop .n) values (c .before .loop .inv .1 .0) (omega arith) (omega arith) (c .before .loop .inv .1 .1)
+returns c = listed-all (value (c .before .before .args .hist .now)) (c .before .loop .v) (c .before .loop .n) valueCount (c .before .loop .inv .1 .0) (omega arith) (omega arith) (c .before .loop .inv .1 .1)
 
 pub raw-spec : {M : Type 1} → statement M
 raw-spec =

@@ -5,10 +5,11 @@ use native.Mathlib.Omega.{arith}
 use borrow.Author.Needs.{needs}
 use lib.ListN.{take, drop, length-drop}
 use Rattle.sheet.specs.Pack.{bytes}
-use Rattle.sheet.specs.Layout.{frontSize, valueCount}
+use Rattle.sheet.specs.Layout.{frontSize}
 use Rattle.sheet.specs.Words.{allZero}
 use Rattle.sheet.proofs.Steps.{zeros-good, zeros-bad, zeros-end}
 use lib.Seq.{take-all}
+use Rattle.params.specs.Limits.{valueCount}
 use Rattle.sheet_read.proofs.blank_in.Statement.{statement}
 use Rattle.sheet_read.proofs.blank_in.Tie as tie
 

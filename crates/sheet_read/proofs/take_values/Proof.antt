@@ -8,9 +8,10 @@ use lib.ListN.{length, set, take, drop, length-drop}
 use Rattle.lists.specs.Pasted.{pasted}
 use Rattle.lists.proofs.Pasted.{pasted-none}
 use Rattle.sheet.specs.Pack.{bytes}
-use Rattle.sheet.specs.Layout.{frontSize, valueCount}
+use Rattle.sheet.specs.Layout.{frontSize}
 use Rattle.sheet.proofs.Steps.{copy-turn}
 use lib.Seq.{take-all}
+use Rattle.params.specs.Limits.{valueCount}
 use Rattle.sheet_read.proofs.take_values.Statement.{statement}
 use Rattle.sheet_read.proofs.take_values.Tie as tie
 

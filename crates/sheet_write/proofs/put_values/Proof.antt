@@ -6,7 +6,7 @@ use borrow.Author.Needs.{needs}
 use lib.ListN.{length, take, drop}
 use Rattle.lists.specs.Pasted.{pasted}
 use Rattle.lists.proofs.Pasted.{pasted-none}
-use Rattle.sheet.specs.Layout.{valueCount}
+use Rattle.params.specs.Limits.{valueCount}
 use Rattle.sheet.specs.Words.{frontWords}
 use Rattle.sheet.proofs.Steps.{copy-turn}
 use Rattle.sheet_write.proofs.put_values.Statement.{statement}

@@ -3,8 +3,9 @@ use Prim.Native.Nat.{_+_, _-_, _≤_}
 use native.Mathlib.Omega.{arith}
 use borrow.Author.Needs.{needs}
 use lib.ListN.{take, drop, replicate}
+use Rattle.params.specs.Limits.{valueCount}
 use Rattle.sheet.specs.Pack.{slot, sound}
-use Rattle.sheet.specs.Layout.{valueCount, valueSlots}
+use Rattle.sheet.specs.Layout.{valueSlots}
 use Rattle.sheet.specs.Words.{frontWords}
 use Rattle.sheet.proofs.Steps.{values-good, values-bad}
 use Rattle.sheet_write.proofs.values_right.Statement.{statement}

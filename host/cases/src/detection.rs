@@ -168,6 +168,23 @@ pub fn accepted(r: &mut Rng, kind: Kind) -> Case {
     c
 }
 
+/// A square of noise at the settings that the source starts with: some 65 of a thousand cells are keypoints.
+pub fn dense(r: &mut Rng, side: usize) -> Case {
+    let settings = Settings::default();
+    let planes = settings.layers + 2;
+    let mut c = Case {
+        samples: vec![0.0; planes * side * side],
+        width: side,
+        height: side,
+        planes,
+        layer: 2,
+        octave: 0,
+        settings,
+    };
+    c.fill(|_, _, _| 255.0 * r.signed());
+    c
+}
+
 fn blobs(r: &mut Rng, c: &mut Case) {
     let many = r.from_to(1, 8);
     let all: Vec<[f64; 7]> = (0..many)

@@ -2,7 +2,7 @@
 
 use crate::report::Report;
 use bargeclover::entries;
-use cases::detection::{self, BEFORE, Case, Kind, accepted, damage};
+use cases::detection::{self, BEFORE, Case, Kind, accepted, damage, dense};
 use cases::fate::{Fate, fates};
 use cases::{Rng, table};
 
@@ -36,10 +36,45 @@ fn answer(c: &Case, room: usize) -> (u32, usize, Vec<u32>) {
     (number, count, out)
 }
 
+/// The words of a keypoint of every cell that is searched.
+fn every_cell(c: &Case) -> usize {
+    let inner = |side: usize| side.saturating_sub(10);
+    10 * inner(c.width) * inner(c.height)
+}
+
+/// The cells of so many keypoints are held.
+const HELD: usize = 2048;
+
+/// The ways that detection goes, by the room and the number of keypoints.
+pub const WAYS: [&str; 3] = [
+    "detection: room for every cell",
+    "detection: fewer than are held, not room for every cell",
+    "detection: more keypoints than are held",
+];
+
+fn way(c: &Case, room: usize, found: usize) -> &'static str {
+    if room >= every_cell(c) {
+        WAYS[0]
+    } else if found <= HELD {
+        WAYS[1]
+    } else {
+        WAYS[2]
+    }
+}
+
+/// Of the lent words the first that differs is told.
 fn hold(r: &mut Report, c: &Case, room: usize) -> (u32, usize, Vec<u32>) {
     let (ours, theirs) = (answer(c, room), expected(c, room));
-    r.same("find_extrema", &ours, &theirs, || told(c));
+    let (here, there) = ((ours.0, ours.1), (theirs.0, theirs.1));
+    r.same("find_extrema", &here, &there, || told(c));
+    if let Some(k) = (0..room).find(|&k| ours.2[k] != theirs.2[k]) {
+        let what = format!("word {k} of find_extrema");
+        r.same(&what, &ours.2[k], &theirs.2[k], || told(c));
+    }
     r.tried(format!("find_extrema answered {}", theirs.0));
+    if matches!(theirs.0, 0 | 7) && every_cell(c) > 0 {
+        r.tried(way(c, room, theirs.1));
+    }
     ours
 }
 
@@ -89,6 +124,26 @@ fn stack(rng: &mut Rng, r: &mut Report, kind: Kind) {
     if need > 0 && rng.one_in(4) {
         let short = rng.pick(&[0, 1, need / 2, need - 1, need - need.min(10)]);
         hold(r, &c, short);
+    }
+}
+
+/// Squares of noise, the larger with more keypoints than are held, and their turned twins: with exactly the room, with a word
+/// less, with room for every cell, and with a word less than that.
+pub fn dense_stacks(rng: &mut Rng, r: &mut Report) {
+    for side in [120, 300] {
+        let c = dense(rng, side);
+        let turned = c.turned();
+        let found = oracle::find_extrema(&c.stack(), c.layer, c.octave, &c.settings).len();
+        for room in [
+            10 * found,
+            10 * found - 1,
+            every_cell(&c),
+            every_cell(&c) - 1,
+        ] {
+            let (a, b) = (hold(r, &c, room), hold(r, &turned, room));
+            turned_alike(r, &c, &a, &b);
+        }
+        r.add("keypoints of dense stacks", found as u64);
     }
 }
 

@@ -3,7 +3,7 @@
 //! Every word, number, count and untouched word of each answer is compared: with the published Rust where the input is accepted,
 //! with the refusal table rendered a second time where it is not, and single operations with the processor. It prints what it
 //! tried and what differs, and ends with status 1 where anything does, or where a run of 10,000 stacks or more did not meet every
-//! number of every entry, every fate of a candidate, and patches of all kinds.
+//! number of every entry, every fate of a candidate, every way of detection, and patches of all kinds.
 
 mod descriptor;
 mod detection;
@@ -45,7 +45,8 @@ fn due() -> Vec<String> {
         .flat_map(|(entry, numbers)| numbers.iter().map(move |n| format!("{entry} answered {n}")));
     let fates = Fate::ALL.iter().map(|f| format!("candidate: {f:?}"));
     let met = MET.iter().map(|m| m.to_string());
-    answers.chain(fates).chain(met).collect()
+    let ways = detection::WAYS.iter().map(|w| w.to_string());
+    answers.chain(fates).chain(ways).chain(met).collect()
 }
 
 struct Wanted {
@@ -98,6 +99,7 @@ fn main() -> ExitCode {
         orientation::keypoints(&mut rng, w.stacks, &mut r);
         descriptor::inputs(&mut rng, w.stacks, &mut r);
         descriptor::descriptors(&mut rng, w.stacks, &mut r);
+        detection::dense_stacks(&mut rng, &mut r);
     } else {
         println!(
             "SKIPPED: the published Rust was not found, so stacks, keypoints and descriptors were not compared"

@@ -1,13 +1,13 @@
 -- What has no minus sign stays so through the steps of the values, and what is rounded and held is a whole number. Assumes nothing.
-use Prim.Native.Nat.{ℕ, zero, suc, _+_, _-_, _*_, _/_, _^_, _<_, _≤_}
-use mathlib.Core.Path.{_≡_, refl, sym, ap, _∙_, subst}
+use Prim.Native.Nat.{ℕ, zero, suc, _+_, _*_, _/_, _^_, _≤_}
+use mathlib.Core.Path.{_≡_, refl, sym, _∙_, subst}
 use mathlib.Core.Bool.{Bool, true, false, not, cond, false≢true, true≢false}
-use mathlib.Core.Logic.{_⊎_, inl, inr, ⊎-elim}
+use mathlib.Core.Logic.{⊎-elim}
 use native.Mathlib.Omega.{arith}
 use borrow.Author.Tests.{eq-eqb, ne-eqb, leb-true, leb-false}
 use lib.Dec.{T, leb}
 use lib.IntN.{ℤ, pos}
-use lib.Ieee.{Float, nan, inf, fin, binary32, up, down, round, sum, ofBits, ofInt, add, mul, div, lt, le, eq, isNan}
+use lib.Ieee.{Float, nan, inf, fin, binary32, up, down, sum, ofBits, ofInt, add, mul, div, lt, le, eq, isNan}
 use lib.Ieee.Nearest.{closest}
 use lib.Ieee.Scale.{finite}
 use Rattle.ieee.specs.F32.{_⊕_, _⊗_, _⊘_, _≤ᶠ_, _=ᶠ_, fused, rootOf, rounded, absOf}
@@ -15,7 +15,7 @@ use Rattle.ieee.specs.Fused.{fma}
 use Rattle.ieee.specs.Root.{halves, sqrt}
 use Rattle.ieee.specs.Whole.{roundEven}
 use Rattle.ieee.specs.Numbers.{nought, epsilon, topByte}
-use Rattle.ieee_laws.proofs.Order.{Marked, endless, ended, round-marked, marked-number, le-or-lt-float, lt-not-le, lt-le, lt-le-trans}
+use Rattle.ieee_laws.proofs.Order.{Marked, endless, ended, round-marked, le-or-lt-float, lt-not-le, lt-le, lt-le-trans}
 use Rattle.ieee_laws.proofs.Monotone.{nil, Above, above-zero, div-le-right, ofInt-le}
 use Rattle.bounds.specs.Bounds.{maxOf, minOf, clampOf}
 use Rattle.descriptor_values.specs.Values.{clampRatio, factor}
@@ -24,9 +24,6 @@ use Rattle.descriptor_laws.specs.ValuesRules.{Byte}
 -- finite, with no minus sign
 pub data Plain : Float → Type 0 where
   plain : {m : ℕ} {e : ℤ} → Plain (fin false m e)
-
-pub plain-marked : {x : Float} → Plain x → Marked false x
-plain-marked plain = ended
 
 -- what has no minus sign and is not above a finite number
 pub marked-plain : {x : Float} (y : Float) → Marked false x → finite y ≡ true → le x y ≡ true → Plain x

@@ -2,7 +2,7 @@
 use Prim.Native.Nat.{ℕ, _+_, _-_, _*_, _^_, _<_, _≤_}
 use mathlib.Core.Path.{_≡_, refl}
 use mathlib.Core.Bool.{Bool, true, false, _&&_, Bool·beq, cond, true≢false, false≢true}
-use native.Mathlib.Nat.{mul-one, zero-mul, one-mul, mul-assoc, mul-comm, add-mul, mul-mul-mul-comm, mul-le-mul, mul-le-mul-right, le-trans, le-of-eq, mul-pos}
+use native.Mathlib.Nat.{mul-one, zero-mul, one-mul, mul-assoc, mul-comm, add-mul, mul-mul-mul-comm, mul-le-mul, mul-le-mul-right, le-of-eq, mul-pos}
 use native.Mathlib.Omega.{arith}
 use borrow.Author.Tests.{ltb-true}
 use lib.Dec.{ltb}
@@ -57,11 +57,6 @@ round-within s n d a D A h =
     go : (s : Bool) → Within (round binary32 false n d) a → Within (round binary32 s n d) a
     go false w = w
     go true w = turn-within {b = true} a (round-turned binary32 false true n d D (turned refl)) w
-
-pub within-wider : (x : Float) (a b : ℕ) → a ≤ b → Within x a → Within x b
-within-wider nan a b l h = h
-within-wider (inf s) a b l h = h
-within-wider (fin s m e) a b l h = le-trans h (mul-le-mul-right (down e) l)
 
 pub neg-within : (x : Float) (a : ℕ) → Within x a → Within (neg x) a
 unfolding neg

@@ -1,19 +1,19 @@
 -- Bounds of a float, and what an operation makes of them: the results at the ends, which a caller computes. For both formats. Assumes nothing.
-use Prim.Native.Nat.{ℕ, _+_, _-_, _*_, _≤_}
+use Prim.Native.Nat.{ℕ, _+_, _*_, _≤_}
 use mathlib.Core.Path.{_≡_, refl, ap}
-use mathlib.Core.Bool.{Bool, true, false, not, false≢true}
+use mathlib.Core.Bool.{true, false, not, false≢true}
 use native.Mathlib.Nat.{zero-mul, mul-comm}
 use native.Mathlib.Omega.{arith}
 use borrow.Author.Tests.{ne-eqb, ltb-true, lt-ltb}
 use lib.Dec.{T}
 use lib.IntN.{pos}
-use lib.Ieee.{Float, nan, inf, fin, Format, binary32, binary64, up, down, unlike, neg, add, sub, mul, div, lt, le, isNan, ofBits, ofInt}
+use lib.Ieee.{Float, nan, inf, fin, Format, binary32, binary64, up, down, neg, add, sub, mul, div, lt, le, isNan, ofBits, ofInt}
 use lib.Ieee.Scale.{finite}
 use Rattle.ieee.specs.Fused.{fma, convert}
 use Rattle.ieee.specs.Whole.{floor, roundEven}
 use Rattle.ieee.specs.F32.{absOf}
 use Rattle.ieee_laws.proofs.Turned.{nonzero}
-use Rattle.ieee_laws.proofs.Order.{fin-le, le-trans-float, lt-le, lt-le-trans, Marked, endless, ended, round-marked}
+use Rattle.ieee_laws.proofs.Order.{fin-le, le-trans-float, lt-le, lt-le-trans, Marked, endless, ended}
 use Rattle.ieee_laws.proofs.Monotone.{nil, above-zero, neg-finite, add-le, sub-le, mul-le-left, mul-le, unlike-swap, div-le-left, div-le-right, fma-le-addend, fma-le-left, convert-le, roundEven-le, floor-le, ofInt-le}
 
 -- x lies from lo to hi, which are finite
@@ -203,16 +203,6 @@ unfolding absOf isNan
 abs-nonneg nan h = absurd h
 abs-nonneg (inf s) h = marked-nonneg endless
 abs-nonneg (fin s m e) h = marked-nonneg ended
-
-unlike-self : (s : Bool) → unlike s s ≡ false
-unlike-self true = refl
-unlike-self false = refl
-
-pub square-nonneg : (f : Format) (x : Float) → finite x ≡ true → le nil (mul f x x) ≡ true
-unfolding mul
-square-nonneg f nan h = absurd (false≢true h)
-square-nonneg f (inf s) h = absurd (false≢true h)
-square-nonneg f (fin s m e) h = rw (unlike-self s) (marked-nonneg (round-marked f false (m * up e * (m * up e)) (down e * down e)))
 
 -- the pattern 0 is zero in both formats
 pub zero-is : (f : Format) → ofBits f 0 ≡ nil

@@ -16,7 +16,7 @@ use lib.Ieee.Order.{round-mono}
 use Rattle.lists.proofs.Bools.{and-left, and-right, both-and, or-right, or-cases}
 use Rattle.ieee_laws.specs.Sign.{turned}
 use Rattle.ieee.proofs.SignedParts.{round-zero, plus, minus, plus-mul, minus-mul}
-use Rattle.ieee_laws.proofs.Turned.{round-turned, le-turned, lt-turned, neg-opp}
+use Rattle.ieee_laws.proofs.Turned.{round-turned, le-turned, neg-opp}
 
 -- ±a / c ≤ ±b / d, and ±a / c < ±b / d, with the denominators multiplied out
 pub record Leq (s : Bool) (a c : ℕ) (t : Bool) (b d : ℕ) : Type 0 where
@@ -149,13 +149,6 @@ pub lt-le : (x y : Float) → lt x y ≡ true → le x y ≡ true
 unfolding le
 lt-le x y h = or-left (lt x y) (eq x y) h
 
-pub le-refl-float : (x : Float) → T (not (isNan x)) → le x x ≡ true
-unfolding le isNan
-le-refl-float nan h = absurd h
-le-refl-float (inf true) h = refl
-le-refl-float (inf false) h = refl
-le-refl-float (fin s m e) h = fin-le s m e s m e (record { cross = omega arith })
-
 less-not : (s : Bool) (a c : ℕ) (t : Bool) (b d : ℕ) → (Leq s a c t b d → ⊥) → Less t b d s a c
 less-not s a c t b d h = ⊎-elim (λ l. absurd (h (record { cross = l }))) (λ l. record { cross = l }) (split (plus s a * d + minus t b * c) (plus t b * c + minus s a * d))
   where
@@ -228,9 +221,6 @@ le-lt-trans x y z h k =
 
 pub neg-le : (x y : Float) → le x y ≡ true → le (neg y) (neg x) ≡ true
 neg-le x y h = le-turned (neg-opp y) (neg-opp x) ∙ h
-
-pub neg-lt : (x y : Float) → lt x y ≡ true → lt (neg y) (neg x) ≡ true
-neg-lt x y h = lt-turned (neg-opp y) (neg-opp x) ∙ h
 
 -- ---- rounding keeps the order
 

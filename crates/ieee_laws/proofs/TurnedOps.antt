@@ -1,5 +1,5 @@
 -- Sign symmetry of the operations that this crate adds, of casts and of tests against zero. For both formats. Assumes nothing.
-use Prim.Native.Nat.{ℕ, zero, suc, _+_, _-_, _*_, _/_, _^_, _<_, min}
+use Prim.Native.Nat.{ℕ, _+_, _-_, _*_, _/_, _^_, _<_, min}
 use mathlib.Core.Path.{_≡_, refl, sym, ap, subst, _∙_}
 use mathlib.Core.Bool.{Bool, true, false, not, _&&_, cond}
 use mathlib.Core.Logic.{⊎-elim}
@@ -12,8 +12,7 @@ use lib.Ieee.{Float, nan, inf, fin, Format, binary32, binary64, prec, low, up, d
 use lib.Ieee.Fits.{up-pos, down-pos}
 use lib.Ieee.Nearest.{closest, closest-same}
 use Rattle.ieee_laws.specs.Sign.{turned, nought, Turned, of-nan, of-inf, of-fin, Same}
-use Rattle.ieee.specs.Fused.{fma, convert}
-use Rattle.ieee.specs.Root.{sqrt}
+use Rattle.ieee.specs.Fused.{fma}
 use Rattle.ieee.specs.Whole.{floorSize, floor, roundEven, saturate}
 use Rattle.ieee.specs.F32.{f32, absOf}
 use Rattle.packing.proofs.Size.{size-zero}
@@ -26,14 +25,6 @@ same nan = of-nan
 same (inf s) = of-inf refl
 same (fin s m e) = of-fin (turned refl)
 
--- two that are the same as a third
-pub meet : {x y z : Float} → Same x z → Same y z → Same x y
-meet of-nan of-nan = of-nan
-meet (of-inf e) (of-inf g) = of-inf (sym g ∙ e)
-meet (of-fin (turned e)) (of-fin (turned g)) = of-fin (turned (sym g ∙ e))
-meet (of-fin (turned e)) (of-fin (nought g)) = of-fin (nought g)
-meet (of-fin (nought e)) (of-fin g) = of-fin (nought e)
-
 -- zero is itself turned
 pub zero-any : (b : Bool) → Turned b (f32 0) (f32 0)
 unfolding ofBits
@@ -41,14 +32,6 @@ zero-any b = of-fin (nought refl)
 
 no-zero : {A : Type 0} (m : ℕ) → m ≡ 0 → not (eqb m 0) ≡ true → A
 no-zero m e h = absurd (eqb-false m 0 (not-true (eqb m 0) h) e)
-
--- numbers that are the same and no zero are equal as data
-pub same-nonzero : {x y : Float} → Same x y → nonzero x ≡ true → y ≡ x
-unfolding nonzero
-same-nonzero of-nan h = refl
-same-nonzero (of-inf e) h = ap inf e
-same-nonzero (of-fin {m = m} {e = e} (turned g)) h = ap (λ (s : Bool). fin s m e) g
-same-nonzero (of-fin {m = m} (nought g)) h = no-zero m g h
 
 -- ---- the fused x * y + z: where x is turned by a and y by b, z is turned by both
 
@@ -108,26 +91,11 @@ add-beside f (fin t n d) h (of-fin {s = s} {t = s'} {m = m} {e = e} (nought p)) 
 
 -- ---- narrowing, the absolute value, the root
 
-pub convert-turned : {b : Bool} (f : Format) {x y : Float} → Turned b x y → Turned b (convert f x) (convert f y)
-unfolding convert
-convert-turned f of-nan = of-nan
-convert-turned f (of-inf e) = of-inf e
-convert-turned f (of-fin {s = s} {t = t} {m = m} {e = e} p) =
-    round-turned f s t (m * up e) (down e) (down-pos e) (signs-of (λ z. rw (z, zero-mul)) p)
-
 pub abs-turned : {b : Bool} {x y : Float} → Turned b x y → absOf y ≡ absOf x
 unfolding absOf
 abs-turned of-nan = refl
 abs-turned (of-inf e) = refl
 abs-turned (of-fin p) = refl
-
-pub sqrt-same : (f : Format) {x y : Float} → Same x y → Same (sqrt f x) (sqrt f y)
-unfolding sqrt
-sqrt-same f of-nan = of-nan
-sqrt-same f (of-inf {s = s} e) = rw e (same (sqrt f (inf s)))
-sqrt-same f (of-fin {s = s} {m = m} {e = e} (turned p)) = rw p (same (sqrt f (fin s m e)))
-sqrt-same f (of-fin {s = s} {t = t} {m = zero} (nought p)) = of-fin (nought refl)
-sqrt-same f (of-fin {m = suc m} (nought p)) = absurd (omega arith)
 
 -- ---- to a whole number
 
@@ -193,9 +161,6 @@ toSigned-same h (of-fin {s = s} {t = t} {m = m} {e = e} (nought p)) =
     saturate-zero h t (m * up e / down e) z ∙ sym (saturate-zero h s (m * up e / down e) z)
 
 -- ---- as bits: the same pattern, but for the zeros', and read back the same number
-
-pub toBits-same : (f : Format) {x y : Float} → Same x y → nonzero x ≡ true → toBits f y ≡ toBits f x
-toBits-same f p h = ap (toBits f) (same-nonzero p h)
 
 -- a zero's pattern is its sign's
 zero-bits : (f : Format) (s : Bool) (m : ℕ) (e : ℤ) → m ≡ 0 → toBits f (fin s m e) ≡ cond s (top f) 0

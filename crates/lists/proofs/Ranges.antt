@@ -1,10 +1,10 @@
 -- Laws of joined lists and of runs of stores. Assumes nothing.
-use Prim.Native.Nat.{ℕ, zero, suc, _+_, _-_, _*_, _<_, _≤_}
+use Prim.Native.Nat.{ℕ, zero, suc, _+_, _-_, _*_, _≤_}
 use mathlib.Core.Path.{_≡_, refl, _∙_}
 use mathlib.Core.Bool.{Bool, true, false, cond}
 use mathlib.Core.Logic.{⊎-elim}
 use mathlib.Core.List.{List, [], _∷_, _++_, append-assoc, append-nil}
-use native.Mathlib.Nat.{eq-or-lt-of-le, le-of-suc-le-suc, add-zero, suc-mul}
+use native.Mathlib.Nat.{eq-or-lt-of-le, add-zero, suc-mul}
 use native.Mathlib.Numerals.{add-one}
 use native.Mathlib.Omega.{arith}
 use borrow.Author.Tests.{le-leb, lt-leb}
@@ -35,19 +35,6 @@ module _ {A : Type 0} where
   unfolding joined
   joined-empty lo zero f e = refl
   joined-empty lo (suc hi) f e = rw (joined-empty lo hi f e, e hi, cond-same)
-
-  joined-length : (lo hi : ℕ) (f : ℕ → List A) → lo ≤ hi → length (joined lo (suc hi) f) ≡ length (joined lo hi f) + length (f hi)
-  unfolding joined
-  joined-length lo hi f h = rw (le-leb lo hi h, length-append)
-
-  -- what is joined up to a part, with that part, is no longer than the whole
-  pub joined-room : (lo hi top : ℕ) (f : ℕ → List A) → lo ≤ hi → hi < top → length (joined lo hi f) + length (f hi) ≤ length (joined lo top f)
-  joined-room lo hi zero f a b = absurd (omega arith)
-  joined-room lo hi (suc top) f a b =
-      ⊎-elim
-      (λ q. let t : lo ≤ top = omega arith in rw q (omega (arith, joined-length lo top f t)))
-      (λ l. let t : lo ≤ top = omega arith in omega (arith, joined-room lo hi top f a l, joined-length lo top f t))
-      (eq-or-lt-of-le (le-of-suc-le-suc b))
 
   -- the parts up to a number and from it on
   pub joined-split : (lo mid hi : ℕ) (f : ℕ → List A) → lo ≤ mid → mid ≤ hi → joined lo mid f ++ joined mid hi f ≡ joined lo hi f

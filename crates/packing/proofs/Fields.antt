@@ -1,26 +1,17 @@
 -- What the fields of a bit pattern say of the value, and a few facts of tests on floats. Assumes nothing.
 use mathlib.Core.Path.{_≡_, refl, sym, ap, _∙_, subst}
-use mathlib.Core.Logic.{_⊎_, inl, inr}
-use Prim.Native.Nat.{ℕ, zero, suc, _+_, _-_, _*_, _/_, _%_, _^_, _≤_, _<_}
-use native.Mathlib.Nat.{lt-irrefl}
-use native.Mathlib.Omega.{arith}
+use Prim.Native.Nat.{ℕ, suc, _+_, _*_, _/_, _%_, _^_}
 use mathlib.Core.Bool.{Bool, true, false, not, cond, true≢false, false≢true}
-use lib.Dec.{T, leb, eqb, not-T, eqb→eq}
-use lib.Ieee.{Float, nan, inf, fin, Format, prec, emax, low, odd, ofFields, ofBits, toBits, fits, isNan, hid, ones, top, lt}
+use lib.Dec.{T, leb, eqb}
+use lib.Ieee.{Float, nan, inf, fin, Format, prec, low, odd, ofFields, ofBits, toBits, fits, isNan, hid, ones, top, lt}
 use lib.Ieee.Exact.{HasValue, odd-sign}
 use lib.Ieee.Scale.{finite}
 use lib.Ieee.Fits.{eq→eqb}
-use lib.Ieee.Bits.{ofBits-toBits, cond-no, is-true}
-use Rattle.packing.proofs.Units.{cond-yes}
+use lib.Ieee.Bits.{ofBits-toBits, is-true}
 
 pub ofBits-is : (f : Format) (b : ℕ) → ofBits f b ≡ ofFields f (leb (top f) b) (b % top f / hid f) (b % hid f)
 unfolding ofBits
 ofBits-is f b = refl
-
-odd-finite : (d : ℕ) (s : Bool) (q k l : ℕ) → finite (odd d s q k l) ≡ true
-unfolding odd
-odd-finite d s zero k l = refl
-odd-finite d s (suc q) k l = refl
 
 -- by the tests that `ofFields` makes
 split : (f : Format) (s : Bool) (t : ℕ) (v : Float) (a b : Bool) → finite (cond a (cond b (inf s) nan) v) ≡ true → a ≡ false

@@ -1,11 +1,11 @@
 -- `sum` by the order of its two parts. Assumes nothing.
 use mathlib.Core.Path.{_≡_, refl, sym, ap, ap₂, _∙_, subst}
 use mathlib.Core.Logic.{_⊎_, inl, inr}
-use Prim.Native.Nat.{ℕ, zero, suc, _+_, _-_, _*_, _/_, _%_, _^_, _≤_, _<_}
-use native.Mathlib.Nat.{le-of-eq, le-of-lt, lt-of-lt-of-le, lt-of-le-of-lt, zero-add, sub-zero, zero-mul, add-comm, add-mul, mul-comm, mul-sub, mul-lt-mul-of-pos-right, lt-of-mul-lt-mul-right, eq-of-mul-eq-mul-right}
+use Prim.Native.Nat.{ℕ, _+_, _-_, _*_, _≤_, _<_}
+use native.Mathlib.Nat.{le-of-eq, le-of-lt, zero-add, sub-zero, zero-mul, add-comm, add-mul, mul-comm, mul-sub, mul-lt-mul-of-pos-right, lt-of-mul-lt-mul-right, eq-of-mul-eq-mul-right}
 use native.Mathlib.Omega.{arith}
-use mathlib.Core.Bool.{Bool, true, false, not, _&&_, Bool·beq, cond, true≢false}
-use lib.Dec.{T, ltb, lt→ltb, ltb→lt}
+use mathlib.Core.Bool.{Bool, true, false, _&&_, Bool·beq, cond, true≢false}
+use lib.Dec.{ltb, lt→ltb}
 use lib.Arith.{le→nltb}
 use lib.Ieee.{Float, Format, round, sum}
 use lib.Ieee.Bits.{is-true, is-false}
@@ -25,10 +25,6 @@ choose f s t x y z a b c = cond x (round f s (a + b) c) (cond y (round f t (b - 
 sum-is : (f : Format) (s : Bool) (a : ℕ) (t : Bool) (b c : ℕ) → sum f s a t b c ≡ choose f s t (Bool·beq s t) (ltb a b) (ltb b a) a b c
 unfolding sum
 sum-is f s a t b c = refl
-
-beq-refl : (s : Bool) → Bool·beq s s ≡ true
-beq-refl true = refl
-beq-refl false = refl
 
 module _ (f : Format) (s : Bool) (a : ℕ) (t : Bool) (b c : ℕ) where
   pub sum-like : Bool·beq s t ≡ true → sum f s a t b c ≡ round f s (a + b) c

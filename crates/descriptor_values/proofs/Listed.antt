@@ -31,6 +31,11 @@ pub lane-more : (v : List Float) (l n : ℕ) → lane v l (n + 1) ≡ fused (at 
 unfolding lane
 lane-more v l n = rw add-one
 
+-- a sum that takes the next value of its lane
+pub lane-on : (v : List Float) (l n k : ℕ) {s r : Float} → k ≡ 4 * n + l → s ≡ lane v l n → r ≡ fused (at v k) (at v k) s → r ≡ lane v l (n + 1)
+lane-on v l n k {s} {r} p q e =
+    e ∙ ap (λ (z : ℕ). fused (at v z) (at v z) s) p ∙ ap (λ (z : Float). fused (at v (4 * n + l)) (at v (4 * n + l)) z) q ∙ sym (lane-more v l n)
+
 pub plain-more : (v : List Float) (n : ℕ) → plainNorm v (n + 1) ≡ plainNorm v n ⊕ at v n ⊗ at v n
 unfolding plainNorm
 plain-more v n = rw add-one

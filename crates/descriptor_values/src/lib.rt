@@ -1,8 +1,9 @@
 // From a descriptor's histogram to its 128 values.
 ghost use mathlib.Core.Path.{_≡_};
 ghost use Prim.Native.Nat.{ℕ, _+_, _*_, _/_, _%_, _<_};
+ghost use Rattle.ieee.specs.F32.{fused};
 ghost use Rattle.params.specs.Limits.{valueCount};
-ghost use Rattle.descriptor_values.specs.Values.{foldedAt, rawOf, lane, norm2, clamped, plainNorm, scaleOf, finished, valuesOf};
+ghost use Rattle.descriptor_values.specs.Values.{foldedAt, rawOf, at, norm2, clamped, plainNorm, scaleOf, finished, valuesOf};
 
 // Value n of the inner cells: slot n % 8 of the cell at row n / 32, column n / 8 % 4. The first slot takes the ninth.
 fn folded(hist: &[f32; 360], n: usize) -> f32
@@ -30,25 +31,32 @@ fn raw(hist: &[f32; 360]) -> [f32; 128]
     v
 }
 
-// The fused sum of the squares of every fourth value from l on.
-fn lane_sum(v: &[f32; 128], l: usize) -> f32
-    requires { ⌜ l < 4 ⌝ }
-    ensures { λ r. ⌜ r ≡ lane (now (v .entry)) l 32 ⌝ }
+// The square of value k added to s, rounded once.
+fn with_square(v: &[f32; 128], k: usize, s: f32) -> f32
+    requires { ⌜ k < valueCount ⌝ }
+    ensures { λ r. ⌜ r ≡ fused (at (now (v .entry)) k) (at (now (v .entry)) k) s ⌝ }
 {
-    let mut s: f32 = 0.0;
-    let mut n: usize = 0;
-    while n < 32 {
-        let x = v[4 * n + l];
-        s = ieee::mul_add(x, x, s);
-        n += 1;
-    }
-    s
+    let x = v[k];
+    ieee::mul_add(x, x, s)
 }
 
+// The four fused sums, each of every fourth value, go side by side, so that none waits for another.
 fn nrm2(v: &[f32; 128]) -> f32
     ensures { λ r. ⌜ r ≡ norm2 (now (v .entry)) ⌝ }
 {
-    (lane_sum(v, 0) + lane_sum(v, 1)) + (lane_sum(v, 2) + lane_sum(v, 3))
+    let mut a: f32 = 0.0;
+    let mut b: f32 = 0.0;
+    let mut c: f32 = 0.0;
+    let mut d: f32 = 0.0;
+    let mut n: usize = 0;
+    while n < 32 {
+        a = with_square(v, 4 * n, a);
+        b = with_square(v, 4 * n + 1, b);
+        c = with_square(v, 4 * n + 2, c);
+        d = with_square(v, 4 * n + 3, d);
+        n += 1;
+    }
+    (a + b) + (c + d)
 }
 
 // Each value held to 0.2 of the norm's root.

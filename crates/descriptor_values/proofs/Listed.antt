@@ -8,7 +8,7 @@ use lib.ListN.{length, take, set}
 use lib.Seq.{take-suc-set, take-all}
 use lib.Ieee.{Float}
 use Rattle.ieee.specs.F32.{_⊕_, _⊗_, fused}
-use Rattle.descriptor_values.specs.Values.{at, lane, plainNorm}
+use Rattle.descriptor_values.specs.Values.{at, lane, norm2, plainNorm}
 use Rattle.lists.specs.Ranges.{joined}
 use Rattle.lists.proofs.Ranges.{joined-more}
 
@@ -35,6 +35,10 @@ lane-more v l n = rw add-one
 pub lane-on : (v : List Float) (l n k : ℕ) {s r : Float} → k ≡ 4 * n + l → s ≡ lane v l n → r ≡ fused (at v k) (at v k) s → r ≡ lane v l (n + 1)
 lane-on v l n k {s} {r} p q e =
     e ∙ ap (λ (z : ℕ). fused (at v z) (at v z) s) p ∙ ap (λ (z : Float). fused (at v (4 * n + l)) (at v (4 * n + l)) z) q ∙ sym (lane-more v l n)
+
+pub norm-of : (v : List Float) (n : ℕ) {a b c d : Float} → n ≡ 32 → a ≡ lane v 0 n → b ≡ lane v 1 n → c ≡ lane v 2 n → d ≡ lane v 3 n → (a ⊕ b) ⊕ (c ⊕ d) ≡ norm2 v
+unfolding norm2
+norm-of v n e a b c d = rw (a, b, c, d, e)
 
 pub plain-more : (v : List Float) (n : ℕ) → plainNorm v (n + 1) ≡ plainNorm v n ⊕ at v n ⊗ at v n
 unfolding plainNorm

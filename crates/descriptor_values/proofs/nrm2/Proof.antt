@@ -1,14 +1,11 @@
 -- The four sums so far are the lanes of the values passed. Assumes nothing.
 use Prim.Native.Nat.{ℕ, _+_, _-_, _*_, _≤_}
 use mathlib.Core.Path.{_≡_, refl, sym, ap, _∙_}
-use native.Mathlib.Nat.{add-zero}
 use native.Mathlib.Omega.{arith}
 use borrow.Author.Needs.{needs}
-use lib.Ieee.{Float, ofBits}
-use mathlib.Core.List.{List}
-use Rattle.ieee.specs.F32.{fused}
-use Rattle.descriptor_values.specs.Values.{at, lane, norm2}
-use Rattle.descriptor_values.proofs.Listed.{lane-on}
+use lib.Ieee.{ofBits}
+use Rattle.descriptor_values.specs.Values.{lane}
+use Rattle.descriptor_values.proofs.Listed.{lane-on, norm-of}
 use Rattle.descriptor_values.proofs.nrm2.Statement.{statement}
 use Rattle.descriptor_values.proofs.nrm2.Tie as tie
 use Rattle.descriptor_values.proofs.nrm2.Reads as reads
@@ -80,8 +77,9 @@ loop-again c =
     )
 
 returns : tie.Need-returns Inv-loop μ-loop
-unfolding norm2
-returns c = let e : c .before .loop .n ≡ 32 = omega arith in cc
+returns c =
+    let i = c .before .loop .inv .1 in
+    norm-of (c .before .before .args .v .now) (c .before .loop .n) (omega arith) (i .0) (i .1 .0) (i .1 .1 .0) (i .1 .1 .1)
 
 pub nrm2-spec : {M : Type 1} → statement M
 nrm2-spec =

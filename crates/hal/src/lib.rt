@@ -1,16 +1,21 @@
 // Routines that stand in for the source's own: powers of two, the exponential, sine and cosine of degrees, the angle and the magnitude of a pair.
 // docs/ROUTINES.md has their steps, specs/ the same as definitions, specs/Rules.antt what is proved of those.
+mod cubics;
+mod pairs;
 mod powers;
+mod turns;
 
 ghost use mathlib.Core.Path.{_≡_};
-ghost use mathlib.Core.Bool.{_&&_};
+ghost use mathlib.Core.Bool.{true, _&&_};
 ghost use Prim.Native.Nat.{ℕ, _+_, _-_, _*_, _<_, _≤_, _^_};
 ghost use lib.Dec.{T};
 ghost use lib.Ieee.{nan, le, toUnsigned};
-ghost use Rattle.hal.specs.Powers.{powers, entryOf};
-ghost use Rattle.hal.specs.Exp.{mixOf, scaledOf, powerOf, inFixed, exp2Of, expOf};
+ghost use Rattle.hal.specs.Powers.{powers, entryOf, pairs};
+ghost use Rattle.hal.specs.Turns.{turns};
+ghost use Rattle.hal.specs.Cubics.{cubics};
+ghost use Rattle.hal.specs.Exp.{mixOf, scaledOf, powerOf, inFixed, exp2Of, inDown, expOf};
 ghost use Rattle.hal.specs.Turn.{holdOf, negatedOf, quarterSineOf, sinOf, cosOf};
-ghost use Rattle.hal.specs.Angle.{tangentAngleOf, mirrorOf, belowTurnOf, lesserOf, greaterOf, foldedOf, small, angleOf};
+ghost use Rattle.hal.specs.Angle.{tangentAngleOf, mirrorOf, belowTurnOf, lesserOf, greaterOf, foldedOf, small, inAngle, angleOf};
 ghost use Rattle.hal.specs.Magnitude.{magnitudeOf};
 
 // What each routine answers outside its range: a not-a-number.
@@ -282,4 +287,45 @@ pub fn magnitude(dx: f32, dy: f32) -> f32
     } else {
         outside()
     }
+}
+
+// ---- for loops: the tables made once and lent, and the routines inside their ranges
+
+pub fn pair_table() -> [u32; 512]
+    ensures { λ r. ⌜ r ≡ pairs ⌝ }
+{
+    pairs::PAIRS
+}
+
+pub fn cubic_table() -> [f64; 256]
+    ensures { λ r. ⌜ r ≡ cubics ⌝ }
+{
+    cubics::CUBICS
+}
+
+pub fn turn_table() -> [f32; 272]
+    ensures { λ r. ⌜ r ≡ turns ⌝ }
+{
+    turns::TURNS
+}
+
+pub fn exp_in(t: &[u32; 512], x: f32) -> f32
+    requires { ⌜ (now t ≡ pairs) × (inDown x ≡ true) ⌝ }
+    ensures { λ r. ⌜ r ≡ expOf x ⌝ }
+{
+    exp(x)
+}
+
+pub fn angle_in(t: &[f32; 272], dx: f32, dy: f32) -> f32
+    requires { ⌜ (now t ≡ turns) × (inAngle dx dy ≡ true) ⌝ }
+    ensures { λ r. ⌜ r ≡ angleOf dx dy ⌝ }
+{
+    angle(dx, dy)
+}
+
+pub fn magnitude_in(t: &[f64; 256], dx: f32, dy: f32) -> f32
+    requires { ⌜ (now t ≡ cubics) × (inAngle dx dy ≡ true) ⌝ }
+    ensures { λ r. ⌜ r ≡ magnitudeOf dx dy ⌝ }
+{
+    magnitude(dx, dy)
 }

@@ -155,6 +155,13 @@ pub fn mul_add(a: f32, b: f32, c: f32) -> f32
     fma_general(a, b, c)
 }
 
+// a * w + c, rounded once, as `mul_add` has it; for a w of a quarter or a sixteenth there is a path of its own.
+pub fn add_part(a: f32, w: f32, c: f32) -> f32
+    ensures { λ r. ⌜ r ≡ fused a w c ⌝ }
+{
+    mul_add(a, w, c)
+}
+
 // The largest r with r * r <= n, a digit at a time (the root of 64 digits has 32): only where the guess of a root fails, and for subnormals.
 fn isqrt(n: u64) -> u64
     ensures { λ r. ⌜ (r * r ≤ n) × (n < (r + 1) * (r + 1)) ⌝ }

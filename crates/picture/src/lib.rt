@@ -100,7 +100,7 @@ pub fn good_sample(x: f32) -> bool
 }
 
 // Whether the samples from `from` to below `to` are good. No branch depends on a sample, so that the machine tests several at once.
-fn block_good(d: &[f32], from: usize, to: usize) -> bool
+pub fn block_good(d: &[f32], from: usize, to: usize) -> bool
     requires { ⌜ (from ≤ to) × (to ≤ length (now d)) ⌝ }
     ensures { λ b. ⌜ b ≡ goodFrom from to (now (d .entry)) ⌝ }
 {

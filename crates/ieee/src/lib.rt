@@ -127,9 +127,9 @@ fn fused_wide(a: f32, b: f32, c: f32) -> u64
 }
 
 // a * b + c of any three, rounded once, with no short path. An infinity or a NaN among a and b makes the product exact, so the two operations do. Beside a finite
-// product a c that is not finite stands, though the plain product may overflow.
-fn fma_general(a: f32, b: f32, c: f32) -> f32
-    ensures { λ r. ⌜ r ≡ fma binary32 a b c ⌝ }
+// product a c that is not finite stands, though the plain product may overflow. A rare call needs no short path, so it is public.
+pub fn fma_general(a: f32, b: f32, c: f32) -> f32
+    ensures { λ r. ⌜ r ≡ fused a b c ⌝ }
 {
     if !is_finite(a) {
         return a * b + c;

@@ -148,7 +148,7 @@ module _ (a b c : Float) (A : Split a) (B : Split b) (C : Split c) where
   abbrev Q : ℕ
   Q = C .m * 2 ^ (C .x + 149)
 
-  fma-is : (f : Format) → fma f a b c ≡ sum f S P (C .s) Q (2 ^ 149 * 2 ^ 149)
+  pub fma-is : (f : Format) → fma f a b c ≡ sum f S P (C .s) Q (2 ^ 149 * 2 ^ 149)
   fma-is f = fma-parts f a b c (A .s) (B .s) (C .s) (A .m) (B .m) (C .m) (A .x) (B .x) (C .x) 149 (A .parts .value) (B .parts .value) (C .parts .value)
 
   pub wide-is : add binary64 (mul binary64 a b) c ≡ fma binary64 a b c
@@ -164,6 +164,12 @@ module _ (a b c : Float) (A : Split a) (B : Split b) (C : Split c) where
   wide-no-nan =
       let w = sum-rounds S P (C .s) Q (2 ^ 149 * 2 ^ 149) in
       subst (λ (r : Float). T (not (isNan r))) (sym (fma-is binary64 ∙ w .2 binary64)) (round-no-nan binary64 (w .0) (w .1) (2 ^ 149 * 2 ^ 149))
+
+-- ---- what has a value is finite
+pub value-finite : (v : Float) (s : Bool) (a c : ℕ) → HasValue v s a c → finite v ≡ true
+value-finite nan s a c h = absurd h
+value-finite (inf t) s a c h = absurd h
+value-finite (fin t m e) s a c h = refl
 
 -- ---- the value of a pattern that rounds once
 pub converted : (v : Float) (s : Bool) (a l : ℕ) → HasValue v s a (2 ^ l) → convert binary32 v ≡ round binary32 s a (2 ^ l)
@@ -216,12 +222,7 @@ module _ (n : ℕ) (k : RoundsOnce n) where
   narrow-le = omega (arith, k .high)
 
   pub once-finite : finite (ofBits binary64 n) ≡ true
-  once-finite = at (ofBits binary64 n) once-value
-    where
-      at : (v : Float) → HasValue v sign (m * 2 ^ x) (2 ^ 1074) → finite v ≡ true
-      at nan h = absurd h
-      at (inf s) h = absurd h
-      at (fin s m e) h = refl
+  once-finite = value-finite (ofBits binary64 n) sign (m * 2 ^ x) (2 ^ 1074) once-value
 
   pub fma-narrow : (a b c : Float) → Split a → Split b → Split c → ofBits binary64 n ≡ fma binary64 a b c → convert binary32 (ofBits binary64 n) ≡ fma binary32 a b c
   fma-narrow a b c A B C e =
@@ -230,18 +231,14 @@ module _ (n : ℕ) (k : RoundsOnce n) where
       ∙ sum-twice (unlike (A .s) (B .s)) (A .m * B .m * 2 ^ (A .x + B .x)) (C .s) (C .m * 2 ^ (C .x + 149)) (2 ^ 149 * 2 ^ 149) sign m x (mul-pos (pow-pos 149) (pow-pos 149)) (omega arith) (omega (arith, mod-lt n (pow-pos 52))) x-ge x-le off
       (subst (λ (v : Float). HasValue v sign (m * 2 ^ x) (2 ^ 1074)) (e ∙ fma-is a b c A B C binary64) once-value))
 
--- ---- such a pattern below the f64 of the largest f32: it has no sign, and what it rounds to is a normal number
-module _ (n : ℕ) (k : RoundsOnce n) (hi : n < 5183643170566569984) where
-  plain-mod : n % 2 ^ 63 ≡ n
-  plain-mod = mod-eq-of-lt (lt-of-lt-of-le hi (lit≤ tt))
+-- ---- such a pattern with no sign; and below the f64 of the largest f32, where what it rounds to is a normal number
+pub plain-is : (n : ℕ) → RoundsOnce n → n < 2 ^ 63 → ofBits binary32 (narrowBits n) ≡ convert binary32 (ofBits binary64 n)
+plain-is n k hi =
+    ap (ofBits binary32) (sym (zero-add (narrowBits n)))
+    ∙ subst (λ (b : Bool). ofBits binary32 (cond b (top binary32) 0 + narrowBits n) ≡ convert binary32 (ofBits binary64 n)) (is-false (leb (2 ^ 63) n) (lt→nleb (2 ^ 63) n hi)) (narrow-is n k)
 
-  pub plain-normal : (8388608 ≤ narrowBits n) × (narrowBits n < 2139095040)
-  plain-normal = (omega (arith, k .low, plain-mod), omega (arith, k .low, plain-mod))
-
-  pub plain-is : ofBits binary32 (narrowBits n) ≡ convert binary32 (ofBits binary64 n)
-  plain-is =
-      ap (ofBits binary32) (sym (zero-add (narrowBits n)))
-      ∙ subst (λ (b : Bool). ofBits binary32 (cond b (top binary32) 0 + narrowBits n) ≡ convert binary32 (ofBits binary64 n)) (is-false (leb (2 ^ 63) n) (lt→nleb (2 ^ 63) n (lt-of-lt-of-le hi (lit≤ tt)))) (narrow-is n k)
+pub plain-normal : (n : ℕ) → RoundsOnce n → n < 5183643170566569984 → (8388608 ≤ narrowBits n) × (narrowBits n < 2139095040)
+plain-normal n k hi = let e : n % 2 ^ 63 ≡ n = mod-eq-of-lt (lt-of-lt-of-le hi (lit≤ tt)) in (omega (arith, k .low), omega (arith, k .low))
 
 -- ---- a * b + c of f32s whose plain sum is finite
 module _ (a b c : Float) (ha : T (fits binary32 a)) (hb : T (fits binary32 b)) (hc : T (fits binary32 c)) (f : finite (add binary32 (mul binary32 a b) c) ≡ true) where

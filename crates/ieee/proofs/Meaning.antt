@@ -50,7 +50,7 @@ zero-place (negsuc k) h = absurd (none k (pow-one (suc k) (sym (one-mul (2 ^ suc
     none : (k : ℕ) → suc k ≡ 0 → ⊥
     none k h = omega arith
 
-zero-held : (f : Format) (s : Bool) (e : ℤ) → T (fits f (fin s 0 e)) → e ≡ pos 0
+pub zero-held : (f : Format) (s : Bool) (e : ℤ) → T (fits f (fin s 0 e)) → e ≡ pos 0
 unfolding fits
 zero-held f s e h = zero-place e (eqb→eq (up e * down e) 1 h)
 

@@ -44,7 +44,7 @@ module _ (a b c : Float) (s t u : Bool) (m n p i j k : ℕ) (A : Splits 149 24 2
 
 -- `sqrt`: the guess that the exact test took, and the integer root of the whole significand
 pub root-paths : (x : Float) → T (fits binary32 x)
-    → (q : ℕ) → RootOrZero (toBits binary32 x) q → 0 < q  -- `checked_root`
+    → (q : ℕ) → RootOrZero (ofBits binary32 (toBits binary32 x)) q → 0 < q  -- `checked_root`
     → (t : Float) → t ≡ sqrt binary32 x  -- `root_general`
     → ofBits binary32 q ≡ t
 root-paths x h q tried some t general = tried .right some ∙ ap (sqrt binary32) (ofBits-toBits binary32 x h) ∙ sym general

@@ -23,6 +23,7 @@ use Rattle.ieee.specs.Parts.{RoundsOnce, narrowBits}
 use Rattle.packing.proofs.Fields.{ofBits-is, normal-is, value-low, value-normal, field-ne}
 use Rattle.packing.proofs.Plain.{value-no-nan}
 use Rattle.ieee.proofs.Product.{fma-parts, powers, later}
+use Rattle.ieee.proofs.Exactly.{fused-digits}
 use Rattle.packing.proofs.Sums.{sum-same}
 use Rattle.packing.proofs.Cases.{normal-case}
 use Rattle.ieee.proofs.Twice.{half-up, sum-twice, sum-rounds, units-over}
@@ -86,57 +87,12 @@ round-no-nan f s a c = subst (λ (r : Float). T (not (isNan r))) (sym (round-is 
   | inr g ↦ value-no-nan (units f s (kept (prec f) (a * 2 ^ low f) c) (drop (prec f) (a * 2 ^ low f) c)) s (grid f a c) (2 ^ low f) (units-val f s (kept (prec f) (a * 2 ^ low f) c) (drop (prec f) (a * 2 ^ low f) c) g)
 ])
 
--- ---- product and sum by the operands' values
-pair : (X Y De Dd A B L : ℕ) → X * L ≡ A * De → Y * L ≡ B * Dd → X * Y * (L * L) ≡ A * B * (De * Dd)
-pair X Y De Dd A B L p q = regroup ∙ ap₂ (λ (a b : ℕ). a * b) p q ∙ simp ac
-  where
-    regroup : X * Y * (L * L) ≡ X * L * (Y * L)
-    regroup = simp ac
-
-mul-parts : (f : Format) (x y : Float) (s t : Bool) (A B L : ℕ) → 0 < L → HasValue x s A L → HasValue y t B L → mul f x y ≡ round f (unlike s t) (A * B) (L * L)
-unfolding mul
-mul-parts f nan y s t A B L P X Y = absurd X
-mul-parts f (inf _) y s t A B L P X Y = absurd X
-mul-parts f (fin s' M e) nan s t A B L P X Y = absurd Y
-mul-parts f (fin s' M e) (inf _) s t A B L P X Y = absurd Y
-mul-parts f (fin s' M e) (fin t' N d) s t A B L P X Y =
-    ap (λ (u : Bool). round f u (M * up e * (N * up d)) (down e * down d)) (ap₂ unlike (X .0) (Y .0))
-    ∙ round-same f (unlike s t) (M * up e * (N * up d)) (down e * down d) (A * B) (L * L) (mul-pos (down-pos e) (down-pos d)) (mul-pos P P) (pair (M * up e) (N * up d) (down e) (down d) A B L (X .1) (Y .1))
-
-first : (X Dd De A L : ℕ) → X * L ≡ A * De → X * Dd * L ≡ A * (De * Dd)
-first X Dd De A L p = regroup ∙ ap (λ (a : ℕ). a * Dd) p ∙ mul-assoc A De Dd
-  where
-    regroup : X * Dd * L ≡ X * L * Dd
-    regroup = simp ac
-
-second : (Y Dd De B L : ℕ) → Y * L ≡ B * Dd → Y * De * (L * L) ≡ B * L * (De * Dd)
-second Y Dd De B L p = regroup ∙ ap (λ (a : ℕ). a * De * L) p ∙ simp ac
-  where
-    regroup : Y * De * (L * L) ≡ Y * L * De * L
-    regroup = simp ac
-
-add-parts : (f : Format) (x y : Float) (s t : Bool) (A B L : ℕ) → 0 < L → HasValue x s A (L * L) → HasValue y t B L → add f x y ≡ sum f s A t (B * L) (L * L)
-unfolding add
-add-parts f nan y s t A B L P X Y = absurd X
-add-parts f (inf _) y s t A B L P X Y = absurd X
-add-parts f (fin s' M e) nan s t A B L P X Y = absurd Y
-add-parts f (fin s' M e) (inf _) s t A B L P X Y = absurd Y
-add-parts f (fin s' M e) (fin t' N d) s t A B L P X Y =
-    ap₂ (λ (a b : Bool). sum f a (M * up e * down d) b (N * up d * down e) (down e * down d)) (X .0) (Y .0)
-    ∙ sum-same f s (M * up e * down d) t (N * up d * down e) (down e * down d) A (B * L) (L * L) (mul-pos (down-pos e) (down-pos d)) (mul-pos P P) (first (M * up e) (down d) (down e) A (L * L) (X .1)) (second (N * up d) (down d) (down e) B L (Y .1))
-
+-- ---- the product of two f32s has digits enough in binary64
 pub product-lt : (m n : ℕ) → m < 2 ^ 24 → n < 2 ^ 24 → m * n < 2 ^ 48
 product-lt m n a b =
     let h : m ≤ 2 ^ 24 - 1 = omega arith in
     let k : n ≤ 2 ^ 24 - 1 = omega arith in
     lt-of-le-of-lt (mul-le-mul h k) (lit< tt)
-
--- the product of two f32s is exact
-exact-product : (s : Bool) (m n i j : ℕ) → m < 2 ^ 24 → n < 2 ^ 24 → i ≤ 253 → j ≤ 253 → HasValue (round binary64 s (m * 2 ^ i * (n * 2 ^ j)) (2 ^ 149 * 2 ^ 149)) s (m * 2 ^ i * (n * 2 ^ j)) (2 ^ 149 * 2 ^ 149)
-exact-product s m n i j a b c d =
-    round-exact binary64 s (m * 2 ^ i * (n * 2 ^ j)) (2 ^ 149 * 2 ^ 149) (m * n) (i + j + 776) (mul-pos (pow-pos 149) (pow-pos 149)) (lt-of-lt-of-le (product-lt m n a b) (lit≤ tt))
-    (lt-of-lt-of-le (shl-lt 48 (i + j + 776) (product-lt m n a b)) (pow-mono {i = 48 + (i + j + 776)} {j = 2098} (omega arith)))
-    (ap (λ (z : ℕ). z * 2 ^ 1074) (powers m n i j) ∙ sym (mul-assoc (m * n * 2 ^ (i + j)) (2 ^ 776) (2 ^ 149 * 2 ^ 149)) ∙ ap (λ (z : ℕ). z * (2 ^ 149 * 2 ^ 149)) (later (m * n) (i + j) 776))
 
 module _ (a b c : Float) (A : Split a) (B : Split b) (C : Split c) where
   abbrev S : Bool
@@ -153,12 +109,13 @@ module _ (a b c : Float) (A : Split a) (B : Split b) (C : Split c) where
 
   pub wide-is : add binary64 (mul binary64 a b) c ≡ fma binary64 a b c
   wide-is =
-      add-parts binary64 (mul binary64 a b) c S (C .s) (A .m * 2 ^ A .x * (B .m * 2 ^ B .x)) (C .m * 2 ^ C .x) (2 ^ 149) (pow-pos 149)
-      (subst (λ (r : Float). HasValue r S (A .m * 2 ^ A .x * (B .m * 2 ^ B .x)) (2 ^ 149 * 2 ^ 149)) (sym (mul-parts binary64 a b (A .s) (B .s) (A .m * 2 ^ A .x) (B .m * 2 ^ B .x) (2 ^ 149) (pow-pos 149) (A .parts .value) (B .parts .value)))
-      (exact-product S (A .m) (B .m) (A .x) (B .x) (A .parts .digits) (B .parts .digits) (A .parts .place) (B .parts .place)))
-      (C .parts .value)
-      ∙ ap₂ (λ (p q : ℕ). sum binary64 S p (C .s) q (2 ^ 149 * 2 ^ 149)) (powers (A .m) (B .m) (A .x) (B .x)) (later (C .m) (C .x) 149)
-      ∙ sym (fma-is binary64)
+      let m = A .m * B .m in
+      let i = A .x + B .x in
+      let digits : m < 2 ^ 48 = product-lt (A .m) (B .m) (A .parts .digits) (B .parts .digits) in
+      fused-digits binary64 a b c (A .s) (B .s) (A .m * 2 ^ A .x) (2 ^ 149) (B .m * 2 ^ B .x) (2 ^ 149) m (i + 776) (pow-pos 149) (pow-pos 149) (A .parts .value) (B .parts .value)
+      (lt-of-lt-of-le digits (lit≤ tt))
+      (lt-of-lt-of-le (shl-lt 48 (i + 776) digits) (pow-mono {i = 48 + (i + 776)} {j = 2098} (omega (arith, A .parts .place, B .parts .place))))
+      (ap (λ (z : ℕ). z * 2 ^ 1074) (powers (A .m) (B .m) (A .x) (B .x)) ∙ sym (mul-assoc (m * 2 ^ i) (2 ^ 776) (2 ^ 149 * 2 ^ 149)) ∙ ap (λ (z : ℕ). z * (2 ^ 149 * 2 ^ 149)) (later m i 776))
 
   pub wide-no-nan : T (not (isNan (fma binary64 a b c)))
   wide-no-nan =

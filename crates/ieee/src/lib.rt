@@ -156,10 +156,16 @@ pub fn mul_add(a: f32, b: f32, c: f32) -> f32
     fma_general(a, b, c)
 }
 
-// a * w + c, rounded once, as `mul_add` has it; for a w of a quarter or a sixteenth there is a path of its own.
+// a * w + c, rounded once, as `mul_add` has it: for callers whose w is a constant, a quarter or a sixteenth. Such a part of an a from 2^-100 on is far from the subnormal
+// numbers, and so exact, as that of a zero is: then the sum rounds once by itself.
 pub fn add_part(a: f32, w: f32, c: f32) -> f32
     ensures { λ r. ⌜ r ≡ fused a w c ⌝ }
 {
+    if (w == 0.25) | (w == 0.0625) {
+        if (a >= 0.0000000000000000000000000000007888609052210118) | (a == 0.0) {
+            return a * w + c;
+        }
+    }
     mul_add(a, w, c)
 }
 

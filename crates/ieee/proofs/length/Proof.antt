@@ -1,33 +1,21 @@
 -- `length` meets its contract: the zeros, the root of the pattern that the short path gives, or the two general paths. Assumes nothing.
 use borrow.Author.Needs.{needs}
 use mathlib.Core.Path.{_≡_, refl, sym, ap, ap₂, _∙_, subst}
-use mathlib.Core.Bool.{Bool, true, false, _&&_, _||_, Bool·beq, false≢true}
-use Prim.Native.Nat.{ℕ, zero, suc, _*_, _≤_, _<_}
-use native.Mathlib.Nat.{lt-of-lt-of-le, mul-pos, zero-lt-suc, zero-mul}
-use native.Mathlib.Omega.{arith}
-use lib.Dec.{T, eqb, eqb→eq, lit≤}
-use lib.IntN.{ℤ, pos}
-use lib.Ieee.{Float, nan, inf, fin, binary32, binary64, up, down, mul, eq, fits, ofBits}
-use lib.Ieee.Fits.{and-l, up-pos}
+use mathlib.Core.Bool.{Bool, true, false}
+use Prim.Native.Nat.{ℕ, _≤_, _<_}
+use native.Mathlib.Nat.{lt-of-lt-of-le}
+use lib.Dec.{T, lit≤}
+use lib.IntN.{pos}
+use lib.Ieee.{Float, fin, binary32, binary64, mul, ofBits}
 use Rattle.ieee.specs.Root.{sqrt}
 use Rattle.ieee.specs.Fused.{fma, convert}
 use Rattle.ieee.specs.Parts.{RoundsOnce, narrowBits}
-use Rattle.ieee.proofs.Meaning.{zero-held}
+use Rattle.ieee.proofs.Equal.{zero-of}
 use Rattle.ieee.proofs.Doubled.{plain-normal, plain-is}
 use Rattle.ieee.proofs.length.Statement.{statement}
 use Rattle.ieee.proofs.length.Tie as tie
 
 -- the zeros
-zero-of : (x : Float) → T (fits binary32 x) → eq x (ofBits binary32 0) ≡ true → (s : Bool) × (x ≡ fin s 0 (pos 0))
-unfolding eq ofBits
-zero-of nan h e = absurd (false≢true e)
-zero-of (inf s) h e = absurd (false≢true e)
-zero-of (fin s zero d) h e = (s, ap (λ (z : ℤ). fin s 0 z) (zero-held binary32 s d h))
-zero-of (fin s (suc m) d) h e = absurd (none (suc m * up d * 1) (0 * 1 * down d) (mul-pos (mul-pos (zero-lt-suc m) (up-pos d)) (zero-lt-suc 0)) (ap (λ (z : ℕ). z * down d) (zero-mul 1) ∙ zero-mul (down d)) (Bool·beq s false || eqb (suc m * up d * 1) 0) e)
-  where
-    none : (a b : ℕ) → 0 < a → b ≡ 0 → (t : Bool) → (eqb a b && t) ≡ true → ⊥
-    none a b p z t g = let q : a ≡ b = eqb→eq a b (and-l (eqb a b) t (subst T (sym g) tt)) in omega arith
-
 zeros-at : (s t : Bool) → ofBits binary32 0 ≡ sqrt binary32 (fma binary32 (fin s 0 (pos 0)) (fin s 0 (pos 0)) (mul binary32 (fin t 0 (pos 0)) (fin t 0 (pos 0))))
 unfolding ofBits sqrt fma mul
 zeros-at true true = refl

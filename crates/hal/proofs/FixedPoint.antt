@@ -199,7 +199,7 @@ bits-of m e l h =
     ap (λ (k : ℕ). k % 4503599627370496) (bits-is m e ∙ ap (λ (k : ℕ). 0 + (k - 53) * 4503599627370496 + A * 2 ^ 1074 / down e / 2 ^ (k - 53)) s ∙ ap (λ (k : ℕ). 0 + 1074 * 4503599627370496 + k) (units-back A (down e) (2 ^ 1074) D (pow-pos 1074) l h))
     ∙ last-bits (A / down e) (whole-low A (down e) (2 ^ 1074) D (pow-pos 1074) l h) (whole-high A (down e) (2 ^ 1074) D (pow-pos 1074) l h)
 
-pub fixed-bits : (w : Float) → T (inFixed w) → toBits binary64 w % 4503599627370496 ≡ toUnsigned 64 w - 4503599627370496
+fixed-bits : (w : Float) → T (inFixed w) → toBits binary64 w % 4503599627370496 ≡ toUnsigned 64 w - 4503599627370496
 unfolding lt toUnsigned
 fixed-bits nan t = absurd (unfold le in t)
 fixed-bits (inf true) t = absurd (unfold le in t)
@@ -218,3 +218,17 @@ no-nan-le (inf s) nan t = t
 no-nan-le (fin s m e) nan t = t
 no-nan-le lo (inf s) t = tt
 no-nan-le lo (fin s m e) t = tt
+
+-- ---- what `power` reads from the pattern of w: its last 38 bits, which are w - 2 ^ 52 where that is below 2 ^ 38
+pub record Word (w : Float) (u : ℕ) : Type 0 where
+  pub number : T (not (isNan w))
+  pub digits : toBits binary64 w % 274877906944 ≡ u
+  pub whole : toBits binary64 w / 2147483648 % 128 ≡ u / 2147483648
+
+last-of : (b u : ℕ) → b % 4503599627370496 ≡ u → u < 274877906944 → (b % 274877906944 ≡ u) × (b / 2147483648 % 128 ≡ u / 2147483648)
+last-of b u e h = (omega arith, omega arith)
+
+pub word-of : (w : Float) (lo hi : ℕ) → hi < 274877906944 → Fixed lo hi w → Word w (toUnsigned 64 w - 4503599627370496)
+word-of w lo hi h f =
+    let l = last-of (toBits binary64 w) (toUnsigned 64 w - 4503599627370496) (fixed-bits w (f .number)) (lt-of-le-of-lt (f .most) h) in
+    record { number = no-nan-le (fin false 1 (pos 52)) w (and-l (le (fin false 1 (pos 52)) w) (lt w (fin false 1 (pos 53))) (f .number)); digits = l .0; whole = l .1 }

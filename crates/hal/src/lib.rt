@@ -2,18 +2,16 @@
 // docs/ROUTINES.md has their steps, specs/ the same as definitions, specs/Rules.antt what is proved of those.
 mod cubics;
 mod pairs;
-mod powers;
 mod turns;
 
 ghost use mathlib.Core.Path.{_≡_};
 ghost use mathlib.Core.Bool.{true, _&&_};
-ghost use Prim.Native.Nat.{ℕ, _+_, _-_, _*_, _<_, _≤_, _^_};
-ghost use lib.Dec.{T};
-ghost use lib.Ieee.{nan, le, toUnsigned};
-ghost use Rattle.hal.specs.Powers.{powers, entryOf, pairs};
+ghost use Prim.Native.Nat.{ℕ, _+_, _*_, _/_, _%_, _<_, _≤_};
+ghost use lib.Ieee.{nan, le};
+ghost use Rattle.hal.specs.Powers.{pairs};
 ghost use Rattle.hal.specs.Turns.{turns};
 ghost use Rattle.hal.specs.Cubics.{cubics};
-ghost use Rattle.hal.specs.Exp.{mixOf, scaledOf, powerOf, inFixed, exp2Of, inDown, expOf};
+ghost use Rattle.hal.specs.Exp.{mixOf, scaledOf, powerOf, exp2Of, inDown, expOf};
 ghost use Rattle.hal.specs.Turn.{holdOf, negatedOf, quarterSineOf, sinOf, cosOf};
 ghost use Rattle.hal.specs.Angle.{tangentAngleOf, mirrorOf, belowTurnOf, lesserOf, greaterOf, foldedOf, small, inAngle, angleOf};
 ghost use Rattle.hal.specs.Magnitude.{magnitudeOf};
@@ -25,55 +23,37 @@ fn outside() -> f32
     0.0 / 0.0
 }
 
-// The table, to be made once and lent.
-pub fn table() -> [u32; 256]
-    ensures { λ r. ⌜ r ≡ powers ⌝ }
+// The table of powers, to be made once and lent: each entry, and how much the next one is larger.
+pub fn pair_table() -> [u32; 512]
+    ensures { λ r. ⌜ r ≡ pairs ⌝ }
 {
-    powers::POWERS
-}
-
-// Entry i, and 2^24 = 16777216 after the last.
-fn entry(t: &[u32; 256], i: usize) -> u32
-    requires { ⌜ now t ≡ powers ⌝ }
-    ensures { λ r. ⌜ r ≡ entryOf i ⌝ }
-{
-    if i < 256 { t[i] } else { 16777216 }
+    pairs::PAIRS
 }
 
 // From entry i to the next, g / 2^23 of the way (2^23 = 8388608).
-fn mix(t: &[u32; 256], i: usize, g: u64) -> u32
-    requires { ⌜ now t ≡ powers ⌝ ∗ ⌜ (i < 256) × (g ≤ 8388608) ⌝ }
+fn mix(t: &[u32; 512], i: usize, g: u64) -> u64
+    requires { ⌜ now t ≡ pairs ⌝ ∗ ⌜ (i < 256) × (g ≤ 8388608) ⌝ }
     ensures { λ r. ⌜ r ≡ mixOf i g ⌝ }
 {
-    let lo = entry(t, i);
-    let hi = entry(t, i + 1);
-    lo + ((((hi - lo) as u64) * g / 8388608) as u32)
+    t[2 * i] as u64 + (t[2 * i + 1] as u64) * g / 8388608
 }
 
-// m times 2^(s - 127): s is the exponent field of the factor, and 2^23 moves it there. Below 255, here up to 200, it is a finite one; m up to 2^24 is exact.
-fn scaled(m: u32, s: u32) -> f32
-    requires { ⌜ (m ≤ 16777216) × (s ≤ 200) ⌝ }
+// m times 2^(s - 127), m from 2^23 to 2^24: the leading digit of m adds one to the field, or two, so that the field is s + 23 or s + 24.
+fn scaled(m: u64, s: u64) -> f32
+    requires { ⌜ (8388608 ≤ m) × (m ≤ 16777216) × (0 < s) × (s ≤ 127) ⌝ }
     ensures { λ r. ⌜ r ≡ scaledOf m s ⌝ }
 {
-    (m as f32) * f32::from_bits(s * 8388608)
+    f32::from_bits((m + (s + 22) * 8388608) as u32)
 }
 
-// 2^(v / 2^31), times 2^(s - 104). The last 31 bits of v are the place in the table, 8 for the entry and 23 for the way to the next; v goes up to 47 * 2^31 = 100931731456.
-fn power(t: &[u32; 256], s: u32, v: u64) -> f32
-    requires { ⌜ now t ≡ powers ⌝ ∗ ⌜ (s ≤ 104) × (v ≤ 100931731456) ⌝ }
-    ensures { λ r. ⌜ r ≡ powerOf s v ⌝ }
+// 2^(u / 2^31), times 2^(s - 104), where u is the last 38 bits of v: 7 for whole powers, 8 for the entry and 23 for the way to the next.
+fn power(t: &[u32; 512], s: u64, v: u64) -> f32
+    requires { ⌜ now t ≡ pairs ⌝ ∗ ⌜ (0 < s) × (s + v / 2147483648 % 128 ≤ 127) ⌝ }
+    ensures { λ r. ⌜ r ≡ powerOf s (v % 274877906944) ⌝ }
 {
-    let k = (v / 2147483648) as u32;
+    let k = v / 2147483648 % 128;
     let i = (v / 8388608 % 256) as usize;
     scaled(mix(t, i, v % 8388608), s + k)
-}
-
-// w - 2^52, of a w from 2^52 = 4503599627370496 to below 2^53, where the last 52 bits of its pattern are just that.
-fn fixed(w: f64) -> u64
-    requires { ⌜ T (inFixed w) ⌝ }
-    ensures { λ r. ⌜ r ≡ toUnsigned 64 w - 4503599627370496 ⌝ }
-{
-    f64::to_bits(w) % 4503599627370496
 }
 
 // x lies in lo to hi.
@@ -83,16 +63,17 @@ fn within(x: f32, lo: f32, hi: f32) -> bool
     if lo <= x { x <= hi } else { false }
 }
 
-// Adding 2^52 rounds x * 2^31 to a whole number. 104 is the field of 2^-23, by which an entry (2^23 to 2^24) is scaled to 1 to 2.
-pub fn exp2_with(t: &[u32; 256], x: f32) -> f32
-    requires { ⌜ now t ≡ powers ⌝ }
+// Adding 2^52 rounds x * 2^31 to a whole number, which is then the last 52 bits of the pattern; the exponent's field above them is nothing to `power`. 104 is the field
+// of 2^-23, by which an entry (2^23 to 2^24) is scaled to 1 to 2.
+pub fn exp2_with(t: &[u32; 512], x: f32) -> f32
+    requires { ⌜ now t ≡ pairs ⌝ }
     ensures { λ r. ⌜ r ≡ exp2Of x ⌝ }
 {
     if within(x, 0.0, 2.0) {
         power(
             t,
             104,
-            fixed(4503599627370496.0 + (x as f64) * 2147483648.0),
+            f64::to_bits(4503599627370496.0 + (x as f64) * 2147483648.0),
         )
     } else {
         outside()
@@ -100,17 +81,24 @@ pub fn exp2_with(t: &[u32; 256], x: f32) -> f32
 }
 
 // 3098164009.3597403 is log2(e) * 2^31. Since 32 * log2(e) is 46.2, the exponent is counted from -47: 4503700559101952 is 2^52 + 47 * 2^31, and what is handed on goes
-// from 1790483156, at -32, up to 47 * 2^31, at 0. 57 is 104 - 47.
-pub fn exp_with(t: &[u32; 256], x: f32) -> f32
-    requires { ⌜ now t ≡ powers ⌝ }
+// from 1790483156, at -32, up to 47 * 2^31, at 0, besides the pattern's exponent. 57 is 104 - 47. For loops: x is in the range.
+pub fn exp_in(t: &[u32; 512], x: f32) -> f32
+    requires { ⌜ (now t ≡ pairs) × (inDown x ≡ true) ⌝ }
+    ensures { λ r. ⌜ r ≡ expOf x ⌝ }
+{
+    power(
+        t,
+        57,
+        f64::to_bits(4503700559101952.0 + (x as f64) * 3098164009.3597403),
+    )
+}
+
+pub fn exp_with(t: &[u32; 512], x: f32) -> f32
+    requires { ⌜ now t ≡ pairs ⌝ }
     ensures { λ r. ⌜ r ≡ expOf x ⌝ }
 {
     if within(x, -32.0, 0.0) {
-        power(
-            t,
-            57,
-            fixed(4503700559101952.0 + (x as f64) * 3098164009.3597403),
-        )
+        exp_in(t, x)
     } else {
         outside()
     }
@@ -120,13 +108,13 @@ pub fn exp_with(t: &[u32; 256], x: f32) -> f32
 pub fn exp2(x: f32) -> f32
     ensures { λ r. ⌜ r ≡ exp2Of x ⌝ }
 {
-    exp2_with(&powers::POWERS, x)
+    exp2_with(&pairs::PAIRS, x)
 }
 
 pub fn exp(x: f32) -> f32
     ensures { λ r. ⌜ r ≡ expOf x ⌝ }
 {
-    exp_with(&powers::POWERS, x)
+    exp_with(&pairs::PAIRS, x)
 }
 
 // p brought into 0 to top.
@@ -291,12 +279,6 @@ pub fn magnitude(dx: f32, dy: f32) -> f32
 
 // ---- for loops: the tables made once and lent, and the routines inside their ranges
 
-pub fn pair_table() -> [u32; 512]
-    ensures { λ r. ⌜ r ≡ pairs ⌝ }
-{
-    pairs::PAIRS
-}
-
 pub fn cubic_table() -> [f64; 256]
     ensures { λ r. ⌜ r ≡ cubics ⌝ }
 {
@@ -307,13 +289,6 @@ pub fn turn_table() -> [f32; 272]
     ensures { λ r. ⌜ r ≡ turns ⌝ }
 {
     turns::TURNS
-}
-
-pub fn exp_in(t: &[u32; 512], x: f32) -> f32
-    requires { ⌜ (now t ≡ pairs) × (inDown x ≡ true) ⌝ }
-    ensures { λ r. ⌜ r ≡ expOf x ⌝ }
-{
-    exp(x)
 }
 
 pub fn angle_in(t: &[f32; 272], dx: f32, dy: f32) -> f32

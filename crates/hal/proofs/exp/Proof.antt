@@ -1,5 +1,6 @@
 use mathlib.Core.Path.{refl}
-use Rattle.hal.specs.Powers.{powers}
+use Rattle.lists.specs.Ranges.{joined}
+use Rattle.hal.specs.Powers.{pairs, entryOf, powers}
 use borrow.Author.Needs.{needs}
 use Rattle.hal.proofs.exp.Statement.{statement}
 use Rattle.hal.proofs.exp.Tie as tie
@@ -8,7 +9,7 @@ use Rattle.hal.proofs.exp.Lts as lts
 use Rattle.hal.proofs.exp_with.Reads as exp-with-reads
 
 exp-with-requires : tie.Need-exp-with-requires
-unfolding powers
+unfolding pairs entryOf powers joined
 exp-with-requires c κs = refl
 
 returns : tie.Need-returns

@@ -1,5 +1,6 @@
 use mathlib.Core.Path.{refl}
-use Rattle.hal.specs.Powers.{powers}
+use Rattle.lists.specs.Ranges.{joined}
+use Rattle.hal.specs.Powers.{pairs, entryOf, powers}
 use borrow.Author.Needs.{needs}
 use Rattle.hal.proofs.exp2.Statement.{statement}
 use Rattle.hal.proofs.exp2.Tie as tie
@@ -8,7 +9,7 @@ use Rattle.hal.proofs.exp2.Lts as lts
 use Rattle.hal.proofs.exp2_with.Reads as exp2-with-reads
 
 exp2-with-requires : tie.Need-exp2-with-requires
-unfolding powers
+unfolding pairs entryOf powers joined
 exp2-with-requires c κs = refl
 
 returns : tie.Need-returns

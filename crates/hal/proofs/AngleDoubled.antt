@@ -2,26 +2,25 @@
 use mathlib.Core.Path.{_≡_, refl, sym, ap, _∙_, subst}
 use mathlib.Core.Logic.{_⊎_, inl, inr}
 use mathlib.Core.Bool.{Bool, true, false, not, _&&_, cond, true≢false}
-use borrow.Author.Tests.{eq-eqb, ne-eqb}
+use borrow.Author.Tests.{ltb-true}
 use Prim.Native.Nat.{ℕ, zero, suc, _+_, _-_, _*_, _%_, _^_, _≤_, _<_, zero-le}
-use native.Mathlib.Nat.{le-trans, le-of-eq, lt-of-le-of-lt, not-le-of-lt, mul-one, one-mul, zero-mul, mul-pos, mul-comm, mul-assoc, mul-left-comm, mul-right-comm, mul-le-mul-right, le-of-mul-le-mul-right}
+use native.Mathlib.Nat.{le-trans, le-of-eq, lt-of-le-of-lt, not-le-of-lt, mul-one, one-mul, zero-mul, mul-pos, mul-comm, mul-assoc, mul-left-comm, mul-right-comm, mul-le-mul-right, le-of-mul-le-mul-right, eq-of-mul-eq-mul-right}
 use native.Mathlib.Omega.{arith}
 use lib.IntN.{ℤ, pos, negsuc}
 use lib.Dec.{T, ltb, leb, eqb, ltb→lt, leb→le, nleb→lt, nltb→le, eqb→eq, lit<, lit≤}
 use lib.Pow.{pow-pos, pow-add, pow-lt}
-use lib.Ieee.{Float, nan, inf, fin, binary32, up, down, lt, le, eq, add, div, round, fits, ofBits}
+use lib.Ieee.{Float, nan, inf, fin, binary32, up, down, lt, le, eq, add, sub, div, round, fits, ofBits}
 use lib.Ieee.Exact.{HasValue, round-exact}
 use lib.Ieee.Fits.{down-pos, and-l, and-r}
 use lib.Ieee.Scale.{round-same}
 use lib.Ieee.Positive.{num, den, den-pos, first-pos}
 use Rattle.ieee.specs.F32.{absOf}
 use Rattle.ieee.specs.Numbers.{nought}
-use Rattle.hal.specs.Numbers.{furthest}
-use Rattle.hal.specs.Angle.{ratioOf, nearOf, directionOf, levelOf, small, inAngle, angleOf}
+use Rattle.hal.specs.Angle.{small, inAngle, sumOf, aheadOf, quarterOf, directionOf, angleOf}
 use Rattle.hal.specs.Rules.{double}
-use Rattle.hal.proofs.Range.{below-of}
 use Rattle.hal.proofs.AngleLaws.{angle-level, angle-direction}
-use Rattle.hal.proofs.AngleValues.{less-same, lt-value, div-value, sign-value, sign-of, zero-of, size-value, zero-num, zero-or, null, small-nan, small-inf, small-dx, small-dy}
+use Rattle.hal.proofs.AngleValues.{less-same, sign-value, sign-of, bounded, small-nan, small-inf, small-dx, small-dy}
+use Rattle.hal.proofs.AngleUnits.{near, apart, near-double, sum-test, ahead-units, Whole, whole-of, both-most}
 
 -- ---- a value doubled is exact
 -- q * 2 ^ j units of 2 ^ -149, up to 2 ^ 32
@@ -85,10 +84,6 @@ regroup a d = ap (λ (z : ℕ). z * d) two ∙ mul-assoc (a * 2) d d
     two : a * d + a * d ≡ a * 2 * d
     two = let p : a * 2 * d ≡ a * d * 2 = mul-right-comm a 2 d in omega arith
 
-bounded : (s : Bool) (m : ℕ) (e : ℤ) → T (small (absOf (fin s m e))) → m * up e ≤ 2097152 * down e
-unfolding absOf ofBits
-bounded s m e t = below-of (fin false m e) furthest 2097152 (refl, refl) t m e refl
-
 double-value : (s : Bool) (m : ℕ) (e : ℤ) → T (fits binary32 (fin s m e)) → T (small (absOf (fin s m e))) → HasValue (double (fin s m e)) s (m * up e * 2) (down e)
 double-value s m e f t =
     let b : m * up e ≤ 2097152 * down e = bounded s m e t in
@@ -97,10 +92,9 @@ double-value s m e f t =
     (sym (double-is s m e ∙ round-same binary32 s (m * up e * down e + m * up e * down e) (down e * down e) (m * up e * 2) (down e) (mul-pos (down-pos e) (down-pos e)) (down-pos e) (regroup (m * up e) (down e))))
     (times-power s m e 1 (p .0) (p .1) (omega arith))
 
--- ---- the tests and the size of x + x
+-- ---- the sign and the size of x + x
 record Doubles (x : Float) : Type 0 where
   pub sign : lt (double x) nought ≡ lt x nought
-  pub level : eq (double x) nought ≡ eq x nought
   pub size : HasValue (absOf (double x)) false (num x * 2) (den x)
 
 abs-value : (x : Float) (s : Bool) (a c : ℕ) → HasValue x s a c → HasValue (absOf x) false a c
@@ -109,28 +103,6 @@ abs-value nan s a c h = absurd h
 abs-value (inf t) s a c h = absurd h
 abs-value (fin t m e) s a c h = (refl, h .1)
 
--- ---- being 0 goes by the value
-both-zero : (a b : ℕ) → (a ≡ 0 → b ≡ 0) → (b ≡ 0 → a ≡ 0) → eqb a 0 ≡ eqb b 0
-both-zero a b f g = elim (zero-or a) [
-  | inl z ↦ eq-eqb a 0 z ∙ sym (eq-eqb b 0 (f z))
-  | inr p ↦ ne-eqb a 0 (λ q. no a p q) ∙ sym (ne-eqb b 0 (λ q. no a p (g q)))
-]
-  where
-    no : (a : ℕ) → 0 < a → a ≡ 0 → ⊥
-    no a p q = omega arith
-
-zero-same : (a c b d : ℕ) → 0 < c → 0 < d → a * c ≡ b * d → eqb a 0 ≡ eqb b 0
-zero-same a c b d C D e =
-    both-zero a b (λ z. null b d D (sym e ∙ ap (λ (k : ℕ). k * c) z ∙ zero-mul c)) (λ z. null a c C (e ∙ ap (λ (k : ℕ). k * d) z ∙ zero-mul d))
-
-zero-twice : (a : ℕ) → eqb (a * 2) 0 ≡ eqb a 0
-zero-twice a = both-zero (a * 2) a (λ z. omega arith) (λ z. omega arith)
-
-zero-value : (x : Float) (s : Bool) (a c : ℕ) → 0 < c → HasValue x s a c → eq x nought ≡ eqb a 0
-zero-value nan s a c C h = absurd h
-zero-value (inf t) s a c C h = absurd h
-zero-value (fin t m e) s a c C h = zero-of t m e ∙ zero-same (m * up e) c a (down e) C (down-pos e) (h .1)
-
 doubles : (x : Float) → T (fits binary32 x) → T (small (absOf x)) → Doubles x
 doubles nan f t = absurd (small-nan t)
 doubles (inf s) f t = absurd (small-inf s t)
@@ -138,68 +110,67 @@ doubles (fin s m e) f t =
     let v = double-value s m e f t in
     record {
       sign = sign-value (double (fin s m e)) s (m * up e * 2) (down e) (down-pos e) v ∙ ap (λ (z : Bool). s && z) (less-same 0 (m * up e * 2) 0 (m * up e) (λ h. omega arith) (λ h. omega arith)) ∙ sym (sign-of s m e);
-      level = zero-value (double (fin s m e)) s (m * up e * 2) (down e) (down-pos e) v ∙ zero-twice (m * up e) ∙ sym (zero-of s m e);
       size = abs-value (double (fin s m e)) s (m * up e * 2) (down e) v;
     }
 
--- ---- two sizes doubled have the same quotient
-twice-less : (a b : ℕ) → ltb (a * 2) (b * 2) ≡ ltb a b
-twice-less a b = less-same (a * 2) (b * 2) a b (λ h. omega arith) (λ h. omega arith)
-
-module _ (x y x' y' : Float) (p c q d : ℕ) (C : 0 < c) (D : 0 < d) (hx : HasValue x false p c) (hy : HasValue y false q d) (hx' : HasValue x' false (p * 2) c) (hy' : HasValue y' false (q * 2) d) where
-  lt-double : lt x' y' ≡ lt x y
-  lt-double =
-      lt-value x' y' (p * 2) c (q * 2) d C D hx' hy'
-      ∙ ap (λ (z : ℕ). ltb z (q * 2 * c)) (mul-right-comm p 2 d) ∙ ap (ltb (p * d * 2)) (mul-right-comm q 2 c)
-      ∙ twice-less (p * d) (q * c) ∙ sym (lt-value x y p c q d C D hx hy)
-
-  div-double : 0 < q → div binary32 x' y' ≡ div binary32 x y
-  div-double Q =
-      div-value binary32 x' y' (p * 2) c (q * 2) d C D (omega arith) hx' hy'
-      ∙ round-same binary32 false (p * 2 * d) (q * 2 * c) (p * d) (q * c) (mul-pos (mul-pos Q (lit< tt)) C) (mul-pos Q C) (simp (mul-assoc, mul-comm, mul-left-comm))
-      ∙ sym (div-value binary32 x y p c q d C D Q hx hy)
-
-greater-some : (p q c d : ℕ) → 0 < c → q * c ≤ p * d → 0 < p + q → 0 < p
-greater-some zero q c d C l s = absurd (let z : q ≡ 0 = null q c C (let k : 0 * d ≡ 0 = zero-mul d in omega arith) in omega arith)
-greater-some (suc p) q c d C l s = omega arith
-
--- The quotient of p / c and q / d, not both 0. What is left of the definition once the quotient is the same must be the same too.
-ratio-double : (x y x' y' : Float) (p c q d : ℕ) → 0 < c → 0 < d → 0 < p + q → HasValue x false p c → HasValue y false q d → HasValue x' false (p * 2) c → HasValue y' false (q * 2) d → ratioOf x' y' ≡ ratioOf x y
-unfolding ratioOf
-ratio-double x y x' y' p c q d C D some hx hy hx' hy' = go (lt x y) refl
+-- in units
+twice-units : (y : Float) (a c u L : ℕ) → 0 < c → HasValue y false (a * 2) c → a * L ≡ u * c → HasValue y false (u * 2) L
+twice-units nan a c u L C h e = absurd h
+twice-units (inf t) a c u L C h e = absurd h
+twice-units (fin t n d) a c u L C h e = (
+  h .0,
+  eq-of-mul-eq-mul-right c C (n * up d * L) (u * 2 * down d) (mul-right-comm (n * up d) L c ∙ ap (λ (z : ℕ). z * L) (h .1) ∙ swap a (down d) L ∙ ap (λ (z : ℕ). z * 2 * down d) e ∙ back u c (down d)),
+)
   where
-    go : (t : Bool) → lt x y ≡ t → ratioOf x' y' ≡ ratioOf x y
-    go true e =
-        let l : p * d < q * c = ltb→lt (p * d) (q * c) (subst T (sym e ∙ lt-value x y p c q d C D hx hy) tt) in
-        let Q : 0 < q = first-pos q c (lt-of-le-of-lt zero-le l) in
-        rw (lt-double x y x' y' p c q d C D hx hy hx' hy', e, div-double x y x' y' p c q d C D hx hy hx' hy' Q)
-    go false e =
-        let l : q * c ≤ p * d = nltb→le (p * d) (q * c) (subst (λ (t : Bool). T (not t)) (sym e ∙ lt-value x y p c q d C D hx hy) tt) in
-        rw (lt-double x y x' y' p c q d C D hx hy hx' hy', e, div-double y x y' x' q d p c D C hy hx hy' hx' (greater-some p q c d C l some))
+    swap : (a x L : ℕ) → a * 2 * x * L ≡ a * L * 2 * x
+    swap a x L = simp (mul-assoc, mul-comm, mul-left-comm)
 
-near-double : (x y x' y' : Float) → ratioOf x' y' ≡ ratioOf x y → nearOf x' y' ≡ nearOf x y
-unfolding nearOf
-near-double x y x' y' e = rw e
+    back : (u c x : ℕ) → u * c * 2 * x ≡ u * 2 * x * c
+    back u c x = simp (mul-assoc, mul-comm, mul-left-comm)
 
-some-of : (dx dy : Float) → T (small (absOf dx)) → T (small (absOf dy)) → levelOf dx dy ≡ false → 0 < num dx + num dy
-unfolding levelOf
-some-of dx dy sx sy e = elim (zero-or (num dx + num dy)) [
-  | inl z ↦ absurd (true≢false (sym (ap (λ (b : Bool). b && eq dy nought) (zero-num dx sx ∙ eq-eqb (num dx) 0 (omega arith)) ∙ zero-num dy sy ∙ eq-eqb (num dy) 0 (omega arith)) ∙ e))
-  | inr p ↦ p
-]
+-- ---- R and P units, and twice as many: sum and difference are rounded to twice as many, and so the quotient is the same
+module _ (x y x' y' : Float) (R P : ℕ) (most : R + P ≤ 16777216 * 2 ^ 149) (most2 : R * 2 + P * 2 ≤ 16777216 * 2 ^ 149)
+    (X : HasValue x false R (2 ^ 149)) (Y : HasValue y false P (2 ^ 149)) (X' : HasValue x' false (R * 2) (2 ^ 149)) (Y' : HasValue y' false (P * 2) (2 ^ 149)) where
+  near-sum : near (R * 2 + P * 2) ≡ near (R + P) * 2
+  near-sum = ap near (both R P) ∙ near-double (R + P)
+    where
+      both : (R P : ℕ) → R * 2 + P * 2 ≡ (R + P) * 2
+      both R P = omega arith
 
-direction-double : (dx dy : Float) → Doubles dx → Doubles dy → T (small (absOf dx)) → T (small (absOf dy)) → levelOf dx dy ≡ false → directionOf (double dx) (double dy) ≡ directionOf dx dy
-unfolding directionOf
-direction-double dx dy x y sx sy e =
-    let a = size-value dx sx in
-    let b = size-value dy sy in
-    let l = lt-double (absOf dx) (absOf dy) (absOf (double dx)) (absOf (double dy)) (num dx) (den dx) (num dy) (den dy) (den-pos dx) (den-pos dy) a b (x .size) (y .size) in
-    let n = near-double (absOf dx) (absOf dy) (absOf (double dx)) (absOf (double dy)) (ratio-double (absOf dx) (absOf dy) (absOf (double dx)) (absOf (double dy)) (num dx) (den dx) (num dy) (den dy) (den-pos dx) (den-pos dy) (some-of dx dy sx sy e) a b (x .size) (y .size)) in
-    rw (l, n, x .sign, y .sign)
+  near-apart : near (apart (R * 2) (P * 2)) ≡ near (apart R P) * 2
+  near-apart = ap near (both R P) ∙ near-double (apart R P)
+    where
+      both : (R P : ℕ) → apart (R * 2) (P * 2) ≡ apart R P * 2
+      both R P = omega arith
+
+  sum-double : lt nought (add binary32 x' y') ≡ lt nought (add binary32 x y)
+  sum-double =
+      sum-test x' y' (R * 2) (P * 2) most2 X' Y' ∙ ap (ltb 0) near-sum
+      ∙ less-same 0 (near (R + P) * 2) 0 (near (R + P)) (λ h. half (near (R + P)) h) (λ h. whole (near (R + P)) h) ∙ sym (sum-test x y R P most X Y)
+    where
+      half : (a : ℕ) → 0 < a * 2 → 0 < a
+      half a h = omega arith
+
+      whole : (a : ℕ) → 0 < a → 0 < a * 2
+      whole a h = omega arith
+
+  quotient-double : lt nought (add binary32 x y) ≡ true → div binary32 (sub binary32 x' y') (add binary32 x' y') ≡ div binary32 (sub binary32 x y) (add binary32 x y)
+  quotient-double e =
+      let p : 0 < near (R + P) = ltb-true 0 (near (R + P)) (sym (sum-test x y R P most X Y) ∙ e) in
+      let p2 : 0 < near (R + P) * 2 = mul-pos p (lit< tt) in
+      ahead-units x' y' (R * 2) (P * 2) most2 X' Y' (subst (λ (z : ℕ). 0 < z) (sym near-sum) p2)
+      ∙ ap (λ (b : Bool). round binary32 b (near (apart (R * 2) (P * 2))) (near (R * 2 + P * 2))) (less-same (R * 2) (P * 2) R P (λ h. omega arith) (λ h. omega arith))
+      ∙ ap (λ (z : ℕ). round binary32 (ltb R P) z (near (R * 2 + P * 2))) near-apart
+      ∙ ap (λ (z : ℕ). round binary32 (ltb R P) (near (apart R P) * 2) z) near-sum
+      ∙ round-same binary32 (ltb R P) (near (apart R P) * 2) (near (R + P) * 2) (near (apart R P)) (near (R + P)) p2 p (regroup-2 (near (apart R P)) (near (R + P)))
+      ∙ sym (ahead-units x y R P most X Y p)
+    where
+      regroup-2 : (a b : ℕ) → a * 2 * b ≡ a * (b * 2)
+      regroup-2 a b = simp (mul-assoc, mul-comm, mul-left-comm)
 
 -- the same bits, where all four lie in the range
 pub angle-double : (dx dy : Float) → T (fits binary32 dx) → T (fits binary32 dy) → T (inAngle dx dy) → T (inAngle (double dx) (double dy)) → angleOf (double dx) (double dy) ≡ angleOf dx dy
-angle-double dx dy fx fy h h' = go (levelOf dx dy) refl
+angle-double dx dy fx fy h h' = go (lt nought (sumOf dx dy)) refl
   where
     x : Doubles dx
     x = doubles dx fx (small-dx dx dy h)
@@ -207,9 +178,38 @@ angle-double dx dy fx fy h h' = go (levelOf dx dy) refl
     y : Doubles dy
     y = doubles dy fy (small-dy dx dy h)
 
-    level2 : levelOf (double dx) (double dy) ≡ levelOf dx dy
-    level2 = unfold levelOf in ap (λ (z : Bool). z && eq (double dy) nought) (x .level) ∙ ap (λ (z : Bool). eq dx nought && z) (y .level)
+    u : Whole dx
+    u = whole-of dx fx (small-dx dx dy h)
 
-    go : (t : Bool) → levelOf dx dy ≡ t → angleOf (double dx) (double dy) ≡ angleOf dx dy
-    go true e = angle-level (double dx) (double dy) h' (level2 ∙ e) ∙ sym (angle-level dx dy h e)
-    go false e = angle-direction (double dx) (double dy) h' (level2 ∙ e) ∙ direction-double dx dy x y (small-dx dx dy h) (small-dy dx dy h) e ∙ sym (angle-direction dx dy h e)
+    v : Whole dy
+    v = whole-of dy fy (small-dy dx dy h)
+
+    most : v .units + u .units ≤ 16777216 * 2 ^ 149
+    most = both-most (u .units) (v .units) (2 ^ 149) (u .most) (v .most)
+
+    most2 : v .units * 2 + u .units * 2 ≤ 16777216 * 2 ^ 149
+    most2 = both-twice (u .units) (v .units) (2 ^ 149) (u .most) (v .most)
+      where
+        both-twice : (P R Q : ℕ) → P ≤ 2097152 * Q → R ≤ 2097152 * Q → R * 2 + P * 2 ≤ 16777216 * Q
+        both-twice P R Q h k = omega arith
+
+    X : HasValue (absOf (double dy)) false (v .units * 2) (2 ^ 149)
+    X = twice-units (absOf (double dy)) (num dy) (den dy) (v .units) (2 ^ 149) (den-pos dy) (y .size) (v .size)
+
+    Y : HasValue (absOf (double dx)) false (u .units * 2) (2 ^ 149)
+    Y = twice-units (absOf (double dx)) (num dx) (den dx) (u .units) (2 ^ 149) (den-pos dx) (x .size) (u .size)
+
+    sums : lt nought (sumOf (double dx) (double dy)) ≡ lt nought (sumOf dx dy)
+    sums = sum-double (absOf dy) (absOf dx) (absOf (double dy)) (absOf (double dx)) (v .units) (u .units) most most2 (v .value) (u .value) X Y
+
+    ahead : lt nought (sumOf dx dy) ≡ true → aheadOf (double dx) (double dy) ≡ aheadOf dx dy
+    ahead e = unfold aheadOf in quotient-double (absOf dy) (absOf dx) (absOf (double dy)) (absOf (double dx)) (v .units) (u .units) most most2 (v .value) (u .value) X Y e
+
+    go : (t : Bool) → lt nought (sumOf dx dy) ≡ t → angleOf (double dx) (double dy) ≡ angleOf dx dy
+    go false e = angle-level (double dx) (double dy) h' (sums ∙ e) ∙ sym (angle-level dx dy h e)
+    go true e =
+        angle-direction (double dx) (double dy) h' (sums ∙ e)
+        ∙ ap (directionOf (quarterOf (lt (double dx) nought) (lt (double dy) nought))) (ahead e)
+        ∙ ap (λ (b : Bool). directionOf (quarterOf b (lt (double dy) nought)) (aheadOf dx dy)) (x .sign)
+        ∙ ap (λ (b : Bool). directionOf (quarterOf (lt dx nought) b) (aheadOf dx dy)) (y .sign)
+        ∙ sym (angle-direction dx dy h e)

@@ -18,11 +18,10 @@ use Rattle.ieee.specs.Fused.{fma}
 use Rattle.ieee.specs.F32.{_⊗_, fused, rootOf, absOf}
 use Rattle.ieee.proofs.SignedParts.{round-zero}
 use Rattle.ieee.specs.Numbers.{nought}
-use Rattle.hal.specs.Numbers.{furthest}
 use Rattle.hal.specs.Angle.{small, inAngle}
 use Rattle.hal.specs.Magnitude.{magnitudeOf}
-use Rattle.hal.proofs.Range.{Within, Exact, round-within, below-of, cut-le}
-use Rattle.hal.proofs.AngleValues.{small-nan, small-inf, small-dx, small-dy, zero-of}
+use Rattle.hal.proofs.Range.{Within, Exact, round-within, cut-le}
+use Rattle.hal.proofs.AngleValues.{bounded, small-nan, small-inf, small-dx, small-dy, zero-of}
 
 -- ---- the whole root
 twice-square : (r : ℕ) → 2 * r * (2 * r) ≡ 4 * (r * r)
@@ -114,10 +113,6 @@ fused-within s m e (fin false p g) h w =
     (unfold sum in round-within binary32 0 8796093022208 (m * up e * (m * up e) * down g + p * up g * (down e * down e)) (down e * down e * down g) (mul-pos (mul-pos (down-pos e) (down-pos e)) (down-pos g)) (exact 0 (lit≤ tt)) exact-sum
     (le-trans (le-of-eq (zero-mul (down e * down e * down g))) zero-le)
     (sum-le (m * up e * (m * up e)) (down e * down e) (p * up g) (down g) (square-le (m * up e) (down e) h) (w .1)))
-
-bounded : (s : Bool) (m : ℕ) (e : ℤ) → T (small (absOf (fin s m e))) → m * up e ≤ 2097152 * down e
-unfolding absOf ofBits
-bounded s m e t = below-of (fin false m e) furthest 2097152 (refl, refl) t m e refl
 
 inner-within : (dx dy : Float) → T (small (absOf dx)) → T (small (absOf dy)) → Within 0 8796093022208 (fused dx dx (dy ⊗ dy))
 inner-within nan dy h k = absurd (small-nan h)

@@ -10,7 +10,7 @@ use lib.ListN.{length}
 use lib.Dec.{T, ltb→lt, lt→ltb}
 use lib.Ieee.{Float, nan, inf, fin, binary32, binary64, up, down, lt, le, eq, neg, mul, add, sub, div, round, toUnsigned, ofInt, ofBits, fits}
 use lib.Ieee.Exact.{HasValue}
-use lib.Ieee.Fits.{cond-fits, nan-fits, neg-fits, mul-fits, sub-fits, up-pos}
+use lib.Ieee.Fits.{cond-fits, nan-fits, neg-fits, add-fits, mul-fits, up-pos}
 use lib.Ieee.Positive.{positive, between}
 use Rattle.ieee.specs.F32.{_⊗_, fused, absOf}
 use Rattle.ieee_laws.specs.Sign.{Same}
@@ -18,26 +18,28 @@ use Rattle.ieee.proofs.Held.{fma-fits, sqrt-fits}
 use Rattle.ieee_laws.proofs.Turned.{le-turned, add-turned, mul-turned}
 use Rattle.ieee_laws.proofs.TurnedOps.{same, toUnsigned-same}
 use Rattle.ieee.specs.Numbers.{nought, one, minusOne, two, four, eighthTurn, quarterTurn, halfTurn, threeQuarterTurn, wholeTurn}
-use Rattle.hal.specs.Numbers.{minus32, lastAngle, furthest}
+use Rattle.hal.specs.Numbers.{minus32, lastAngle, furthest, threeEighthTurn, fiveEighthTurn, sevenEighthTurn, steps63, minusSteps63, shift}
 use Rattle.hal.specs.Powers.{powers, entryOf}
 use Rattle.hal.specs.Exp.{scaledOf, powerOf, fixedOf, inUp, upStart, upRate, upField, exp2Of, inDown, downStart, downRate, downField, expOf}
 use Rattle.hal.specs.Turn.{holdOf, negatedOf, quarterSineOf, inTurn, sinOf, cosOf}
-use Rattle.hal.specs.Angle.{tangentAngleOf, lesserOf, greaterOf, nearOf, mirrorOf, belowTurnOf, foldedOf, directionOf, levelOf, inAngle, angleOf}
+use Rattle.hal.specs.Angle.{lesserOf, greaterOf, quarterOf, lineOf, alongOf, directionOf, sumOf, aheadOf, inAngle, angleOf}
 use Rattle.hal.specs.Magnitude.{magnitudeOf}
 use Rattle.hal.specs.Rules.{In, TableRule, Exp2Rule, ExpRule, TurnRule, SineRule, CosineRule, AngleRule, MagnitudeRule, startOf, endOf}
 use Rattle.hal.proofs.Entries.{entry-rule}
 use Rattle.hal.proofs.Range.{Within, wider, ge-of, le-of}
 use Rattle.hal.proofs.ExpLaws.{entry-after, exp2-between, exp2-at, entry-value, exp2-within, exp-within, exp-least, exp-at-zero}
 use Rattle.hal.proofs.TurnLaws.{sin-in, cos-in, sin-quarters, cos-quarters}
-use Rattle.hal.proofs.AngleLaws.{fromOf}
-use Rattle.hal.proofs.AngleValues.{angle-within, angle-below, angle-east, angle-north, angle-west, angle-south, angle-none}
+use Rattle.hal.proofs.AngleLaws.{by-sum, direction-in, angle-least, angle-below}
+use Rattle.hal.proofs.AngleValues.{small-dx, small-dy, none-num}
+use Rattle.hal.proofs.AngleUnits.{level-none}
+use Rattle.hal.proofs.AngleAxes.{angle-east, angle-north, angle-west, angle-south, angle-none}
 use Rattle.hal.proofs.AngleDoubled.{angle-double}
 use Rattle.hal.proofs.MagnitudeLaws.{magnitude-is, magnitude-within, magnitude-none}
 
 -- ---- the named numbers are what their pages say
-pub named : (nought ≡ fin false 0 (pos 0)) × (one ≡ fin false 1 (pos 0)) × (minusOne ≡ fin true 1 (pos 0)) × (two ≡ fin false 1 (pos 1)) × (four ≡ fin false 1 (pos 2)) × (minus32 ≡ fin true 1 (pos 5)) × (eighthTurn ≡ fin false 45 (pos 0)) × (quarterTurn ≡ fin false 45 (pos 1)) × (halfTurn ≡ fin false 45 (pos 2)) × (threeQuarterTurn ≡ fin false 135 (pos 1)) × (wholeTurn ≡ fin false 45 (pos 3)) × (lastAngle ≡ fin false 11796479 (negsuc 14)) × (furthest ≡ fin false 1 (pos 21))
+pub named : (nought ≡ fin false 0 (pos 0)) × (one ≡ fin false 1 (pos 0)) × (minusOne ≡ fin true 1 (pos 0)) × (two ≡ fin false 1 (pos 1)) × (four ≡ fin false 1 (pos 2)) × (minus32 ≡ fin true 1 (pos 5)) × (eighthTurn ≡ fin false 45 (pos 0)) × (quarterTurn ≡ fin false 45 (pos 1)) × (halfTurn ≡ fin false 45 (pos 2)) × (threeQuarterTurn ≡ fin false 135 (pos 1)) × (wholeTurn ≡ fin false 45 (pos 3)) × (lastAngle ≡ fin false 11796479 (negsuc 14)) × (furthest ≡ fin false 1 (pos 21)) × (threeEighthTurn ≡ fin false 135 (pos 0)) × (fiveEighthTurn ≡ fin false 225 (pos 0)) × (sevenEighthTurn ≡ fin false 315 (pos 0)) × (steps63 ≡ fin false 63 (pos 0)) × (minusSteps63 ≡ fin true 63 (pos 0)) × (shift ≡ fin false 12582975 (pos 0))
 unfolding ofBits
-named = (refl, refl, refl, refl, refl, refl, refl, refl, refl, refl, refl, refl, refl)
+named = (refl, refl, refl, refl, refl, refl, refl, refl, refl, refl, refl, refl, refl, refl, refl, refl, refl, refl, refl)
 
 -- ---- where exp's exponent starts and where it ends, as docs/ROUTINES.md says
 pub down-ends : (fixedOf downStart downRate minus32 ≡ 1790483156) × (fixedOf downStart downRate nought ≡ 47 * 2147483648)
@@ -180,75 +182,57 @@ cosine-rule = record {
 }
 
 -- ---- the angle
-start-value : (l d : Bool) → HasValue (startOf l d) false (fromOf l d) 1
-unfolding ofBits
-start-value false false = (refl, refl)
-start-value true false = (refl, refl)
-start-value true true = (refl, refl)
-start-value false true = (refl, refl)
+along-fits : (middle u : Float) → T (fits binary32 (alongOf middle u))
+unfolding alongOf lineOf
+along-fits middle u = add-fits binary32 _ _
 
-end-value : (l d : Bool) → HasValue (endOf l d) false (fromOf l d + 90) 1
-unfolding ofBits
-end-value false false = (refl, refl)
-end-value true false = (refl, refl)
-end-value true true = (refl, refl)
-end-value false true = (refl, refl)
+held-fits : (lo hi q : Float) → T (fits binary32 lo) → T (fits binary32 hi) → T (fits binary32 q) → T (fits binary32 (lesserOf (greaterOf lo q) hi))
+held-fits lo hi q l h k = cond-fits binary32 (lt (greaterOf lo q) hi) (greaterOf lo q) hi (cond-fits binary32 (lt lo q) q lo k l) h
 
-mirror-fits : (c : Bool) (k q : Float) → T (fits binary32 q) → T (fits binary32 (mirrorOf c k q))
-unfolding mirrorOf
-mirror-fits c k q h = cond-fits binary32 c (sub binary32 k q) q (sub-fits binary32 k q) h
+ends-fit : (left down : Bool) → T (fits binary32 (quarterOf left down .least)) × T (fits binary32 (quarterOf left down .largest))
+unfolding fits ofBits
+ends-fit false false = (tt, tt)
+ends-fit true false = (tt, tt)
+ends-fit true true = (tt, tt)
+ends-fit false true = (tt, tt)
 
-tangent-fits : (t : Float) → T (fits binary32 (tangentAngleOf t))
-unfolding tangentAngleOf ofBits
-tangent-fits t = hold-fits (mul binary32 t _) eighthTurn (mul-fits binary32 t _) (unfold fits in tt)
-
-near-fits : (a b : Float) → T (fits binary32 (nearOf a b))
-unfolding nearOf
-near-fits a b = tangent-fits _
-
-record Fit (x : Float) : Type 0 where
-  pub fit : T (fits binary32 x)
-
-held-fit : (t u w : Float) → Fit u → Fit w → Fit (cond (lt w t) w u)
-held-fit t u w a b = record { fit = cond-fits binary32 (lt w t) w u (b .fit) (a .fit) }
-
-below-fit : (w : Float) → Fit w → Fit (belowTurnOf w)
-unfolding belowTurnOf fits ofBits
-below-fit w b = held-fit _ _ w (record { fit = tt }) b
-
-folded-fits : (s l d : Bool) (q : Float) → T (fits binary32 q) → T (fits binary32 (foldedOf s l d q))
-unfolding foldedOf
-folded-fits s l d q h =
-    below-fit _ (record { fit = mirror-fits _ _ _ (mirror-fits _ _ _ (mirror-fits _ _ _ h)) }) .fit
-
-direction-fits : (dx dy : Float) → T (fits binary32 (directionOf dx dy))
+direction-fits : (left down : Bool) (ahead : Float) → T (fits binary32 (directionOf (quarterOf left down) ahead))
 unfolding directionOf
-direction-fits dx dy = folded-fits (lt (absOf dx) (absOf dy)) (lt dx nought) (lt dy nought) (nearOf (absOf dx) (absOf dy)) (near-fits (absOf dx) (absOf dy))
+direction-fits left down ahead =
+    let q = quarterOf left down in
+    held-fits (q .least) (q .largest) (alongOf (q .middle) (mul binary32 ahead (q .steps))) (ends-fit left down .0) (ends-fit left down .1) (along-fits (q .middle) (mul binary32 ahead (q .steps)))
 
 angle-fits : (dx dy : Float) → T (fits binary32 (angleOf dx dy))
 unfolding angleOf ofBits
-angle-fits dx dy = cond-fits binary32 (inAngle dx dy) (cond (levelOf dx dy) nought (directionOf dx dy)) nan (cond-fits binary32 (levelOf dx dy) nought (directionOf dx dy) (unfold fits in tt) (direction-fits dx dy)) (nan-fits binary32)
+angle-fits dx dy =
+    cond-fits binary32 (inAngle dx dy) _ nan (cond-fits binary32 (lt nought (sumOf dx dy)) (directionOf (quarterOf (lt dx nought) (lt dy nought)) (aheadOf dx dy)) nought (direction-fits (lt dx nought) (lt dy nought) (aheadOf dx dy)) (unfold fits in tt)) (nan-fits binary32)
 
 angle-outside : (dx dy : Float) → inAngle dx dy ≡ false → angleOf dx dy ≡ nan
 unfolding angleOf
 angle-outside dx dy e = otherwise (inAngle dx dy) _ e
 
-angle-least : (dx dy : Float) → T (inAngle dx dy) → T (le nought (angleOf dx dy))
-unfolding ofBits
-angle-least dx dy h =
-    let n = fromOf (lt dx nought) (lt dy nought) in
-    ge-of (angleOf dx dy) nought 0 (n + 90) (wider (angleOf dx dy) n (n + 90) 0 (n + 90) zero-le (le-refl (n + 90)) (angle-within dx dy h)) (refl, refl)
+nought-first : In (startOf false false) (endOf false false) nought
+unfolding le lt eq ofBits
+nought-first = record { least = tt; most = tt }
+
+angle-quarters : (dx dy : Float) → T (fits binary32 dx) → T (fits binary32 dy) → T (inAngle dx dy) → In (startOf (lt dx nought) (lt dy nought)) (endOf (lt dx nought) (lt dy nought)) (angleOf dx dy)
+angle-quarters dx dy fx fy h =
+    by-sum (In (startOf (lt dx nought) (lt dy nought)) (endOf (lt dx nought) (lt dy nought))) dx dy h
+    (λ e.
+    let n = level-none dx dy fx fy h e in
+    subst (λ (b : Bool). In (startOf b (lt dy nought)) (endOf b (lt dy nought)) nought) (sym (none-num dx (small-dx dx dy h) (n .0) .sign))
+    (subst (λ (b : Bool). In (startOf false b) (endOf false b) nought) (sym (none-num dy (small-dy dx dy h) (n .1) .sign)) nought-first))
+    (λ e. direction-in (lt dx nought) (lt dy nought) (aheadOf dx dy))
 
 pub angle-rule : AngleRule
 angle-rule = record {
   least = angle-least;
   below = angle-below;
-  quarters = λ dx dy h.
-      let l = lt dx nought in let d = lt dy nought in in-of (angleOf dx dy) (startOf l d) (endOf l d) (fromOf l d) (fromOf l d + 90) (start-value l d) (end-value l d) (angle-within dx dy h);
+  quarters = angle-quarters;
   east = angle-east;
-  north = angle-north;
-  west = angle-west;
-  south = angle-south;
+  north = λ dx dy fx fy h. angle-north dx dy h fx fy;
+  west = λ dx dy fx fy h. angle-west dx dy h fx fy;
+  south = λ dx dy fx fy h. angle-south dx dy h fx fy;
   none = angle-none;
   doubled = angle-double;
   outside = angle-outside;

@@ -100,13 +100,12 @@ pub record AngleRule : Type 0 where
   -- from 0 on, and less than 360
   pub least : (dx dy : Float) → T (inAngle dx dy) → T (nought ≤ᶠ angleOf dx dy)
   pub below : (dx dy : Float) → T (inAngle dx dy) → T (angleOf dx dy <ᶠ wholeTurn)
-  -- between the ends of the quarter
-  pub quarters : (dx dy : Float) → T (inAngle dx dy) → In (startOf (dx <ᶠ nought) (dy <ᶠ nought)) (endOf (dx <ᶠ nought) (dy <ᶠ nought)) (angleOf dx dy)
-  -- along the four half axes
+  -- between the ends of the quarter, and along the half axes: of values of binary32, since the sum of smaller ones can be rounded to 0
+  pub quarters : (dx dy : Float) → T (fits binary32 dx) → T (fits binary32 dy) → T (inAngle dx dy) → In (startOf (dx <ᶠ nought) (dy <ᶠ nought)) (endOf (dx <ᶠ nought) (dy <ᶠ nought)) (angleOf dx dy)
   pub east : (dx dy : Float) → T (inAngle dx dy) → T (nought <ᶠ dx) → T (dy =ᶠ nought) → angleOf dx dy ≡ nought
-  pub north : (dx dy : Float) → T (inAngle dx dy) → T (dx =ᶠ nought) → T (nought <ᶠ dy) → angleOf dx dy ≡ quarterTurn
-  pub west : (dx dy : Float) → T (inAngle dx dy) → T (dx <ᶠ nought) → T (dy =ᶠ nought) → angleOf dx dy ≡ halfTurn
-  pub south : (dx dy : Float) → T (inAngle dx dy) → T (dx =ᶠ nought) → T (dy <ᶠ nought) → angleOf dx dy ≡ threeQuarterTurn
+  pub north : (dx dy : Float) → T (fits binary32 dx) → T (fits binary32 dy) → T (inAngle dx dy) → T (dx =ᶠ nought) → T (nought <ᶠ dy) → angleOf dx dy ≡ quarterTurn
+  pub west : (dx dy : Float) → T (fits binary32 dx) → T (fits binary32 dy) → T (inAngle dx dy) → T (dx <ᶠ nought) → T (dy =ᶠ nought) → angleOf dx dy ≡ halfTurn
+  pub south : (dx dy : Float) → T (fits binary32 dx) → T (fits binary32 dy) → T (inAngle dx dy) → T (dx =ᶠ nought) → T (dy <ᶠ nought) → angleOf dx dy ≡ threeQuarterTurn
   -- (0, 0) has no direction, and the angle 0
   pub none : (dx dy : Float) → T (inAngle dx dy) → T (dx =ᶠ nought) → T (dy =ᶠ nought) → angleOf dx dy ≡ nought
   -- doubling both changes no bit

@@ -1,5 +1,7 @@
 -- The table of the angle (rule F7): 128 lines, of which 127 are used, each the angle in degrees at a step and how much it grows with one step; then four quarters, each its
 -- middle, its 63 steps with their sign, its least and its largest angle. docs/ROUTINES.md has where the numbers come from. Definitions only.
+use Prim.Native.Nat.{ℕ, _+_}
+use mathlib.Core.Bool.{Bool, cond}
 use mathlib.Core.List.{List, [], _∷_}
 use lib.Ieee.{Float}
 use Rattle.ieee.specs.F32.{f32}
@@ -40,3 +42,7 @@ turns =
     f32 0x42304d4d ∷ f32 0x3ef054f0 ∷ f32 0x42322a2c ∷ f32 0x3eec8c5c ∷ f32 0x42340000 ∷ f32 0x3ee9969d ∷ f32 0x42340000 ∷ f32 0x00000000 ∷
     f32 0x42340000 ∷ f32 0x427c0000 ∷ f32 0x00000000 ∷ f32 0x42b40000 ∷ f32 0x43070000 ∷ f32 0xc27c0000 ∷ f32 0x42b40000 ∷ f32 0x43340000 ∷
     f32 0x439d8000 ∷ f32 0xc27c0000 ∷ f32 0x43870000 ∷ f32 0x43b3ffff ∷ f32 0x43610000 ∷ f32 0x427c0000 ∷ f32 0x43340000 ∷ f32 0x43870000 ∷ []
+
+-- where the quarter stands, by whether dx and whether dy is negative
+abbrev pub placeOf : Bool → Bool → ℕ
+placeOf left down = 256 + (cond left 4 0 + cond down 8 0)

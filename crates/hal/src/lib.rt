@@ -5,15 +5,18 @@ mod pairs;
 mod turns;
 
 ghost use mathlib.Core.Path.{_≡_};
-ghost use mathlib.Core.Bool.{true, _&&_};
+ghost use mathlib.Core.Bool.{true, not, _&&_, cond};
 ghost use Prim.Native.Nat.{ℕ, _+_, _*_, _/_, _%_, _<_, _≤_};
-ghost use lib.Ieee.{nan, le};
+ghost use lib.Dec.{T};
+ghost use lib.Ieee.{nan, le, isNan};
+ghost use Rattle.ieee.specs.F32.{_⊕_, absOf};
+ghost use Rattle.hal.specs.Numbers.{shift};
 ghost use Rattle.hal.specs.Powers.{pairs};
-ghost use Rattle.hal.specs.Turns.{turns};
+ghost use Rattle.hal.specs.Turns.{turns, placeOf};
 ghost use Rattle.hal.specs.Cubics.{cubics};
 ghost use Rattle.hal.specs.Exp.{mixOf, scaledOf, powerOf, exp2Of, inDown, expOf};
 ghost use Rattle.hal.specs.Turn.{holdOf, negatedOf, quarterSineOf, sinOf, cosOf};
-ghost use Rattle.hal.specs.Angle.{tangentAngleOf, mirrorOf, belowTurnOf, lesserOf, greaterOf, foldedOf, small, inAngle, angleOf};
+ghost use Rattle.hal.specs.Angle.{small, inAngle, quarterOf, alongOf, lesserOf, greaterOf, directionOf, angleOf};
 ghost use Rattle.hal.specs.Magnitude.{magnitudeOf};
 
 // What each routine answers outside its range: a not-a-number.
@@ -191,33 +194,12 @@ pub fn cos(d: f32) -> f32
     }
 }
 
-// The angle in degrees whose tangent is t, t in 0 to 1. The odd polynomial of degree eleven whose largest error on 0 to 1 is least (0.000096 degree), rounded to f32.
-fn tangent_angle(t: f32) -> f32
-    ensures { λ r. ⌜ r ≡ tangentAngleOf t ⌝ }
+// |x|, of an x that is a number.
+fn size(x: f32) -> f32
+    requires { ⌜ T (not (isNan x)) ⌝ }
+    ensures { λ r. ⌜ r ≡ absOf x ⌝ }
 {
-    let z = t * t;
-    hold(
-        t
-            * (57.294476
-                - z
-                    * (19.057884
-                        - z * (11.0890465 - z * (6.670746 - z * (3.0164711 - z * 0.671457))))),
-        45.0,
-    )
-}
-
-// k - q where c is, else q.
-fn mirror(c: bool, k: f32, q: f32) -> f32
-    ensures { λ r. ⌜ r ≡ mirrorOf c k q ⌝ }
-{
-    if c { k - q } else { q }
-}
-
-// w, or the largest value below 360, which is 360 - 2^-15.
-fn below_turn(w: f32) -> f32
-    ensures { λ r. ⌜ r ≡ belowTurnOf w ⌝ }
-{
-    if w < 359.99997 { w } else { 359.99997 }
+    f32::from_bits(f32::to_bits(x) % 0x8000_0000)
 }
 
 fn lesser(a: f32, b: f32) -> f32
@@ -232,11 +214,61 @@ fn greater(a: f32, b: f32) -> f32
     if a < b { b } else { a }
 }
 
-// The angle q in 0 to 45 brought to the eighth of the turn that the tests name. Nothing here branches once it is compiled.
-fn folded(steep: bool, left: bool, down: bool, q: f32) -> f32
-    ensures { λ r. ⌜ r ≡ foldedOf steep left down q ⌝ }
+// The table of the angle, to be made once and lent.
+pub fn turn_table() -> [f32; 272]
+    ensures { λ r. ⌜ r ≡ turns ⌝ }
 {
-    below_turn(mirror(down, 360.0, mirror(left, 180.0, mirror(steep, 90.0, q))))
+    turns::TURNS
+}
+
+// The angle at u, from -63 to 63, in a quarter with this middle: by line k, at the step that is next to u.
+fn along(t: &[f32; 272], middle: f32, u: f32) -> f32
+    requires { ⌜ now t ≡ turns ⌝ ∗ ⌜ T (not (isNan (u ⊕ shift))) ⌝ }
+    ensures { λ r. ⌜ r ≡ alongOf middle u ⌝ }
+{
+    let r = u + 12582975.0;
+    let k = (f32::to_bits(r) % 128) as usize;
+    let d = u - (r - 12582975.0);
+    middle + t[2 * k] + d * t[2 * k + 1]
+}
+
+// n where c is, else 0.
+fn part(c: bool, n: usize) -> usize
+    ensures { λ r. ⌜ r ≡ cond c n 0 ⌝ }
+{
+    if c { n } else { 0 }
+}
+
+// Where the table has the quarter that the signs name.
+fn quarter(left: bool, down: bool) -> usize
+    ensures { λ r. ⌜ (r ≡ placeOf left down) × (r ≤ 268) ⌝ }
+{
+    256 + (part(left, 4) + part(down, 8))
+}
+
+// The angle in the quarter that the signs name, `ahead` being from -1 to 1. Nothing here branches once it is compiled.
+fn direction(t: &[f32; 272], left: bool, down: bool, ahead: f32) -> f32
+    requires { ⌜ now t ≡ turns ⌝ ∗ ⌜ T (not (isNan ahead)) ⌝ }
+    ensures { λ r. ⌜ r ≡ directionOf (quarterOf left down) ahead ⌝ }
+{
+    let i = quarter(left, down);
+    let q = along(t, t[i], ahead * t[i + 1]);
+    lesser(greater(t[i + 2], q), t[i + 3])
+}
+
+// For loops: both are in the range.
+pub fn angle_in(t: &[f32; 272], dx: f32, dy: f32) -> f32
+    requires { ⌜ (now t ≡ turns) × (inAngle dx dy ≡ true) ⌝ }
+    ensures { λ r. ⌜ r ≡ angleOf dx dy ⌝ }
+{
+    let a = size(dx);
+    let b = size(dy);
+    let s = b + a;
+    if s > 0.0 {
+        direction(t, dx < 0.0, dy < 0.0, (b - a) / s)
+    } else {
+        0.0
+    }
 }
 
 // Neither a nor b is a NaN or above 2^21 = 2097152, twice the largest sample.
@@ -253,15 +285,8 @@ fn both_small(a: f32, b: f32) -> bool
 pub fn angle(dx: f32, dy: f32) -> f32
     ensures { λ r. ⌜ r ≡ angleOf dx dy ⌝ }
 {
-    let a = ieee::abs(dx);
-    let b = ieee::abs(dy);
-    if both_small(a, b) {
-        let big = greater(a, b);
-        if big == 0.0 {
-            0.0
-        } else {
-            folded(a < b, dx < 0.0, dy < 0.0, tangent_angle(lesser(a, b) / big))
-        }
+    if both_small(ieee::abs(dx), ieee::abs(dy)) {
+        angle_in(&turns::TURNS, dx, dy)
     } else {
         outside()
     }
@@ -277,25 +302,11 @@ pub fn magnitude(dx: f32, dy: f32) -> f32
     }
 }
 
-// ---- for loops: the tables made once and lent, and the routines inside their ranges
-
+// The table of the magnitude's guesses, to be made once and lent.
 pub fn cubic_table() -> [f64; 256]
     ensures { λ r. ⌜ r ≡ cubics ⌝ }
 {
     cubics::CUBICS
-}
-
-pub fn turn_table() -> [f32; 272]
-    ensures { λ r. ⌜ r ≡ turns ⌝ }
-{
-    turns::TURNS
-}
-
-pub fn angle_in(t: &[f32; 272], dx: f32, dy: f32) -> f32
-    requires { ⌜ (now t ≡ turns) × (inAngle dx dy ≡ true) ⌝ }
-    ensures { λ r. ⌜ r ≡ angleOf dx dy ⌝ }
-{
-    angle(dx, dy)
 }
 
 pub fn magnitude_in(t: &[f64; 256], dx: f32, dy: f32) -> f32

@@ -1,5 +1,4 @@
-use Rattle.hal.specs.Angle.{small, tangentAngleOf, lesserOf, greaterOf, nearOf, mirrorOf, belowTurnOf, foldedOf, directionOf, levelOf, inAngle, angleOf}
-use lib.Ieee.{Float, nan, fin, binary32, binary64, lt, le, eq, neg, add, sub, mul, div, ofBits, fits, isNan}
+use lib.Ieee.{ofBits}
 use Rattle.hal.proofs.greater.Statement.{statement}
 use Rattle.hal.proofs.greater.Tie as tie
 use Rattle.hal.proofs.greater.Reads as reads

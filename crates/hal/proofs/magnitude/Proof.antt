@@ -1,7 +1,6 @@
 use mathlib.Core.Path.{_≡_, sym, _∙_}
 use Rattle.hal.specs.Magnitude.{magnitudeOf}
-use Rattle.hal.specs.Angle.{small, tangentAngleOf, lesserOf, greaterOf, nearOf, mirrorOf, belowTurnOf, foldedOf, directionOf, levelOf, inAngle, angleOf}
-use lib.Ieee.{Float, nan, fin, binary32, binary64, lt, le, eq, neg, add, sub, mul, div, ofBits, fits, isNan}
+use lib.Ieee.{ofBits}
 use borrow.Author.Needs.{needs}
 use Rattle.hal.proofs.magnitude.Statement.{statement}
 use Rattle.hal.proofs.magnitude.Tie as tie

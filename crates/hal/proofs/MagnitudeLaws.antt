@@ -1,6 +1,7 @@
 -- The magnitude's range: 0 to 2 ^ 22, and 0 for (0, 0). Assumes nothing.
 use mathlib.Core.Path.{_≡_, refl, sym, ap, _∙_, subst}
 use mathlib.Core.Bool.{Bool, true, false, not, cond}
+use mathlib.Core.List.{List}
 use Prim.Native.Nat.{ℕ, zero, suc, _+_, _-_, _*_, _/_, _%_, _^_, _≤_, _<_, zero-le}
 use native.Mathlib.Nat.{le-trans, le-of-eq, lt-of-le-of-lt, not-le-of-lt, zero-mul, mul-one, add-zero, mul-comm, mul-assoc, mul-left-comm, mul-right-comm, mul-mul-mul-comm, mul-le-mul, mul-le-mul-right, mul-pos, add-mul}
 use native.Mathlib.Numerals.{add-one}
@@ -13,12 +14,15 @@ use lib.Ieee.Exact.{HasValue}
 use lib.Ieee.Fits.{down-pos}
 use lib.Ieee.Bits.{is-true}
 use lib.Ieee.Back.{round-whole}
+use lib.Ieee.Scale.{finite}
+use Rattle.ieee.specs.Mild.{allMild}
 use Rattle.ieee.specs.Root.{rootIn, root, halves, sqrt}
 use Rattle.ieee.specs.Fused.{fma}
 use Rattle.ieee.specs.F32.{_⊗_, fused, rootOf, absOf}
 use Rattle.ieee.proofs.SignedParts.{round-zero}
 use Rattle.ieee.specs.Numbers.{nought}
 use Rattle.hal.specs.Angle.{small, inAngle}
+use Rattle.hal.specs.Cubics.{cubics}
 use Rattle.hal.specs.Magnitude.{magnitudeOf}
 use Rattle.hal.proofs.Range.{Within, Exact, round-within, cut-le}
 use Rattle.hal.proofs.AngleValues.{bounded, small-nan, small-inf, small-dx, small-dy, zero-of}
@@ -127,6 +131,22 @@ magnitude-is dx dy h = simp (is-true (inAngle dx dy) h)
 
 pub magnitude-within : (dx dy : Float) → T (inAngle dx dy) → Within 0 4194304 (magnitudeOf dx dy)
 magnitude-within dx dy h = subst (Within 0 4194304) (sym (magnitude-is dx dy h)) (root-within (fused dx dx (dy ⊗ dy)) (inner-within dx dy (small-dx dx dy h) (small-dy dx dy h)))
+
+-- ---- what the routine with the table asks: no coefficient is large, and no square is
+cubics-mild : allMild cubics ≡ true
+unfolding allMild cubics ofBits
+cubics-mild = refl
+
+pub mild-of : (t : List Float) → t ≡ cubics → allMild t ≡ true
+mild-of t e = ap allMild e ∙ cubics-mild
+
+within-finite : (z : Float) (lo hi : ℕ) → Within lo hi z → finite z ≡ true
+within-finite nan lo hi w = absurd w
+within-finite (inf s) lo hi w = absurd w
+within-finite (fin s m e) lo hi w = refl
+
+pub inner-finite : (dx dy : Float) → T (inAngle dx dy) → finite (fused dx dx (dy ⊗ dy)) ≡ true
+inner-finite dx dy h = within-finite (fused dx dx (dy ⊗ dy)) 0 8796093022208 (inner-within dx dy (small-dx dx dy h) (small-dy dx dy h))
 
 -- ---- (0, 0)
 zero-digits : (s : Bool) (m : ℕ) (e : ℤ) → T (eq (fin s m e) nought) → m * up e ≡ 0

@@ -309,9 +309,10 @@ pub fn cubic_table() -> [f64; 256]
     cubics::CUBICS
 }
 
+// For loops: both are in the range.
 pub fn magnitude_in(t: &[f64; 256], dx: f32, dy: f32) -> f32
     requires { ⌜ (now t ≡ cubics) × (inAngle dx dy ≡ true) ⌝ }
     ensures { λ r. ⌜ r ≡ magnitudeOf dx dy ⌝ }
 {
-    magnitude(dx, dy)
+    ieee::length_with(t, dx, dy)
 }

@@ -3,10 +3,11 @@ use Prim.Native.Nat.{ℕ, zero, suc, _+_, _-_, _*_, _<_, _≤_}
 use mathlib.Core.Path.{_≡_, refl, sym, ap, _∙_}
 use mathlib.Core.Bool.{Bool, true, false, _&&_, false≢true}
 use mathlib.Core.List.{List, [], _∷_, _++_}
+use native.Mathlib.Nat.{mul-le-mul-right, suc-mul}
 use native.Mathlib.Numerals.{add-one}
 use native.Mathlib.Omega.{arith}
-use lib.ListN.{length, getD, take, drop, take-append-drop, drop-of-length-le, length-take}
-use lib.Seq.{drop-cons, drop-append-le, length-take-le, getD-take}
+use lib.ListN.{length, getD, take, drop, take-append-drop, drop-of-length-le, length-take, length-drop}
+use lib.Seq.{drop-cons, drop-append-le, length-take-le, getD-take, getD-drop}
 use lib.Ieee.{Float, nan}
 use Rattle.lists.proofs.Bools.{and-assoc, and-left, and-right, and-true}
 use Rattle.params.specs.Table.{goodSample, allGood}
@@ -76,6 +77,15 @@ good-each [] i e h = absurd (omega arith)
 good-each (x ∷ xs) zero e h = and-left (goodSample x) (allGood xs) e
 good-each (x ∷ xs) (suc i) e h = good-each xs i (and-right (goodSample x) (allGood xs) e) (omega arith)
 
+-- a sample of a run whose samples are all good
+pub good-in : (d : List Float) (from to i : ℕ) → goodFrom from to d ≡ true → to ≤ length d → from ≤ i → i < to → goodSample (getD d i nan) ≡ true
+unfolding goodFrom
+good-in d from to i e h a b =
+    let z : from + (i - from) ≡ i = omega arith in
+    let l : i - from < length (drop from (take to d)) = rw (length-drop, length-take-le to d h) (omega arith) in
+    let g : getD (drop from (take to d)) (i - from) nan ≡ getD d i nan = getD-drop from (take to d) (i - from) nan ∙ ap (λ (k : ℕ). getD (take to d) k nan) z ∙ getD-take to d i nan b in
+    rw (← g) (good-each (drop from (take to d)) (i - from) e l)
+
 -- a place of a stack whose samples are all good
 pub good-at : (d : List Float) (t : Shape) (p r c : ℕ) → allGood d ≡ true → Inside (length d) t p r c → goodSample (sample d t p r c) ≡ true
 unfolding sample pixel
@@ -91,8 +101,27 @@ pub good-pixel : (img : List Float) (s : Size) (r c : ℕ) → allGood img ≡ t
 unfolding pixel
 good-pixel img s r c e i = good-each img (r * s .width + c) e (spot i .below)
 
+row-end : (r h w : ℕ) → r < h → r * w + w ≤ h * w
+row-end r h w l = omega (arith, mul-le-mul-right w l, suc-mul r w)
+
+-- a cell of a row that is good from column `from` to below column `to`
+pub good-cell : (img : List Float) (s : Size) (from to r c : ℕ) → length img ≡ s .height * s .width → to ≤ s .width → r < s .height → goodFrom (r * s .width + from) (r * s .width + to) img ≡ true → from ≤ c → c < to → goodSample (pixel img (s .width) r c) ≡ true
+unfolding pixel
+good-cell img s from to r c l w h e a b =
+    let m : r * s .width + to ≤ length img = omega (arith, row-end r (s .height) (s .width) h, l) in
+    good-in img (r * s .width + from) (r * s .width + to) (r * s .width + c) e m (omega arith) (omega arith)
+
 pub good-four : (img : List Float) (s : Size) (r c : ℕ) → allGood img ≡ true → Around (length img) s r c → allGood (fourAt img (s .width) r c) ≡ true
 unfolding fourAt
 good-four img s r c e a =
     sym (four-good _ _ _ _)
     ∙ rw (good-pixel img s r (c + 1) e (record { whole = a .whole; row = omega arith; column = a .right }), good-pixel img s r (c - 1) e (record { whole = a .whole; row = omega arith; column = omega arith }), good-pixel img s (r - 1) c e (record { whole = a .whole; row = omega arith; column = omega arith }), good-pixel img s (r + 1) c e (record { whole = a .whole; row = a .down; column = omega arith }))
+
+-- the same of a cell whose own row, the row above and the row below are good from column `from` to below column `to`
+pub good-cross : (img : List Float) (s : Size) (from to r c : ℕ) → Around (length img) s r c → to ≤ s .width → from < c → c + 1 < to
+    → goodFrom ((r - 1) * s .width + from) ((r - 1) * s .width + to) img ≡ true → goodFrom (r * s .width + from) (r * s .width + to) img ≡ true → goodFrom ((r + 1) * s .width + from) ((r + 1) * s .width + to) img ≡ true
+    → allGood (fourAt img (s .width) r c) ≡ true
+unfolding fourAt
+good-cross img s from to r c a w l h up own down =
+    sym (four-good _ _ _ _)
+    ∙ rw (good-cell img s from to r (c + 1) (a .whole) w (omega arith) own (omega arith) h, good-cell img s from to r (c - 1) (a .whole) w (omega arith) own (omega arith) (omega arith), good-cell img s from to (r - 1) c (a .whole) w (omega arith) up (omega arith) (omega arith), good-cell img s from to (r + 1) c (a .whole) w (a .down) down (omega arith) (omega arith))

@@ -3,3 +3,4 @@ pub mod Reach
 pub mod Runs
 pub mod Good
 pub mod Rules
+pub mod Window

@@ -12,7 +12,8 @@ ghost use Rattle.params.specs.Limits.{maxSide, scaleLow, scaleHigh};
 ghost use Rattle.params.specs.Table.{within, allGood};
 ghost use Rattle.picture.specs.Picture.{fourAt};
 ghost use Rattle.picture.specs.Place.{Around};
-ghost use Rattle.descriptor_patch.specs.Patch.{reachOf, radiusOf, patchOf, clipJ, endsOf, rotsOf, inGrid, gridAt, sampleAt, readsOf};
+ghost use Rattle.picture.specs.Samples.{goodFrom};
+ghost use Rattle.descriptor_patch.specs.Patch.{reachOf, radiusOf, patchOf, clipJ, endsOf, rotsOf, binOf, inGrid, gridAt, sampleAt, readsOf};
 ghost use Rattle.descriptor_patch.specs.Run.{shifted as shiftedOf, columns as columnsOf, runOf, overRun};
 ghost use Rattle.descriptor_patch.specs.Place.{maxRadius, Sides, Lies, Inner};
 
@@ -207,50 +208,57 @@ pub fn run_of(t: Patch, r: usize) -> Run
 
 // ---- a cell
 
-fn rots_of(t: Patch, r: usize, c: usize) -> Rots
+// c_rot of the cell (r, c), and r_rot: each by itself, so that the column is not worked out for a cell whose row lies outside the grid.
+pub fn rot_col(t: Patch, r: usize, c: usize) -> f32
     requires { ⌜ (r ≤ maxSide) × ((c ≤ maxSide) × ((t .py ≤ maxSide) × (t .px ≤ maxSide))) ⌝ }
-    ensures { λ p. ⌜ p ≡ rotsOf t r c ⌝ }
+    ensures { λ x. ⌜ x ≡ rotsOf t r c .col ⌝ }
 {
-    let i = apart(r, t.py);
-    let j = apart(c, t.px);
-    Rots {
-        col: j * t.cos - i * t.sin,
-        row: j * t.sin + i * t.cos,
-    }
+    apart(c, t.px) * t.cos - apart(r, t.py) * t.sin
 }
 
-fn in_grid(bin: f32) -> bool
+pub fn rot_row(t: Patch, r: usize, c: usize) -> f32
+    requires { ⌜ (r ≤ maxSide) × ((c ≤ maxSide) × ((t .py ≤ maxSide) × (t .px ≤ maxSide))) ⌝ }
+    ensures { λ x. ⌜ x ≡ rotsOf t r c .row ⌝ }
+{
+    apart(c, t.px) * t.sin + apart(r, t.py) * t.cos
+}
+
+pub fn bin_of(rot: f32) -> f32
+    ensures { λ x. ⌜ x ≡ binOf rot ⌝ }
+{
+    rot + 2.0 - 0.5
+}
+
+pub fn in_grid(bin: f32) -> bool
     ensures { λ b. ⌜ b ≡ inGrid bin ⌝ }
 {
-    (bin > -1.0) & (bin < 4.0)
+    if bin > -1.0 { bin < 4.0 } else { false }
 }
 
-// Whether the cell (r, c) lies in the grid.
-pub fn grid_at(t: Patch, r: usize, c: usize) -> bool
-    requires { ⌜ (r ≤ maxSide) × ((c ≤ maxSide) × ((t .py ≤ maxSide) × (t .px ≤ maxSide))) ⌝ }
-    ensures { λ b. ⌜ b ≡ gridAt t r c ⌝ }
-{
-    let p = rots_of(t, r, c);
-    in_grid(p.row + 2.0 - 0.5) & in_grid(p.col + 2.0 - 0.5)
-}
-
-// The cell (r, c) as a sample.
-pub fn sample_at(img: &[f32], t: Patch, r: usize, c: usize) -> Sample
-    requires { ⌜ Around (length (now img)) (t .size) r c × Lies t ⌝ }
+// The cell (r, c), which lies at p in the turned patch, as a sample.
+pub fn sample_at(img: &[f32], t: Patch, r: usize, c: usize, p: Rots) -> Sample
+    requires { ⌜ Around (length (now img)) (t .size) r c × (Lies t × (p ≡ rotsOf t r c)) ⌝ }
     ensures { λ s. ⌜ s ≡ sampleAt (now (img .entry)) t r c ⌝ }
 {
-    let p = rots_of(t, r, c);
     let g = picture::slope_at(img, t.size, r, c);
     Sample {
         dx: g.dx,
         dy: g.dy,
-        rbin: p.row + 2.0 - 0.5,
-        cbin: p.col + 2.0 - 0.5,
+        rbin: bin_of(p.row),
+        cbin: bin_of(p.col),
         fall: (p.col * p.col + p.row * p.row) * -0.125,
     }
 }
 
 // ---- the test of what is read
+
+// Whether the cell (r, c) lies in the grid.
+fn grid_at(t: Patch, r: usize, c: usize) -> bool
+    requires { ⌜ (r ≤ maxSide) × ((c ≤ maxSide) × ((t .py ≤ maxSide) × (t .px ≤ maxSide))) ⌝ }
+    ensures { λ b. ⌜ b ≡ gridAt t r c ⌝ }
+{
+    in_grid(bin_of(rot_row(t, r, c))) & in_grid(bin_of(rot_col(t, r, c)))
+}
 
 // The neighbours of one cell, where it is used.
 fn cell_good(img: &[f32], t: Patch, r: usize, c: usize) -> bool
@@ -275,8 +283,8 @@ fn row_good(img: &[f32], t: Patch, r: usize, e: Run) -> bool
     ok
 }
 
-// Whether all that is read is in range.
-pub fn patch_good(img: &[f32], t: Patch) -> bool
+// Whether what is read is in range, row by row and cell by cell.
+fn reads_good(img: &[f32], t: Patch) -> bool
     requires { ⌜ (length (now img) ≡ t .size .height * t .size .width) × Lies t ⌝ }
     ensures { λ ok. ⌜ ok ≡ allGood (readsOf (now (img .entry)) t) ⌝ }
 {
@@ -288,4 +296,42 @@ pub fn patch_good(img: &[f32], t: Patch) -> bool
         r += 1;
     }
     ok
+}
+
+// The columns from a to below b of row r.
+fn span_good(img: &[f32], s: Size, r: usize, a: usize, b: usize) -> bool
+    requires { ⌜ (length (now img) ≡ s .height * s .width) × ((r < s .height) × ((a ≤ b) × (b ≤ s .width))) ⌝ }
+    ensures { λ ok. ⌜ ok ≡ goodFrom (r * s .width + a) (r * s .width + b) (now (img .entry)) ⌝ }
+{
+    let from = r * s.width;
+    picture::block_good(img, from + a, from + b)
+}
+
+// Whether the window and the cells round it are in range: more than is read, so that yes is enough, and whole runs of samples, which the machine tests quickly.
+fn window_good(img: &[f32], t: Patch) -> bool
+    requires { ⌜ (length (now img) ≡ t .size .height * t .size .width) × Lies t ⌝ }
+    ensures { λ ok. ⌜ (ok ≡ true → allGood (readsOf (now (img .entry)) t) ≡ true) ⌝ }
+{
+    let left = picture::first_in(t.px, t.radius) - 1;
+    let right = picture::past_in(t.px, t.radius, t.size.width) + 1;
+    let end = picture::past_in(t.py, t.radius, t.size.height) + 1;
+    let mut ok = true;
+    let mut r = picture::first_in(t.py, t.radius) - 1;
+    while r < end {
+        ok = ok & span_good(img, t.size, r, left, right);
+        r += 1;
+    }
+    ok
+}
+
+// Whether all that is read is in range.
+pub fn patch_good(img: &[f32], t: Patch) -> bool
+    requires { ⌜ (length (now img) ≡ t .size .height * t .size .width) × Lies t ⌝ }
+    ensures { λ ok. ⌜ ok ≡ allGood (readsOf (now (img .entry)) t) ⌝ }
+{
+    if window_good(img, t) {
+        true
+    } else {
+        reads_good(img, t)
+    }
 }

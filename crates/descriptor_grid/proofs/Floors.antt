@@ -15,12 +15,14 @@ use lib.Ieee.Back.{float-back-unsigned}
 use lib.Ieee.Nearest.{div-mono}
 use lib.Ieee.Scale.{finite}
 use Rattle.ieee.specs.F32.{_⊕_, _⊖_, f32, toI32, float, floatZ}
+use Rattle.ieee.specs.Numbers.{nought, one}
 use Rattle.ieee_laws.proofs.Order.{le-fin, lt-le, le-number, lt-not-le, le-or-lt-float}
 use Rattle.ieee_laws.proofs.Monotone.{add-le, toUnsigned-le}
 use Rattle.ieee_laws.proofs.Bounds.{Bounds, bounds-point, bounds-finite, add-bounds}
 use Rattle.descriptor_grid.specs.Grid.{floorI}
-use Rattle.descriptor_grid.specs.Reach.{lowered, Near, Floored}
-use Rattle.descriptor_grid.proofs.Steps.{start, base, lift, eight, raised, Step, step}
+use Rattle.descriptor_grid.specs.Reach.{lowered, Near, Floored, base, splitOf}
+use Rattle.descriptor_grid.specs.declared.Split.{Split}
+use Rattle.descriptor_grid.proofs.Steps.{start, first, raised, Step, step}
 
 -- ---- a cut to a whole number keeps the order
 
@@ -84,13 +86,13 @@ floor-at k v h f l u =
         go true e = inl (eqb-true n (k + 8) e)
         go false e = let z = eqb-false n (k + 8) e in inr (omega arith)
 
--- ---- a float from 12582912 to 12582928 is whole
+-- ---- a float from 12582904 to 12582920 is whole
 
 abbrev bottom : Float
-bottom = fin false 3 (pos 22)
+bottom = fin false 1572863 (pos 3)
 
 abbrev ceiling : Float
-ceiling = fin false 786433 (pos 4)
+ceiling = fin false 1572865 (pos 3)
 
 -- of what `fits` says
 digits : (m d n : ℕ) → T (eqb (suc m % 2) 1 && ltb (suc m) (2 ^ 24) && leb d (2 ^ 149) && ltb n (2 ^ 128 * d)) → suc m < 2 ^ 24
@@ -105,48 +107,48 @@ unfolding fits inUnsigned whole isNan le
 whole-number nan f h k = absurd (le-number bottom nan h .1)
 whole-number (inf true) f h k = absurd (false≢true h)
 whole-number (inf false) f h k = absurd (false≢true k)
-whole-number (fin true m e) f h k = let g = le-fin false 3 (pos 22) true m e h .cross in absurd (omega (arith, zero-mul (down e), down-pos e))
+whole-number (fin true m e) f h k = let g = le-fin false 1572863 (pos 3) true m e h .cross in absurd (omega (arith, zero-mul (down e), down-pos e))
 whole-number (fin false m (pos j)) f h k =
-    let g = le-fin false m (pos j) false 786433 (pos 4) k .cross in
+    let g = le-fin false m (pos j) false 1572865 (pos 3) k .cross in
     let a : eqb (m * 2 ^ j % 1) 0 ≡ true = eq-eqb (m * 2 ^ j % 1) 0 (omega arith) in
     let b : leb (m * 2 ^ j / 1) (2 ^ 24) ≡ true = le-leb (m * 2 ^ j / 1) (2 ^ 24) (omega arith) in
     let c : ltb (m * 2 ^ j / 1) (2 ^ 64) ≡ true = lt-ltb (m * 2 ^ j / 1) (2 ^ 64) (omega arith) in
     rw (a, b, c) tt
 whole-number (fin false zero (negsuc j)) f h k =
-    let g = le-fin false 3 (pos 22) false zero (negsuc j) h .cross in absurd (omega (arith, pow-pos (suc j)))
+    let g = le-fin false 1572863 (pos 3) false zero (negsuc j) h .cross in absurd (omega (arith, pow-pos (suc j)))
 whole-number (fin false (suc m) (negsuc j)) f h k =
-    let g = le-fin false 3 (pos 22) false (suc m) (negsuc j) h .cross in
+    let g = le-fin false 1572863 (pos 3) false (suc m) (negsuc j) h .cross in
     let l : suc m < 2 ^ 24 = digits m (2 ^ suc j) (suc m * 1) f in
     let w : 2 ^ 1 ≤ 2 ^ suc j = pow-mono {i = 1} {j = suc j} (omega arith) in
     absurd (omega arith)
 
--- ---- v + 12582920 is a whole number, which tells the floor but for one
+-- ---- v + 12582912 is a whole number, which tells the floor but for one
 
 pub record Rounded (v : Float) : Type 0 where
   pub at : ℕ
   pub top : at ≤ 16
-  pub is : v ⊕ lift ≡ float (start + at)
+  pub is : v ⊕ base ≡ float (start + at)
 
-ends : (f32 0xc100_0000 ⊕ lift ≡ bottom) × (eight ⊕ lift ≡ ceiling) × (toUnsigned 64 bottom ≡ start) × (toUnsigned 64 ceiling ≡ start + 16)
+ends : (f32 0xc100_0000 ⊕ base ≡ bottom) × (f32 0x4100_0000 ⊕ base ≡ ceiling) × (toUnsigned 64 bottom ≡ start) × (toUnsigned 64 ceiling ≡ start + 16)
 unfolding ofBits add toUnsigned
 ends = (refl, refl, refl, refl)
 
-near-bounds : (v : Float) → Near v → Bounds (f32 0xc100_0000) eight v
+near-bounds : (v : Float) → Near v → Bounds (f32 0xc100_0000) (f32 0x4100_0000) v
 unfolding ofBits
 near-bounds v n = record { from = refl; to = refl; low = n .low; high = n .high }
 
-lift-bounds : (v : Float) → Near v → Bounds bottom ceiling (v ⊕ lift)
+lift-bounds : (v : Float) → Near v → Bounds bottom ceiling (v ⊕ base)
 unfolding ofBits add
-lift-bounds v n = add-bounds binary32 refl refl (near-bounds v n) (bounds-point lift refl)
+lift-bounds v n = add-bounds binary32 refl refl (near-bounds v n) (bounds-point base refl)
 
 pub rounded-at : (v : Float) → Near v → Rounded v
 rounded-at v n =
     let b = lift-bounds v n in
-    let c = toUnsigned 64 (v ⊕ lift) in
-    let l : start ≤ c = rw (← ends .2) (toUnsigned-le 64 bottom (v ⊕ lift) (b .low)) in
-    let u : c ≤ start + 16 = rw (← ends .3) (toUnsigned-le 64 (v ⊕ lift) ceiling (b .high)) in
+    let c = toUnsigned 64 (v ⊕ base) in
+    let l : start ≤ c = rw (← ends .2) (toUnsigned-le 64 bottom (v ⊕ base) (b .low)) in
+    let u : c ≤ start + 16 = rw (← ends .3) (toUnsigned-le 64 (v ⊕ base) ceiling (b .high)) in
     let e : start + (c - start) ≡ c = omega arith in
-    let f = float-back-unsigned binary32 64 (v ⊕ lift) (add-fits binary32 v lift) (whole-number (v ⊕ lift) (add-fits binary32 v lift) (b .low) (b .high)) in
+    let f = float-back-unsigned binary32 64 (v ⊕ base) (add-fits binary32 v base) (whole-number (v ⊕ base) (add-fits binary32 v base) (b .low) (b .high)) in
     record { at = c - start; top = omega arith; is = sym (f .1) ∙ ap float (sym e) }
 
 -- ---- the two ways of the code
@@ -157,9 +159,9 @@ finite-number nan h = absurd (false≢true h)
 finite-number (inf s) h = absurd (false≢true h)
 finite-number (fin s m e) h = tt
 
-lift-le : (x y : Float) → finite x ≡ true → finite y ≡ true → le x y ≡ true → toUnsigned 64 (x ⊕ lift) ≤ toUnsigned 64 (y ⊕ lift)
+lift-le : (x y : Float) → finite x ≡ true → finite y ≡ true → le x y ≡ true → toUnsigned 64 (x ⊕ base) ≤ toUnsigned 64 (y ⊕ base)
 unfolding ofBits le
-lift-le x y p q h = toUnsigned-le 64 (x ⊕ lift) (y ⊕ lift) (add-le binary32 x y lift lift p q refl refl h refl)
+lift-le x y p q h = toUnsigned-le 64 (x ⊕ base) (y ⊕ base) (add-le binary32 x y base base p q refl refl h refl)
 
 least : floatZ (lowered 0) ≡ f32 0xc100_0000
 unfolding ofBits ofInt
@@ -213,31 +215,39 @@ module _ (v : Float) (n : Near v) (r : Rounded v) where
       ⊎-elim (λ x. let y = above-at (r .at + 1) (omega arith) x in absurd (omega arith)) (λ x. x) (split (r .at + 1) (omega arith)) in
       floored (r .at) t q u
 
--- ---- what the code works out
+-- ---- what the code works out: one is taken off where rounding went up
 
-pub near-is : (v : Float) (r : Rounded v) → (v ⊕ lift) ⊖ base ≡ float (r .at)
+pub record Parted (v x : Float) : Type 0 where
+  pub whole : (v ⊕ base) ⊖ x ≡ floatZ (floorI v) ⊕ base
+  pub floor : ((v ⊕ base) ⊖ base) ⊖ x ≡ floatZ (floorI v)
+
+near-is : (v : Float) (r : Rounded v) → (v ⊕ base) ⊖ base ≡ floatZ (lowered (r .at))
 near-is v r = let t = r .top in rw (r .is) (step (r .at) (omega arith) .rest)
 
-pub near-fine : (v : Float) → Near v → T (inUnsigned binary32 32 ((v ⊕ lift) ⊖ base))
-near-fine v n =
+pub parted-up : (v : Float) → Near v → lt v ((v ⊕ base) ⊖ base) ≡ true → Parted v one
+parted-up v n h =
     let r = rounded-at v n in
     let t = r .top in
-    rw (near-is v r, step (r .at) (omega arith) .fine) tt
+    let w = low-way v n r (rw (near-is v r) at h) in
+    let k = r .at - 1 in
+    let p = w .0 in
+    let e : k + 1 ≡ r .at = omega arith in
+    let s = step k (omega arith) in
+    record {
+      whole = rw (r .is, ← e, s .down, w .1 .is, s .sum);
+      floor = rw (near-is v r, ← e, s .near-down, w .1 .is);
+    }
 
-abbrev found : Float → ℕ
-found v = toUnsigned 32 ((v ⊕ lift) ⊖ base)
-
-near-count : (v : Float) (r : Rounded v) → found v ≡ r .at
-near-count v r = let t = r .top in rw (near-is v r) (step (r .at) (omega arith) .count)
-
-near-back : (v : Float) (r : Rounded v) → ((v ⊕ lift) ⊖ base) ⊖ eight ≡ floatZ (lowered (r .at))
-near-back v r = let t = r .top in rw (near-is v r) (step (r .at) (omega arith) .back)
-
-pub near-low : (v : Float) → Near v → lt v (((v ⊕ lift) ⊖ base) ⊖ eight) ≡ true → (1 ≤ found v) × Floored v (found v - 1)
-near-low v n h = let r = rounded-at v n in rw (near-count v r) (low-way v n r (rw (near-back v r) at h))
-
-pub near-high : (v : Float) → Near v → lt v (((v ⊕ lift) ⊖ base) ⊖ eight) ≡ false → Floored v (found v)
-near-high v n h = let r = rounded-at v n in rw (near-count v r) (high-way v n r (rw (near-back v r) at h))
+pub parted-down : (v : Float) → Near v → lt v ((v ⊕ base) ⊖ base) ≡ false → Parted v nought
+parted-down v n h =
+    let r = rounded-at v n in
+    let t = r .top in
+    let w = high-way v n r (rw (near-is v r) at h) in
+    let s = step (r .at) (omega arith) in
+    record {
+      whole = rw (r .is, s .still, w .is, s .sum);
+      floor = rw (near-is v r, s .near-still, w .is);
+    }
 
 -- ---- every number in -8 to 8 has its floor
 
@@ -251,3 +261,22 @@ floored-of v n = let r = rounded-at v n in go r (lt v (floatZ (lowered (r .at)))
     go : (r : Rounded v) (b : Bool) → lt v (floatZ (lowered (r .at))) ≡ b → Found v
     go r true e = record { at = r .at - 1; is = low-way v n r e .1 }
     go r false e = record { at = r .at; is = high-way v n r e }
+
+-- ---- the split by its floor
+
+pub record Cut (v : Float) (k : ℕ) (s : Split) : Type 0 where
+  pub bits : s .bits ≡ first + k
+  pub past : s .past ≡ v ⊖ floatZ (lowered k)
+
+pub split-at : (v : Float) (k : ℕ) → Floored v k → Cut v k (splitOf v)
+unfolding splitOf
+split-at v k f =
+    let t = f .top in
+    let s = step k (omega arith) in
+    record { bits = rw (f .is, s .sum) (s .bits); past = rw (f .is) }
+
+pub split-number : (v : Float) → Near v → T (not (isNan (floatZ (floorI v) ⊕ base)))
+split-number v n =
+    let k = floored-of v n in
+    let t = k .is .top in
+    rw (k .is .is, step (k .at) (omega arith) .sum, step (k .at) (omega arith) .number) tt

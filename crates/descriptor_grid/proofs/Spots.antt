@@ -1,6 +1,6 @@
 -- A sample's spot: its row, column and slot lie in the histogram. Assumes nothing.
-use Prim.Native.Nat.{ℕ, _+_, _-_, _%_, _≤_, _<_}
-use mathlib.Core.Path.{_≡_, refl, sym, subst}
+use Prim.Native.Nat.{ℕ, _+_, _-_, _%_, _^_, _≤_, _<_}
+use mathlib.Core.Path.{_≡_, refl, sym, _∙_, subst}
 use mathlib.Core.Bool.{Bool, true, false, _&&_, false≢true}
 use mathlib.Core.Logic.{_⊎_, inl, inr, ⊎-elim}
 use native.Mathlib.Omega.{arith}
@@ -21,11 +21,13 @@ use Rattle.hal.proofs.Rules.{angle-rule}
 use Rattle.descriptor_patch.specs.Patch.{inGrid}
 use Rattle.descriptor_patch.specs.declared.Sample.{Sample}
 use Rattle.descriptor_grid.specs.Grid.{binsPerDegree, sharesOf, spotOf}
-use Rattle.descriptor_grid.specs.Reach.{lowered, Near, Floored, Inside}
+use Rattle.descriptor_grid.specs.Reach.{lowered, Near, Floored, Lands, splitOf, Settled, Inside}
 use Rattle.descriptor_grid.specs.declared.Spot.{Spot}
 use Rattle.descriptor_grid.specs.declared.Shares.{Shares}
-use Rattle.descriptor_grid.proofs.Steps.{step}
-use Rattle.descriptor_grid.proofs.Floors.{signed-le, finite-number}
+use Rattle.descriptor_grid.specs.declared.Split.{Split}
+use Rattle.descriptor_grid.specs.declared.Landed.{Landed}
+use Rattle.descriptor_grid.proofs.Steps.{first, step}
+use Rattle.descriptor_grid.proofs.Floors.{signed-le, finite-number, Found, floored-of, split-at}
 
 -- ---- rows and columns
 
@@ -57,7 +59,7 @@ marks : (floatZ (lowered 7) ≡ minusOne) × (floatZ (lowered 12) ≡ four)
 unfolding ofBits ofInt
 marks = (refl, refl)
 
-pub grid-range : (v : Float) (k : ℕ) → inGrid v ≡ true → Floored v k → (7 ≤ k) × (k ≤ 11)
+grid-range : (v : Float) (k : ℕ) → inGrid v ≡ true → Floored v k → (7 ≤ k) × (k ≤ 11)
 grid-range v k h f =
     let p = and-both (lt minusOne v) (lt v four) h in
     let t = f .top in (
@@ -95,8 +97,8 @@ turn-near dx dy angle h k =
 abbrev pub turnOf : Float → Sample → Float
 turnOf angle s = (angleOf (s .dx) (s .dy) ⊖ angle) ⊗ binsPerDegree
 
--- by the floors that the code finds, each 8 more, and the shares that it makes of them
-pub spot-is : (angle : Float) (s : Sample) (r c o : ℕ) (p : Shares) → Floored (s .rbin) r → Floored (s .cbin) c → Floored (turnOf angle s) o
+-- by the floors, each 8 more, and the shares that they make
+spot-is : (angle : Float) (s : Sample) (r c o : ℕ) (p : Shares) → Floored (s .rbin) r → Floored (s .cbin) c → Floored (turnOf angle s) o
     → p ≡ sharesOf (magnitudeOf (s .dx) (s .dy) ⊗ expOf (s .fall)) (s .rbin ⊖ floatZ (lowered r)) (s .cbin ⊖ floatZ (lowered c)) (turnOf angle s ⊖ floatZ (lowered o))
     → _≡_ {A = Spot} (record { row = r - 7; col = c - 7; slot = o % 8; shares = p }) (spotOf angle s)
 unfolding spotOf
@@ -106,5 +108,77 @@ spot-is angle s r c o p f g h e =
     let d = step o (let t = h .top in omega arith) in
     rw (f .is, g .is, h .is, a .border, b .border, d .slot, e)
 
-pub spot-inside : (r c o : ℕ) (p : Shares) → r ≤ 11 → c ≤ 11 → Inside (record { row = r - 7; col = c - 7; slot = o % 8; shares = p })
-spot-inside r c o p f g = record { row = omega arith; col = omega arith; slot = omega arith }
+spot-in : (r c o : ℕ) (p : Shares) → r ≤ 11 → c ≤ 11 → Inside (record { row = r - 7; col = c - 7; slot = o % 8; shares = p })
+spot-in r c o p f g = record { row = omega arith; col = omega arith; slot = omega arith }
+
+module _ (angle : Float) (s : Sample) (l : Lands angle s) where
+  pub row : Found (s .rbin)
+  row = floored-of (s .rbin) (grid-near (s .rbin) (l .row))
+
+  pub col : Found (s .cbin)
+  col = floored-of (s .cbin) (grid-near (s .cbin) (l .col))
+
+  pub slot : Found (turnOf angle s)
+  slot = floored-of (turnOf angle s) (turn-near (s .dx) (s .dy) angle (l .slopes) (l .turn))
+
+  abbrev pub parts : Shares
+  parts =
+      sharesOf (magnitudeOf (s .dx) (s .dy) ⊗ expOf (s .fall)) (s .rbin ⊖ floatZ (lowered (row .at))) (s .cbin ⊖ floatZ (lowered (col .at))) (turnOf angle s ⊖ floatZ (lowered (slot .at)))
+
+  abbrev pub spot : Spot
+  spot = record { row = row .at - 7; col = col .at - 7; slot = slot .at % 8; shares = parts }
+
+  pub is-spot : spot ≡ spotOf angle s
+  is-spot = spot-is angle s (row .at) (col .at) (slot .at) parts (row .is) (col .is) (slot .is) refl
+
+  row-range : (7 ≤ row .at) × (row .at ≤ 11)
+  row-range = grid-range (s .rbin) (row .at) (l .row) (row .is)
+
+  col-range : (7 ≤ col .at) × (col .at ≤ 11)
+  col-range = grid-range (s .cbin) (col .at) (l .col) (col .is)
+
+  pub spot-inside : Inside (spotOf angle s)
+  spot-inside = subst Inside is-spot (spot-in (row .at) (col .at) (slot .at) parts (row-range .1) (col-range .1))
+
+-- ---- by the digits of the splits
+
+digits : (k : ℕ) → 7 ≤ k → k ≤ 11 → (first + k + 1) % 64 ≡ k - 7
+digits k h m = omega arith
+
+last-digits : (k : ℕ) → (first + k) % 8 ≡ k % 8
+last-digits k = omega arith
+
+bits-fit : (v : Float) (s : Split) → Near v → s ≡ splitOf v → s .bits + 1 < 2 ^ 32
+bits-fit v s n e =
+    let k = floored-of v n in
+    let t = k .is .top in
+    let b = split-at v (k .at) (k .is) .bits in
+    rw (e, b) (omega arith)
+
+module _ (angle : Float) (l : Landed) (h : Settled angle l) where
+  abbrev sample : Sample
+  sample = l .sample
+
+  pub row-fits : l .row .bits + 1 < 2 ^ 32
+  row-fits = bits-fit (sample .rbin) (l .row) (grid-near (sample .rbin) (h .lands .row)) (h .row)
+
+  pub col-fits : l .col .bits + 1 < 2 ^ 32
+  col-fits = bits-fit (sample .cbin) (l .col) (grid-near (sample .cbin) (h .lands .col)) (h .col)
+
+  -- what the code makes of the splits
+  pub spot-split : (o : Split) (p : Shares) → o ≡ splitOf (turnOf angle sample) → p ≡ sharesOf (magnitudeOf (sample .dx) (sample .dy) ⊗ expOf (sample .fall)) (l .row .past) (l .col .past) (o .past)
+      → _≡_ {A = Spot} (record { row = (l .row .bits + 1) % 64; col = (l .col .bits + 1) % 64; slot = o .bits % 8; shares = p }) (spotOf angle sample)
+  spot-split o p d e =
+      let x = row angle sample (h .lands) in
+      let y = col angle sample (h .lands) in
+      let z = slot angle sample (h .lands) in
+      let a = split-at (sample .rbin) (x .at) (x .is) in
+      let b = split-at (sample .cbin) (y .at) (y .is) in
+      let c = split-at (turnOf angle sample) (z .at) (z .is) in
+      let u = row-range angle sample (h .lands) in
+      let v = col-range angle sample (h .lands) in
+      let f : (l .row .bits + 1) % 64 ≡ x .at - 7 = rw (h .row, a .bits) (digits (x .at) (u .0) (u .1)) in
+      let g : (l .col .bits + 1) % 64 ≡ y .at - 7 = rw (h .col, b .bits) (digits (y .at) (v .0) (v .1)) in
+      let w : o .bits % 8 ≡ z .at % 8 = rw (d, c .bits) (last-digits (z .at)) in
+      let q : p ≡ parts angle sample (h .lands) = e ∙ rw (h .row, h .col, d, a .past, b .past, c .past) in
+      rw (f, g, w, q) (is-spot angle sample (h .lands))

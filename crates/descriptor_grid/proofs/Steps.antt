@@ -1,28 +1,22 @@
 -- The whole numbers from -8 to 9 as floats, and what rounding at 2 ^ 23 makes of them: each computed. Assumes nothing.
 use Prim.Native.Nat.{ℕ, zero, suc, _+_, _-_, _%_, _≤_}
 use mathlib.Core.Path.{_≡_, refl, ap}
-use mathlib.Core.Bool.{true}
+use mathlib.Core.Bool.{true, false}
 use native.Mathlib.Omega.{arith}
 use lib.IntN.{ℤ, pos, negsuc, _-ℤ_}
-use lib.Ieee.{Float, binary32, ofBits, ofInt, add, sub, toSigned, toUnsigned, inUnsigned, whole}
+use lib.Ieee.{binary32, ofBits, ofInt, add, sub, toBits, toSigned, toUnsigned, isNan}
 use lib.Ieee.Scale.{finite}
-use Rattle.ieee.specs.F32.{_⊕_, _⊖_, f32, toI32, float, floatZ}
+use Rattle.ieee.specs.F32.{_⊕_, _⊖_, toI32, float, floatZ, bitsOf}
 use Rattle.ieee.specs.Numbers.{nought, one}
 use Rattle.descriptor_grid.specs.Grid.{slotOf, fromBorder}
-use Rattle.descriptor_grid.specs.Reach.{lowered}
+use Rattle.descriptor_grid.specs.Reach.{lowered, base}
 
--- 12582912, where the digits of a float end at the units; 8 more; and 8
+-- 12582912 - 8, and its bits
 abbrev pub start : ℕ
-start = 12582912
+start = 12582904
 
-abbrev pub base : Float
-base = f32 0x4b40_0000
-
-abbrev pub lift : Float
-lift = f32 0x4b40_0008
-
-abbrev pub eight : Float
-eight = f32 0x4100_0000
+abbrev pub first : ℕ
+first = 0x4b3f_fff8
 
 -- an order of whole numbers that `omega` reads
 abbrev pub raised : ℤ → ℕ
@@ -44,12 +38,15 @@ Computed k =
     × (raised (lowered k) ≡ k + 8)
     × (lowered (k + 1) -ℤ pos 1 ≡ lowered k)
     × (finite (floatZ (lowered k)) ≡ true)
-    × (floatZ (lowered k) ⊕ lift ≡ float (start + k))
-    × (float (start + k) ⊖ base ≡ float k)
-    × (float k ⊖ eight ≡ floatZ (lowered k))
+    × (floatZ (lowered k) ⊕ base ≡ float (start + k))
+    × (float (start + k) ⊖ base ≡ floatZ (lowered k))
     × (toUnsigned 64 (float (start + k)) ≡ start + k)
-    × (inUnsigned binary32 32 (float k) ≡ true)
-    × (toUnsigned 32 (float k) ≡ k)
+    × (float (start + k) ⊖ nought ≡ float (start + k))
+    × (float (start + (k + 1)) ⊖ one ≡ float (start + k))
+    × (floatZ (lowered k) ⊖ nought ≡ floatZ (lowered k))
+    × (floatZ (lowered (k + 1)) ⊖ one ≡ floatZ (lowered k))
+    × (bitsOf (float (start + k)) ≡ first + k)
+    × (isNan (float (start + k)) ≡ false)
     × (floatZ (lowered k) ⊖ floatZ (lowered k) ≡ nought)
     × (floatZ (lowered (k + 1)) ⊖ floatZ (lowered k) ≡ one)
     × (slotOf (lowered k) ≡ k % 8)
@@ -60,12 +57,15 @@ pub record Step (k : ℕ) : Type 0 where
   pub height : raised (lowered k) ≡ k + 8
   pub less : lowered (k + 1) -ℤ pos 1 ≡ lowered k
   pub ended : finite (floatZ (lowered k)) ≡ true
-  pub sum : floatZ (lowered k) ⊕ lift ≡ float (start + k)
-  pub rest : float (start + k) ⊖ base ≡ float k
-  pub back : float k ⊖ eight ≡ floatZ (lowered k)
+  pub sum : floatZ (lowered k) ⊕ base ≡ float (start + k)
+  pub rest : float (start + k) ⊖ base ≡ floatZ (lowered k)
   pub size : toUnsigned 64 (float (start + k)) ≡ start + k
-  pub fine : inUnsigned binary32 32 (float k) ≡ true
-  pub count : toUnsigned 32 (float k) ≡ k
+  pub still : float (start + k) ⊖ nought ≡ float (start + k)
+  pub down : float (start + (k + 1)) ⊖ one ≡ float (start + k)
+  pub near-still : floatZ (lowered k) ⊖ nought ≡ floatZ (lowered k)
+  pub near-down : floatZ (lowered (k + 1)) ⊖ one ≡ floatZ (lowered k)
+  pub bits : bitsOf (float (start + k)) ≡ first + k
+  pub number : isNan (float (start + k)) ≡ false
   pub flat : floatZ (lowered k) ⊖ floatZ (lowered k) ≡ nought
   pub gap : floatZ (lowered (k + 1)) ⊖ floatZ (lowered k) ≡ one
   pub slot : slotOf (lowered k) ≡ k % 8
@@ -81,14 +81,17 @@ made k c o =
       ended = c .3;
       sum = c .4;
       rest = c .5;
-      back = c .6;
-      size = c .7;
-      fine = c .8;
-      count = c .9;
-      flat = c .10;
-      gap = c .11;
-      slot = c .12;
-      border = c .13;
+      size = c .6;
+      still = c .7;
+      down = c .8;
+      near-still = c .9;
+      near-down = c .10;
+      bits = c .11;
+      number = c .12;
+      flat = c .13;
+      gap = c .14;
+      slot = c .15;
+      border = c .16;
       only = o;
     }
 
@@ -106,27 +109,27 @@ abbrev Upto : ℕ → Type 0
 Upto k = k ≤ 17 → Step k
 
 pub step : (k : ℕ) → k ≤ 17 → Step k
-unfolding ofBits ofInt add sub toSigned toUnsigned inUnsigned whole slotOf fromBorder
+unfolding ofBits ofInt add sub toBits toSigned toUnsigned isNan slotOf fromBorder
 step =
     six Upto
-    (λ h. made 0 (refl, refl, refl, refl, refl, refl, refl, refl, refl, refl, refl, refl, refl, refl) (at-neg 7 (omega arith)))
-    (λ h. made 1 (refl, refl, refl, refl, refl, refl, refl, refl, refl, refl, refl, refl, refl, refl) (at-neg 6 (omega arith)))
-    (λ h. made 2 (refl, refl, refl, refl, refl, refl, refl, refl, refl, refl, refl, refl, refl, refl) (at-neg 5 (omega arith)))
-    (λ h. made 3 (refl, refl, refl, refl, refl, refl, refl, refl, refl, refl, refl, refl, refl, refl) (at-neg 4 (omega arith)))
-    (λ h. made 4 (refl, refl, refl, refl, refl, refl, refl, refl, refl, refl, refl, refl, refl, refl) (at-neg 3 (omega arith)))
-    (λ h. made 5 (refl, refl, refl, refl, refl, refl, refl, refl, refl, refl, refl, refl, refl, refl) (at-neg 2 (omega arith)))
+    (λ h. made 0 (refl, refl, refl, refl, refl, refl, refl, refl, refl, refl, refl, refl, refl, refl, refl, refl, refl) (at-neg 7 (omega arith)))
+    (λ h. made 1 (refl, refl, refl, refl, refl, refl, refl, refl, refl, refl, refl, refl, refl, refl, refl, refl, refl) (at-neg 6 (omega arith)))
+    (λ h. made 2 (refl, refl, refl, refl, refl, refl, refl, refl, refl, refl, refl, refl, refl, refl, refl, refl, refl) (at-neg 5 (omega arith)))
+    (λ h. made 3 (refl, refl, refl, refl, refl, refl, refl, refl, refl, refl, refl, refl, refl, refl, refl, refl, refl) (at-neg 4 (omega arith)))
+    (λ h. made 4 (refl, refl, refl, refl, refl, refl, refl, refl, refl, refl, refl, refl, refl, refl, refl, refl, refl) (at-neg 3 (omega arith)))
+    (λ h. made 5 (refl, refl, refl, refl, refl, refl, refl, refl, refl, refl, refl, refl, refl, refl, refl, refl, refl) (at-neg 2 (omega arith)))
     (six (λ j. Upto (suc (suc (suc (suc (suc (suc (j))))))))
-    (λ h. made 6 (refl, refl, refl, refl, refl, refl, refl, refl, refl, refl, refl, refl, refl, refl) (at-neg 1 (omega arith)))
-    (λ h. made 7 (refl, refl, refl, refl, refl, refl, refl, refl, refl, refl, refl, refl, refl, refl) (at-neg 0 (omega arith)))
-    (λ h. made 8 (refl, refl, refl, refl, refl, refl, refl, refl, refl, refl, refl, refl, refl, refl) (at-pos 0))
-    (λ h. made 9 (refl, refl, refl, refl, refl, refl, refl, refl, refl, refl, refl, refl, refl, refl) (at-pos 1))
-    (λ h. made 10 (refl, refl, refl, refl, refl, refl, refl, refl, refl, refl, refl, refl, refl, refl) (at-pos 2))
-    (λ h. made 11 (refl, refl, refl, refl, refl, refl, refl, refl, refl, refl, refl, refl, refl, refl) (at-pos 3))
+    (λ h. made 6 (refl, refl, refl, refl, refl, refl, refl, refl, refl, refl, refl, refl, refl, refl, refl, refl, refl) (at-neg 1 (omega arith)))
+    (λ h. made 7 (refl, refl, refl, refl, refl, refl, refl, refl, refl, refl, refl, refl, refl, refl, refl, refl, refl) (at-neg 0 (omega arith)))
+    (λ h. made 8 (refl, refl, refl, refl, refl, refl, refl, refl, refl, refl, refl, refl, refl, refl, refl, refl, refl) (at-pos 0))
+    (λ h. made 9 (refl, refl, refl, refl, refl, refl, refl, refl, refl, refl, refl, refl, refl, refl, refl, refl, refl) (at-pos 1))
+    (λ h. made 10 (refl, refl, refl, refl, refl, refl, refl, refl, refl, refl, refl, refl, refl, refl, refl, refl, refl) (at-pos 2))
+    (λ h. made 11 (refl, refl, refl, refl, refl, refl, refl, refl, refl, refl, refl, refl, refl, refl, refl, refl, refl) (at-pos 3))
     (six (λ j. Upto (suc (suc (suc (suc (suc (suc (suc (suc (suc (suc (suc (suc (j))))))))))))))
-    (λ h. made 12 (refl, refl, refl, refl, refl, refl, refl, refl, refl, refl, refl, refl, refl, refl) (at-pos 4))
-    (λ h. made 13 (refl, refl, refl, refl, refl, refl, refl, refl, refl, refl, refl, refl, refl, refl) (at-pos 5))
-    (λ h. made 14 (refl, refl, refl, refl, refl, refl, refl, refl, refl, refl, refl, refl, refl, refl) (at-pos 6))
-    (λ h. made 15 (refl, refl, refl, refl, refl, refl, refl, refl, refl, refl, refl, refl, refl, refl) (at-pos 7))
-    (λ h. made 16 (refl, refl, refl, refl, refl, refl, refl, refl, refl, refl, refl, refl, refl, refl) (at-pos 8))
-    (λ h. made 17 (refl, refl, refl, refl, refl, refl, refl, refl, refl, refl, refl, refl, refl, refl) (at-pos 9))
+    (λ h. made 12 (refl, refl, refl, refl, refl, refl, refl, refl, refl, refl, refl, refl, refl, refl, refl, refl, refl) (at-pos 4))
+    (λ h. made 13 (refl, refl, refl, refl, refl, refl, refl, refl, refl, refl, refl, refl, refl, refl, refl, refl, refl) (at-pos 5))
+    (λ h. made 14 (refl, refl, refl, refl, refl, refl, refl, refl, refl, refl, refl, refl, refl, refl, refl, refl, refl) (at-pos 6))
+    (λ h. made 15 (refl, refl, refl, refl, refl, refl, refl, refl, refl, refl, refl, refl, refl, refl, refl, refl, refl) (at-pos 7))
+    (λ h. made 16 (refl, refl, refl, refl, refl, refl, refl, refl, refl, refl, refl, refl, refl, refl, refl, refl, refl) (at-pos 8))
+    (λ h. made 17 (refl, refl, refl, refl, refl, refl, refl, refl, refl, refl, refl, refl, refl, refl, refl, refl, refl) (at-pos 9))
     (λ j h. absurd (omega arith))))

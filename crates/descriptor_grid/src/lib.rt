@@ -1,12 +1,12 @@
 // The histogram of 6 by 6 cells of 10 slots, and what a sample adds to it: `scatter` of the source, a sample at a time.
 
 ghost use mathlib.Core.Path.{_≡_};
-ghost use Prim.Native.Nat.{_+_, _<_, _≤_};
-ghost use Rattle.ieee.specs.F32.{_⊖_, floatZ};
-ghost use Rattle.hal.specs.Powers.{powers as table};
+ghost use mathlib.Core.Bool.{_&&_};
+ghost use Prim.Native.Nat.{_+_, _<_};
+ghost use lib.Dec.{leb};
 ghost use Rattle.descriptor_values.specs.Places.{places};
 ghost use Rattle.descriptor_grid.specs.Grid.{sharesOf, spotOf, pairAt, when, scattered};
-ghost use Rattle.descriptor_grid.specs.Reach.{lowered, Near, Floored, Lands, Inside};
+ghost use Rattle.descriptor_grid.specs.Reach.{Near, splitOf, Lent, Settled, Inside};
 
 // A sample's eight shares: by row, column and slot of the grid, each the nearer one (0) or the next (1).
 pub struct Shares {
@@ -28,23 +28,41 @@ pub struct Spot {
     pub shares: Shares,
 }
 
-// `floor_i` of the source, for a v in -8 to 8, and 8 more. 12582912 is 1.5 * 2^23, in the middle of the numbers from 2^23 to 2^24, among which the f32s are the whole numbers.
-// So v + (12582912 + 8) is rounded to a whole number, and less 12582912, which is exact, it is v + 8 rounded: the floor and 8, or one more.
-fn floor_i(v: f32) -> u32
-    requires { ⌜ Near v ⌝ }
-    ensures { λ k. ⌜ Floored v k ⌝ }
-{
-    let near = (v + 12582920.0) - 12582912.0;
-    let k = near as u32;
-    if v < near - 8.0 { k - 1 } else { k }
+// A number by the whole number at or below it: that one's digits, and how far the number lies past it.
+pub struct Split {
+    pub bits: u32,
+    pub past: f32,
 }
 
-// How far v lies past k - 8.
-fn past(v: f32, k: u32) -> f32
-    requires { ⌜ k ≤ 16 ⌝ }
-    ensures { λ r. ⌜ r ≡ v ⊖ floatZ (lowered k) ⌝ }
+// A sample with its row and its column split.
+pub struct Landed {
+    pub sample: descriptor_patch::Sample,
+    pub row: Split,
+    pub col: Split,
+}
+
+// The four shares that go to one row of the grid: by column and slot.
+pub struct RowShares {
+    pub v00: f32,
+    pub v01: f32,
+    pub v10: f32,
+    pub v11: f32,
+}
+
+// `floor_i` of the source and what is left, for a v in -8 to 8. 12582912 is 1.5 * 2^23, in the middle of the numbers from 2^23 to 2^24, among which the f32s are
+// the whole numbers. So v + 12582912 is rounded to a whole number, and less 12582912, which is exact, it is v rounded: the floor, or one more. The one is a
+// selection and no branch. It is taken off the sum too, whose last bits are then the floor's digits.
+pub fn split_of(v: f32) -> Split
+    requires { ⌜ Near v ⌝ }
+    ensures { λ r. ⌜ r ≡ splitOf v ⌝ }
 {
-    v - ((k as f32) - 8.0)
+    let sum = v + 12582912.0;
+    let near = sum - 12582912.0;
+    let one = if v < near { 1.0 } else { 0.0 };
+    Split {
+        bits: f32::to_bits(sum - one),
+        past: v - (near - one),
+    }
 }
 
 // m split by how far it lies past the nearer row, column and slot.
@@ -73,22 +91,28 @@ fn shares_of(m: f32, rb: f32, cb: f32, ob: f32) -> Shares
     }
 }
 
-// A sample's shares and where they go, in a patch that is turned by `angle`.
-fn spot_of(powers: &[u32; 256], angle: f32, s: descriptor_patch::Sample) -> Spot
-    requires { ⌜ (now powers ≡ table) × Lands angle s ⌝ }
-    ensures { λ r. ⌜ (r ≡ spotOf angle s) × Inside r ⌝ }
+// A sample's shares and where they go, in a patch that is turned by `angle`. -1 is row 63 of 64 by its digits, and so 0 after one more.
+fn spot_of(
+    pairs: &[u32; 512],
+    cubics: &[f64; 256],
+    turns: &[f32; 272],
+    angle: f32,
+    l: Landed,
+) -> Spot
+    requires { ⌜ Lent (now pairs) (now cubics) (now turns) × Settled angle l ⌝ }
+    ensures { λ r. ⌜ (r ≡ spotOf angle (l .sample)) × Inside r ⌝ }
 {
+    let s = l.sample;
+    let r = l.row;
+    let c = l.col;
+    let m = hal::magnitude_in(cubics, s.dx, s.dy) * hal::exp_in(pairs, s.fall);
     // 8 / 360 slots a degree
-    let turn = (hal::angle(s.dx, s.dy) - angle) * 0.022222223;
-    let r0 = floor_i(s.rbin);
-    let c0 = floor_i(s.cbin);
-    let o0 = floor_i(turn);
-    let m = hal::magnitude(s.dx, s.dy) * hal::exp_with(powers, s.fall);
+    let o = split_of((hal::angle_in(turns, s.dx, s.dy) - angle) * 0.022222223);
     Spot {
-        row: (r0 - 7) as usize,
-        col: (c0 - 7) as usize,
-        slot: (o0 % 8) as usize,
-        shares: shares_of(m, past(s.rbin, r0), past(s.cbin, c0), past(turn, o0)),
+        row: ((r.bits + 1) % 64) as usize,
+        col: ((c.bits + 1) % 64) as usize,
+        slot: (o.bits % 8) as usize,
+        shares: shares_of(m, r.past, c.past, o.past),
     }
 }
 
@@ -110,27 +134,51 @@ fn pair_if(t: bool, hist: &mut [f32; 360], i: usize, a: f32, b: f32)
     }
 }
 
-// The eight shares in the source's order; a column on lies 10 places on, and a row on 60. Pairs of the outer ring, which no value is made of, are left out.
+// The two pairs of a row of the grid: a column on lies 10 places on.
+fn row_if(t: bool, hist: &mut [f32; 360], i: usize, col: usize, s: RowShares)
+    requires { ⌜ i + 11 < places ⌝ }
+    ensures { λ _. ⌜ now (hist .exit) ≡ when (t && leb col 3) (when (t && leb 1 col) (now (hist .entry)) i (s .v00) (s .v01)) (i + 10) (s .v10) (s .v11) ⌝ }
+{
+    if t {
+        pair_if(1 <= col, hist, i, s.v00, s.v01);
+        pair_if(col <= 3, hist, i + 10, s.v10, s.v11);
+    }
+}
+
+// The eight shares in the source's order; a row on lies 60 places on. Pairs of the outer ring, which no value is made of, are left out: first by row, then by column.
 fn scatter(hist: &mut [f32; 360], p: Spot)
     requires { ⌜ Inside p ⌝ }
     ensures { λ _. ⌜ now (hist .exit) ≡ scattered (now (hist .entry)) p ⌝ }
 {
     let s = p.shares;
-    let top = 1 <= p.row;
-    let low = p.row <= 3;
-    let left = 1 <= p.col;
-    let right = p.col <= 3;
     let i = (p.row * 6 + p.col) * 10 + p.slot;
-    pair_if(top & left, hist, i, s.v000, s.v001);
-    pair_if(top & right, hist, i + 10, s.v010, s.v011);
-    pair_if(low & left, hist, i + 60, s.v100, s.v101);
-    pair_if(low & right, hist, i + 70, s.v110, s.v111);
+    let here = RowShares {
+        v00: s.v000,
+        v01: s.v001,
+        v10: s.v010,
+        v11: s.v011,
+    };
+    let next = RowShares {
+        v00: s.v100,
+        v01: s.v101,
+        v10: s.v110,
+        v11: s.v111,
+    };
+    row_if(1 <= p.row, hist, i, p.col, here);
+    row_if(p.row <= 3, hist, i + 60, p.col, next);
 }
 
-// A sample added to the histogram. The table of powers is lent (`hal::table`).
-pub fn add(hist: &mut [f32; 360], powers: &[u32; 256], angle: f32, s: descriptor_patch::Sample)
-    requires { ⌜ (now powers ≡ table) × Lands angle s ⌝ }
-    ensures { λ _. ⌜ now (hist .exit) ≡ scattered (now (hist .entry)) (spotOf angle s) ⌝ }
+// A sample added to the histogram. The tables of the routines are lent.
+pub fn add(
+    hist: &mut [f32; 360],
+    pairs: &[u32; 512],
+    cubics: &[f64; 256],
+    turns: &[f32; 272],
+    angle: f32,
+    l: Landed,
+)
+    requires { ⌜ Lent (now pairs) (now cubics) (now turns) × Settled angle l ⌝ }
+    ensures { λ _. ⌜ now (hist .exit) ≡ scattered (now (hist .entry)) (spotOf angle (l .sample)) ⌝ }
 {
-    scatter(hist, spot_of(powers, angle, s));
+    scatter(hist, spot_of(pairs, cubics, turns, angle, l));
 }

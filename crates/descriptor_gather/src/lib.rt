@@ -1,6 +1,8 @@
 // The samples of a patch, row by row, added to the histogram and counted.
 
+use descriptor_grid::Landed;
 use descriptor_patch::Patch;
+use descriptor_patch::Rots;
 use descriptor_patch::Run;
 ghost use mathlib.Core.Path.{_≡_};
 ghost use mathlib.Core.Bool.{true, cond};
@@ -9,51 +11,108 @@ ghost use lib.ListN.{length};
 ghost use Rattle.params.specs.Table.{allGood};
 ghost use Rattle.picture.specs.Picture.{fourAt};
 ghost use Rattle.picture.specs.Place.{Around};
-ghost use Rattle.hal.specs.Powers.{powers as table};
 ghost use Rattle.descriptor_patch.specs.Patch.{gridAt, readsOf, samplesOf};
 ghost use Rattle.descriptor_patch.specs.Run.{overRun};
 ghost use Rattle.descriptor_patch.specs.Place.{Inner};
 ghost use Rattle.descriptor_grid.specs.Grid.{gatheredIn};
+ghost use Rattle.descriptor_grid.specs.Reach.{Lent};
 ghost use Rattle.descriptor_gather.specs.Gather.{sampleIn, Patched};
 
-// The cell (r, c): its sample is added where it lies in the grid. How many samples that are.
+// A row of the patch, and the columns of it that are gone through.
+pub struct Line {
+    pub patch: Patch,
+    pub row: usize,
+    pub run: Run,
+}
+
+// A cell of the patch.
+pub struct Point {
+    pub patch: Patch,
+    pub row: usize,
+    pub col: usize,
+}
+
+// One cell: its sample is added where it lies in the grid. How many samples that are. The row is tested and split before the column is worked out, so that the
+// compiler does not do both at a time, which is slower.
 fn cell(
     img: &[f32],
-    t: Patch,
-    powers: &[u32; 256],
+    pairs: &[u32; 512],
+    cubics: &[f64; 256],
+    turns: &[f32; 272],
     hist: &mut [f32; 360],
-    r: usize,
-    c: usize,
+    p: Point,
 ) -> usize
-    requires { ⌜ (now powers ≡ table) × (Patched (length (now img)) t × (Around (length (now img)) (t .size) r c × (allGood (cond (gridAt t r c) (fourAt (now img) (t .size .width) r c) []) ≡ true))) ⌝ }
-    ensures { λ n. ⌜ (now (hist .exit) ≡ gatheredIn (t .angle) (now (hist .entry)) (cond (gridAt t r c) (sampleIn (now (img .entry)) t r c) [])) × (n ≡ length (cond (gridAt t r c) (sampleIn (now (img .entry)) t r c) [])) ⌝ }
+    requires { ⌜ Lent (now pairs) (now cubics) (now turns) × (Patched (length (now img)) (p .patch) × (Around (length (now img)) (p .patch .size) (p .row) (p .col) × (allGood (cond (gridAt (p .patch) (p .row) (p .col)) (fourAt (now img) (p .patch .size .width) (p .row) (p .col)) []) ≡ true))) ⌝ }
+    ensures { λ n. ⌜ (now (hist .exit) ≡ gatheredIn (p .patch .angle) (now (hist .entry)) (cond (gridAt (p .patch) (p .row) (p .col)) (sampleIn (now (img .entry)) (p .patch) (p .row) (p .col)) [])) × (n ≡ length (cond (gridAt (p .patch) (p .row) (p .col)) (sampleIn (now (img .entry)) (p .patch) (p .row) (p .col)) [])) ⌝ }
 {
-    if descriptor_patch::grid_at(t, r, c) {
-        let s = descriptor_patch::sample_at(img, t, r, c);
-        descriptor_grid::add(hist, powers, t.angle, s);
-        return 1;
+    let t = p.patch;
+    let row = descriptor_patch::rot_row(t, p.row, p.col);
+    let rbin = descriptor_patch::bin_of(row);
+    if descriptor_patch::in_grid(rbin) {
+        let r = descriptor_grid::split_of(rbin);
+        let col = descriptor_patch::rot_col(t, p.row, p.col);
+        let cbin = descriptor_patch::bin_of(col);
+        if descriptor_patch::in_grid(cbin) {
+            let c = descriptor_grid::split_of(cbin);
+            let s = descriptor_patch::sample_at(img, t, p.row, p.col, Rots { col: col, row: row });
+            let l = Landed {
+                sample: s,
+                row: r,
+                col: c,
+            };
+            descriptor_grid::add(hist, pairs, cubics, turns, t.angle, l);
+            return 1;
+        }
     }
     0
 }
 
-// A run of row r.
-fn row(img: &[f32], t: Patch, powers: &[u32; 256], hist: &mut [f32; 360], r: usize, e: Run) -> usize
-    requires { ⌜ (now powers ≡ table) × (Patched (length (now img)) t × (Inner t r e × (allGood (overRun t r (fourAt (now img) (t .size .width)) e) ≡ true))) ⌝ }
-    ensures { λ n. ⌜ (now (hist .exit) ≡ gatheredIn (t .angle) (now (hist .entry)) (overRun t r (sampleIn (now (img .entry)) t) e)) × (n ≡ length (overRun t r (sampleIn (now (img .entry)) t) e)) ⌝ }
+// A run of a row.
+fn row(
+    img: &[f32],
+    pairs: &[u32; 512],
+    cubics: &[f64; 256],
+    turns: &[f32; 272],
+    hist: &mut [f32; 360],
+    l: Line,
+) -> usize
+    requires { ⌜ Lent (now pairs) (now cubics) (now turns) × (Patched (length (now img)) (l .patch) × (Inner (l .patch) (l .row) (l .run) × (allGood (overRun (l .patch) (l .row) (fourAt (now img) (l .patch .size .width)) (l .run)) ≡ true))) ⌝ }
+    ensures { λ n. ⌜ (now (hist .exit) ≡ gatheredIn (l .patch .angle) (now (hist .entry)) (overRun (l .patch) (l .row) (sampleIn (now (img .entry)) (l .patch)) (l .run))) × (n ≡ length (overRun (l .patch) (l .row) (sampleIn (now (img .entry)) (l .patch)) (l .run))) ⌝ }
 {
+    let t = l.patch;
+    let r = l.row;
+    let e = l.run;
     let end = e.past;
     let mut n: usize = 0;
     let mut c = e.first;
     while c < end {
-        n += cell(img, t, powers, hist, r, c);
+        n += cell(
+            img,
+            pairs,
+            cubics,
+            turns,
+            hist,
+            Point {
+                patch: t,
+                row: r,
+                col: c,
+            },
+        );
         c += 1;
     }
     n
 }
 
 // The rows of the patch.
-fn rows(img: &[f32], t: Patch, powers: &[u32; 256], hist: &mut [f32; 360]) -> usize
-    requires { ⌜ (now powers ≡ table) × (Patched (length (now img)) t × (allGood (readsOf (now img) t) ≡ true)) ⌝ }
+fn rows(
+    img: &[f32],
+    pairs: &[u32; 512],
+    cubics: &[f64; 256],
+    turns: &[f32; 272],
+    hist: &mut [f32; 360],
+    t: Patch,
+) -> usize
+    requires { ⌜ Lent (now pairs) (now cubics) (now turns) × (Patched (length (now img)) t × (allGood (readsOf (now img) t) ≡ true)) ⌝ }
     ensures { λ n. ⌜ (now (hist .exit) ≡ gatheredIn (t .angle) (now (hist .entry)) (samplesOf (now (img .entry)) t)) × (n ≡ length (samplesOf (now (img .entry)) t)) ⌝ }
 {
     let end = picture::past_in(t.py, t.radius, t.size.height);
@@ -61,7 +120,18 @@ fn rows(img: &[f32], t: Patch, powers: &[u32; 256], hist: &mut [f32; 360]) -> us
     let mut r = picture::first_in(t.py, t.radius);
     while r < end {
         let e = descriptor_patch::run_of(t, r);
-        n += row(img, t, powers, hist, r, e);
+        n += row(
+            img,
+            pairs,
+            cubics,
+            turns,
+            hist,
+            Line {
+                patch: t,
+                row: r,
+                run: e,
+            },
+        );
         r += 1;
     }
     n
@@ -72,6 +142,8 @@ pub fn gather(img: &[f32], t: Patch, hist: &mut [f32; 360]) -> usize
     requires { ⌜ Patched (length (now img)) t × (allGood (readsOf (now img) t) ≡ true) ⌝ }
     ensures { λ n. ⌜ (now (hist .exit) ≡ gatheredIn (t .angle) (now (hist .entry)) (samplesOf (now (img .entry)) t)) × (n ≡ length (samplesOf (now (img .entry)) t)) ⌝ }
 {
-    let powers = hal::table();
-    rows(img, t, &powers, hist)
+    let pairs = hal::pair_table();
+    let cubics = hal::cubic_table();
+    let turns = hal::turn_table();
+    rows(img, &pairs, &cubics, &turns, hist, t)
 }

@@ -19,10 +19,10 @@ use Rattle.descriptor_gather.proofs.row.Lts as lts
 use Rattle.descriptor_gather.proofs.cell.Reads as cell-reads
 
 abbrev Inv-loop : tie.InvT-loop
-Inv-loop img t powers hist₀ r end n₀ c₀ hist n c = (c₀ ≤ c) × ((c ≤ max c₀ end) × ((n ≤ c) × Holds (t .angle) hist₀ (joined c₀ c (λ k. cond (gridAt t r k) (sampleIn img t r k) [])) hist n))
+Inv-loop img pairs cubics turns hist₀ t r end n₀ c₀ hist n c = (c₀ ≤ c) × ((c ≤ max c₀ end) × ((n ≤ c) × Holds (t .angle) hist₀ (joined c₀ c (λ k. cond (gridAt t r k) (sampleIn img t r k) [])) hist n))
 
 abbrev μ-loop : tie.MeasureT-loop
-μ-loop img t powers hist₀ r end n₀ c₀ hist n c = end - c
+μ-loop img pairs cubics turns hist₀ t r end n₀ c₀ hist n c = end - c
 
 loop-holds : tie.Need-loop-holds Inv-loop μ-loop
 loop-holds c = (omega arith, (omega arith, (omega arith, holds-none _ _ _ _)))
@@ -30,7 +30,7 @@ loop-holds c = (omega arith, (omega arith, (omega arith, holds-none _ _ _ _)))
 cell-requires : tie.Need-cell-requires Inv-loop μ-loop
 unfolding overRun
 cell-requires c κs =
-    let p = c .before .before .before .before .pre in
+    let p = c .before .before .before .before .before .before .pre in
     let i = p .1 .1 .0 in
     let l = c .before .before .loop in (
       p .0,
@@ -45,16 +45,16 @@ cell-requires c κs =
 
 small : (c : tie.After-cell Inv-loop μ-loop) → c .cell .result ≤ 1
 small c =
-    let x = c .before .before .before .before .before .args in
+    let x = c .before .before .before .before .before .before .before .args in
     let k = c .before .before .before .loop .c in
-    rw (c .cell .ensures .1) (one-most (gridAt (x .t) (x .r) k) (sampleAt (x .img .now) (x .t) (x .r) k))
+    rw (c .cell .ensures .1) (one-most (gridAt (x .l .patch) (x .l .row) k) (sampleAt (x .img .now) (x .l .patch) (x .l .row) k))
 
 both : {n k c : ℕ} → n ≤ c → k ≤ 1 → n + k ≤ c + 1
 both h l = omega arith
 
 add-n : tie.Need-add-n Inv-loop μ-loop
 add-n c =
-    let p = c .before .before .before .before .before .pre in
+    let p = c .before .before .before .before .before .before .before .pre in
     let l = c .before .before .before .loop in
     let k = small c in
     let a = p .1 .1 .0 .right in

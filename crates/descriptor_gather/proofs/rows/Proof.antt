@@ -21,10 +21,10 @@ use Rattle.picture.proofs.past_in.Reads as past-in-reads
 use Rattle.descriptor_patch.proofs.run_of.Reads as run-of-reads
 
 abbrev Inv-loop : tie.InvT-loop
-Inv-loop img t powers hist₀ end n₀ r₀ hist n r = (r₀ ≤ r) × ((r ≤ max r₀ end) × ((n ≤ maxSide * r) × Holds (t .angle) hist₀ (joined r₀ r (rowOf t (sampleIn img t))) hist n))
+Inv-loop img pairs cubics turns hist₀ t end n₀ r₀ hist n r = (r₀ ≤ r) × ((r ≤ max r₀ end) × ((n ≤ maxSide * r) × Holds (t .angle) hist₀ (joined r₀ r (rowOf t (sampleIn img t))) hist n))
 
 abbrev μ-loop : tie.MeasureT-loop
-μ-loop img t powers hist₀ end n₀ r₀ hist n r = end - r
+μ-loop img pairs cubics turns hist₀ t end n₀ r₀ hist n r = end - r
 
 past-in-requires : tie.Need-past-in-requires Inv-loop μ-loop
 past-in-requires c κs = search needs

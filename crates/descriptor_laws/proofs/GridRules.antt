@@ -1,5 +1,5 @@
 -- The laws of a spot and of the histogram that specs/GridRules.antt states. Assumes nothing.
-use Prim.Native.Nat.{ℕ, _+_, _-_, _%_}
+use Prim.Native.Nat.{ℕ, _+_}
 use mathlib.Core.Path.{_≡_, refl, sym, _∙_, subst}
 use mathlib.Core.Bool.{true}
 use mathlib.Core.List.{List}
@@ -9,7 +9,7 @@ use lib.ListN.{length, replicate, length-replicate}
 use lib.Ieee.{Float, binary32, ofBits, sub, mul, le}
 use lib.Ieee.Bits.{is-true}
 use lib.Ieee.Scale.{finite}
-use Rattle.ieee.specs.F32.{_⊖_, _⊗_, _=ᶠ_, floatZ}
+use Rattle.ieee.specs.F32.{_⊖_, _=ᶠ_, floatZ}
 use Rattle.ieee.specs.Numbers.{nought, one}
 use Rattle.ieee_laws.proofs.Order.{lt-le}
 use Rattle.ieee_laws.proofs.Monotone.{nil}
@@ -23,13 +23,12 @@ use Rattle.lists.specs.Each.{Each}
 use Rattle.descriptor_patch.specs.declared.Sample.{Sample}
 use Rattle.descriptor_values.specs.Places.{places}
 use Rattle.descriptor_laws.specs.ValuesRules.{Held}
-use Rattle.descriptor_grid.specs.Grid.{sharesOf, spotOf, gathered}
-use Rattle.descriptor_grid.specs.Reach.{lowered, Floored, Lands, Inside}
+use Rattle.descriptor_grid.specs.Grid.{spotOf, gathered}
+use Rattle.descriptor_grid.specs.Reach.{lowered, Floored, Lands}
 use Rattle.descriptor_grid.specs.declared.Shares.{Shares}
 use Rattle.descriptor_grid.specs.declared.Spot.{Spot}
 use Rattle.descriptor_grid.proofs.Steps.{step}
-use Rattle.descriptor_grid.proofs.Floors.{Found, floored-of}
-use Rattle.descriptor_grid.proofs.Spots.{turnOf, grid-near, grid-range, turn-near, spot-is, spot-inside}
+use Rattle.descriptor_grid.proofs.Spots.{turnOf, row, col, slot, is-spot, spot-inside}
 use Rattle.descriptor_laws.specs.GridRules.{mostShare, Eight, Counts, Flat, GridRule}
 use Rattle.descriptor_laws.proofs.Parts.{Part, Top, split-product, shares-in}
 use Rattle.descriptor_laws.proofs.Sums.{held-add, held-none, none-add}
@@ -84,37 +83,15 @@ flat-magnitude dx dy h p q = magnitude-rule .none dx dy (subst T (sym h) tt) (su
 empty-part : (dx dy : Float) → inAngle dx dy ≡ true → (dx =ᶠ nought) ≡ true → (dy =ᶠ nought) ≡ true → Part nil (magnitudeOf dx dy)
 empty-part dx dy h p q = record { bounds = rw (flat-magnitude dx dy h p q) (bounds-point nil refl); held = magnitude-rule .held dx dy }
 
--- ---- a sample's spot and its shares
+-- ---- a sample's shares
 
-module _ (angle : Float) (s : Sample) (l : Lands angle s) where
-  row : Found (s .rbin)
-  row = floored-of (s .rbin) (grid-near (s .rbin) (l .row))
-
-  col : Found (s .cbin)
-  col = floored-of (s .cbin) (grid-near (s .cbin) (l .col))
-
-  slot : Found (turnOf angle s)
-  slot = floored-of (turnOf angle s) (turn-near (s .dx) (s .dy) angle (l .slopes) (l .turn))
-
-  abbrev parts : Shares
-  parts =
-      sharesOf (magnitudeOf (s .dx) (s .dy) ⊗ expOf (s .fall)) (s .rbin ⊖ floatZ (lowered (row .at))) (s .cbin ⊖ floatZ (lowered (col .at))) (turnOf angle s ⊖ floatZ (lowered (slot .at)))
-
-  abbrev spot : Spot
-  spot = record { row = row .at - 7; col = col .at - 7; slot = slot .at % 8; shares = parts }
-
-  is-spot : spot ≡ spotOf angle s
-  is-spot = spot-is angle s (row .at) (col .at) (slot .at) parts (row .is) (col .is) (slot .is) refl
-
-  inside-spot : Inside (spotOf angle s)
-  inside-spot =
-      subst Inside is-spot
-      (spot-inside (row .at) (col .at) (slot .at) parts (grid-range (s .rbin) (row .at) (l .row) (row .is) .1) (grid-range (s .cbin) (col .at) (l .col) (col .is) .1))
-
-  spot-parts : {top : Float} → Top top → Part top (magnitudeOf (s .dx) (s .dy)) → inDown (s .fall) ≡ true → Eight (Part top) (spotOf angle s .shares)
-  spot-parts {top} t p h =
-      subst (λ (q : Spot). Eight (Part top) (q .shares)) is-spot
-      (shares-in t (split-product t p (weight-bounds (s .fall) h)) (past-bounds (s .rbin) (row .at) (row .is)) (past-bounds (s .cbin) (col .at) (col .is)) (past-bounds (turnOf angle s) (slot .at) (slot .is)))
+spot-parts : (angle : Float) (s : Sample) (l : Lands angle s) {top : Float} → Top top → Part top (magnitudeOf (s .dx) (s .dy)) → inDown (s .fall) ≡ true → Eight (Part top) (spotOf angle s .shares)
+spot-parts angle s l {top} t p h =
+    let r = row angle s l in
+    let c = col angle s l in
+    let o = slot angle s l in
+    subst (λ (q : Spot). Eight (Part top) (q .shares)) (is-spot angle s l)
+    (shares-in t (split-product t p (weight-bounds (s .fall) h)) (past-bounds (s .rbin) (r .at) (r .is)) (past-bounds (s .cbin) (c .at) (c .is)) (past-bounds (turnOf angle s) (o .at) (o .is)))
 
 eight-to : {P Q : Float → Type 0} {p : Shares} → ((x : Float) → P x → Q x) → Eight P p → Eight Q p
 eight-to {p = p} f e =
@@ -141,14 +118,14 @@ counted-parts angle s c = spot-parts angle s (c .lands) full-top (magnitude-part
 held-places : (angle : Float) (ss : List Sample) → Each (Counts angle) ss → Places Held (gathered angle ss)
 unfolding gathered
 held-places angle ss e =
-    gathered-kept angle (λ s c. (inside-spot angle s (c .lands), eight-to (λ a p. record { kept = λ x h. held-add x a (p .bounds) h }) (counted-parts angle s c))) e (places-of held-none)
+    gathered-kept angle (λ s c. (spot-inside angle s (c .lands), eight-to (λ a p. record { kept = λ x h. held-add x a (p .bounds) h }) (counted-parts angle s c))) e (places-of held-none)
 
 flat-places : (angle : Float) (ss : List Sample) → Each (Flat angle) ss → Places (λ x. x ≡ nought) (gathered angle ss)
 unfolding gathered
 flat-places angle ss e =
     gathered-kept angle
     (λ s c.
-    (inside-spot angle s (c .counts .lands), eight-to (λ a p. record { kept = λ x h. none-add x a (p .bounds) h }) (spot-parts angle s (c .counts .lands) empty-top (empty-part (s .dx) (s .dy) (c .counts .lands .slopes) (c .dx) (c .dy)) (c .counts .fall))))
+    (spot-inside angle s (c .counts .lands), eight-to (λ a p. record { kept = λ x h. none-add x a (p .bounds) h }) (spot-parts angle s (c .counts .lands) empty-top (empty-part (s .dx) (s .dy) (c .counts .lands .slopes) (c .dx) (c .dy)) (c .counts .fall))))
     e (places-of refl)
 
 gathered-count : (angle : Float) (ss : List Sample) → length (gathered angle ss) ≡ places
@@ -158,7 +135,7 @@ gathered-count angle ss = gathered-length angle (replicate places nought) ss ∙
 pub grid-rule : GridRule
 grid-rule =
     record {
-      inside = inside-spot;
+      inside = spot-inside;
       shares = λ angle s c. eight-to part-in (counted-parts angle s c);
       count = gathered-count;
       held = λ angle ss e. held-places angle ss e .each;

@@ -49,16 +49,16 @@ fn cell(
     let row = descriptor_patch::rot_row(t, p.row, p.col);
     let rbin = descriptor_patch::bin_of(row);
     if descriptor_patch::in_grid(rbin) {
-        let r = descriptor_grid::split_of(rbin);
+        let rs = descriptor_grid::split_of(rbin);
         let col = descriptor_patch::rot_col(t, p.row, p.col);
         let cbin = descriptor_patch::bin_of(col);
         if descriptor_patch::in_grid(cbin) {
-            let c = descriptor_grid::split_of(cbin);
+            let cs = descriptor_grid::split_of(cbin);
             let s = descriptor_patch::sample_at(img, t, p.row, p.col, Rots { col: col, row: row });
             let l = Landed {
                 sample: s,
-                row: r,
-                col: c,
+                row: rs,
+                col: cs,
             };
             descriptor_grid::add(hist, pairs, cubics, turns, t.angle, l);
             return 1;

@@ -149,6 +149,13 @@ pub lt-le : (x y : Float) → lt x y ≡ true → le x y ≡ true
 unfolding le
 lt-le x y h = or-left (lt x y) (eq x y) h
 
+pub le-refl-float : (x : Float) → T (not (isNan x)) → le x x ≡ true
+unfolding le isNan
+le-refl-float nan h = absurd h
+le-refl-float (inf true) h = refl
+le-refl-float (inf false) h = refl
+le-refl-float (fin s m e) h = fin-le s m e s m e (record { cross = omega arith })
+
 less-not : (s : Bool) (a c : ℕ) (t : Bool) (b d : ℕ) → (Leq s a c t b d → ⊥) → Less t b d s a c
 less-not s a c t b d h = ⊎-elim (λ l. absurd (h (record { cross = l }))) (λ l. record { cross = l }) (split (plus s a * d + minus t b * c) (plus t b * c + minus s a * d))
   where

@@ -25,7 +25,7 @@ fn smooth_at(b: &[f32; 36], i: usize) -> f32
     let far = bin_around(b, i + 36 - 2) + bin_around(b, i + 2);
     let near = bin_around(b, i + 36 - 1) + bin_around(b, i + 1);
     let own = bin_around(b, i) * 0.375;
-    ieee::mul_add(far, 0.0625, ieee::mul_add(near, 0.25, own))
+    ieee::add_part(far, 0.0625, ieee::add_part(near, 0.25, own))
 }
 
 fn smooth(b: &[f32; 36]) -> [f32; 36]

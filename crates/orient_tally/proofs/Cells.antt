@@ -1,9 +1,9 @@
 -- Laws of a window's cells: how many there are, where each lies, and what one more does to the tally. Assumes nothing.
-use Prim.Native.Nat.{ℕ, zero, suc, _+_, _-_, _*_, _/_, _%_, _<_, _≤_}
+use Prim.Native.Nat.{ℕ, zero, suc, _+_, _-_, _*_, _/_, _%_, _<_}
 use mathlib.Core.Path.{_≡_, refl, sym, ap, _∙_}
 use mathlib.Core.List.{List, [], _∷_, _++_}
-use mathlib.Core.Logic.{_⊎_, ⊎-elim}
-use native.Mathlib.Nat.{mul-le-mul-right, suc-mul, zero-mul, mul-zero, add-zero, add-suc, mod-lt, div-add-mod', div-lt-iff-lt-mul, eq-or-lt-of-le, le-of-suc-le-suc}
+use mathlib.Core.Logic.{⊎-elim}
+use native.Mathlib.Nat.{suc-mul, zero-mul, mul-zero, add-zero, mod-lt, div-add-mod', div-lt-iff-lt-mul, eq-or-lt-of-le, le-of-suc-le-suc}
 use native.Mathlib.Numerals.{add-one}
 use native.Mathlib.Omega.{arith}
 use lib.ListN.{length, take, getD, length-append, length-take, List·getD-append}
@@ -81,19 +81,17 @@ placed {len} {win} f i j a b =
       cols = omega arith;
     }
 
-pub record At (len : ℕ) (win : Window) (k : ℕ) : Type 0 where
+-- the row and the column of the cell after k others
+pub record At (win : Window) (k : ℕ) : Type 0 where
   pub some : 0 < win .cols
   pub row : k / win .cols < win .rows
   pub col : k % win .cols < win .cols
-  pub place : Placed len win (win .top + k / win .cols) (win .left + k % win .cols)
 
-pub placed-at : {len n k : ℕ} {win : Window} → Fits len win → n ≡ win .rows * win .cols → k < n → At len win k
-placed-at {len} {n} {k} {win} f e h =
+pub at-cell : (win : Window) (n k : ℕ) → n ≡ win .rows * win .cols → k < n → At win k
+at-cell win n k e h =
     let h′ : k < win .rows * win .cols = omega arith in
     let c = some-cols (win .rows) (win .cols) k h′ in
-    let a = div-lt-iff-lt-mul c .1 h′ in
-    let b = mod-lt k c in
-    record { some = c; row = a; col = b; place = placed f (k / win .cols) (k % win .cols) a b }
+    record { some = c; row = div-lt-iff-lt-mul c .1 h′; col = mod-lt k c }
 
 -- ---- the tally
 counted-append : (f : ℕ → Cell → Sample) (k : ℕ) (a b : List Cell) (t : Tally) → counted f k (a ++ b) t ≡ counted f (k + length a) b (counted f k a t)

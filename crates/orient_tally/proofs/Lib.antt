@@ -1,4 +1,5 @@
 pub mod Cells
+pub mod Runs
 pub mod Lifted
 pub mod Values
 pub mod Spans

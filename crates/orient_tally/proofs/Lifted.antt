@@ -6,10 +6,10 @@ use native.Mathlib.Nat.{lt-of-not-le, not-le-of-lt, lt-of-lt-of-le, mul-pos, mul
 use native.Mathlib.Omega.{arith}
 use borrow.Author.Tests.{lt-ltb}
 use lib.Arith.{le-zero}
-use lib.Dec.{T, ltb, le→leb, lit<, lit≤}
+use lib.Dec.{ltb, le→leb, lit<, lit≤}
 use lib.IntN.{ℤ, pos}
 use lib.Pow.{pow-pos, pow-mono}
-use lib.Ieee.{Float, nan, inf, fin, binary32, up, down, size, nearest, units, round, sum, add, lt, le, ofInt, toUnsigned, inUnsigned, inFloat}
+use lib.Ieee.{Float, nan, inf, fin, binary32, up, down, size, nearest, units, round, sum, add, lt, le, ofInt, toUnsigned, inFloat}
 use lib.Ieee.Digits.{size-lt, size-le}
 use lib.Ieee.Fits.{down-pos, round-is}
 use lib.Ieee.Nearest.{closest, closest-same, closest-mono}
@@ -134,11 +134,6 @@ module _ (d k n : ℕ) (is : n ≡ d * 2 ^ k) (l : Lifts d k) where
       let f : 0 < 40 * down e = omega arith in
       let o : closest 0 (down e) ≡ 0 = le-zero (closest-mono 0 (down e) 0 1 c (omega arith) (omega arith)) in
       rw (even-is true m e, z, o, none, ← to-float (0 + n), add-none m e q, p, mul-one (down e)) (sum-is 0 (down e) c f ∙ ap (λ (x : ℕ). round binary32 false (x + n) 1) o)
-
-  -- as a u32
-  pub lifted-back : (j : ℕ) → j ≤ 40 → T (inUnsigned binary32 32 (ofInt binary32 (pos (j + n)))) × (toUnsigned 32 (ofInt binary32 (pos (j + n))) ≡ j + n)
-  unfolding inFloat
-  lifted-back j h = unsigned-back binary32 32 (j + n) (le→leb (j + n) (2 ^ 24) (omega (arith, room))) (omega (arith, room))
 
 -- ---- the number that the code adds: 2 ^ 23
 abbrev pub significand : ℕ

@@ -3,40 +3,40 @@ use Prim.Native.Nat.{ℕ, zero, suc, _+_, _-_, _*_, _/_, _%_, _<_, _≤_}
 use mathlib.Core.Path.{_≡_, refl, sym, ap, _∙_, subst}
 use mathlib.Core.Bool.{Bool, true, false, not, _&&_}
 use mathlib.Core.List.{List, [], _∷_}
-use mathlib.Core.Logic.{_⊎_, ⊎-elim}
+use mathlib.Core.Logic.{⊎-elim}
 use native.Mathlib.Nat.{mul-le-mul, mod-lt, div-lt-iff-lt-mul}
 use native.Mathlib.Omega.{arith}
 use lib.Dec.{T, lit<}
 use lib.ListN.{length, getD}
 use lib.IntN.{pos}
-use lib.Ieee.{Float, nan, inf, fin, binary32, ofBits, ofInt, neg, sub, mul, div, lt, le, eq, toUnsigned, isNan}
+use lib.Ieee.{Float, fin, binary32, ofBits, ofInt, neg, mul, div, lt, le, eq, toUnsigned, isNan}
 use lib.Ieee.Scale.{finite}
 use Rattle.lists.proofs.Naturals.{packed}
 use Rattle.lists.proofs.Bools.{and-both, or-true}
-use Rattle.ieee.specs.F32.{_⊖_, _⊗_, _⊘_, f32, rounded, absOf}
+use Rattle.ieee.specs.F32.{_⊗_, _⊘_, f32, rounded}
 use Rattle.ieee.specs.Whole.{roundEven}
 use Rattle.ieee.specs.Numbers.{nought, threeHalves, one, two}
-use Rattle.ieee_laws.specs.Sign.{Turned, of-inf, of-fin, turned, nought as no-sign}
+use Rattle.ieee_laws.specs.Sign.{Turned, of-fin, turned, nought as no-sign}
 use Rattle.ieee_laws.proofs.Order.{le-or-lt-float, lt-le, le-number, lt-not-le, lt-le-trans}
 use Rattle.ieee_laws.proofs.Monotone.{nil, toUnsigned-le}
-use Rattle.ieee_laws.proofs.Bounds.{Bounds, bounds-point, bounds-wider, sub-bounds, mul-bounds, div-bounds, roundEven-bounds, ofInt-bounds}
+use Rattle.ieee_laws.proofs.Bounds.{Bounds, bounds-point, bounds-wider, mul-bounds, div-bounds, roundEven-bounds, ofInt-bounds}
 use Rattle.ieee_laws.proofs.Turned.{neg-opp, mul-turned, div-turned, le-turned, nonzero}
 use Rattle.ieee_laws.proofs.TurnedOps.{same, nonzero-of}
-use Rattle.params.specs.Limits.{sampleLimit, scaleLow, scaleHigh}
-use Rattle.params.specs.Table.{within, goodSample, allGood}
-use Rattle.picture.specs.Picture.{pixel, slopeAt, fourAt, firstIn, pastIn}
+use Rattle.params.specs.Limits.{scaleLow, scaleHigh}
+use Rattle.params.specs.Table.{within, allGood}
+use Rattle.picture.specs.Picture.{slopeAt, fourAt, firstIn, pastIn}
 use Rattle.picture.specs.declared.Size.{Size}
 use Rattle.picture.proofs.Slopes.{good-slope}
-use Rattle.hal.specs.Numbers.{minus32, furthest}
+use Rattle.hal.specs.Numbers.{minus32}
 use Rattle.hal.specs.Exp.{inDown}
-use Rattle.hal.specs.Angle.{small, inAngle}
+use Rattle.hal.specs.Angle.{inAngle}
 use Rattle.lists.specs.Ranges.{every}
 use Rattle.orient_tally.specs.Window.{radiusFactor, radiusOf, sigmaOf, falloffOf, windowOf, Cell, cell, cellsRead}
 use Rattle.orient_tally.specs.Sample.{squareAt, apart, rowGood, windowGood}
 use Rattle.orient_tally.specs.Rules.{readAt, TallyRule}
 use Rattle.orient_tally.specs.declared.Window.{Window}
 use Rattle.orient_tally.proofs.Cells.{read-is, cell-at, cell-in, some-cols}
-use Rattle.orient_tally.proofs.Spans.{Spans, spans}
+use Rattle.orient_tally.proofs.Spans.{spans}
 use Rattle.lists.proofs.Every.{every-all, all-every}
 
 -- ---- what is tested is what is read

@@ -1,10 +1,10 @@
 -- The span of a window's rows or columns, and that the window fits the picture. Assumes nothing.
 use Prim.Native.Nat.{ℕ, suc, _+_, _-_, _*_, _<_, _≤_, max}
-use mathlib.Core.Path.{_≡_, refl}
+use mathlib.Core.Path.{_≡_}
 use mathlib.Core.Bool.{true}
 use native.Mathlib.Nat.{mul-le-mul}
 use native.Mathlib.Omega.{arith}
-use lib.Ieee.{Float, toUnsigned}
+use lib.Ieee.{Float}
 use Rattle.params.specs.Limits.{maxSide, scaleLow, scaleHigh}
 use Rattle.params.specs.Table.{within}
 use Rattle.picture.specs.Picture.{firstIn, pastIn}

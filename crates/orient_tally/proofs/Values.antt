@@ -1,15 +1,16 @@
 -- Bounds of the radius and of a bin. Assumes nothing.
-use Prim.Native.Nat.{ℕ, _+_, _-_, _^_, _≤_, _<_}
-use mathlib.Core.Path.{_≡_, refl, sym, ap, _∙_}
-use mathlib.Core.Bool.{Bool, true, false, _&&_, false≢true}
+use Prim.Native.Nat.{ℕ, _+_, _-_, _%_, _≤_, _<_}
+use mathlib.Core.Path.{_≡_, refl, ap}
+use mathlib.Core.Bool.{Bool, true, false, not, _&&_}
 use native.Mathlib.Omega.{arith}
-use mathlib.Core.Logic.{_⊎_, inl, inr}
 use borrow.Author.Tests.{le-leb, lt-leb}
-use lib.Dec.{T}
+use lib.Dec.{T, eqb, eqb→eq}
 use lib.IntN.{pos}
-use lib.Ieee.{Float, nan, fin, binary32, ofBits, mul, lt, le, toUnsigned, inUnsigned}
+use lib.Ieee.{Float, fin, binary32, ofBits, toBits, ofInt, isNan, mul, lt, le, toUnsigned}
+use Rattle.lists.specs.Ranges.{every}
+use Rattle.lists.proofs.Every.{every-all}
 use Rattle.lists.proofs.Bools.{and-both, is-T}
-use Rattle.ieee.specs.F32.{_⊕_, _⊗_, f32, rounded}
+use Rattle.ieee.specs.F32.{_⊕_, _⊗_, rounded}
 use Rattle.ieee.specs.Whole.{roundEven}
 use Rattle.ieee_laws.proofs.Order.{lt-le-trans, le-lt-trans, lt-le}
 use Rattle.ieee_laws.proofs.Monotone.{toUnsigned-le}
@@ -21,7 +22,7 @@ use Rattle.params.specs.Table.{within}
 use Rattle.orient_tally.specs.Window.{radiusFactor}
 use Rattle.orient_tally.specs.Sample.{bins, tenth, binOf}
 use Rattle.orient_tally.specs.Place.{maxReach}
-use Rattle.orient_tally.proofs.Lifted.{significand, place, lifts, amount, lift, lifted, lifted-back}
+use Rattle.orient_tally.proofs.Lifted.{significand, place, lifts, amount, lift, lifted}
 
 of-T : (b : Bool) → T b → b ≡ true
 of-T true h = refl
@@ -61,11 +62,27 @@ turn = fin false 45 (pos 3)
 abbrev pub forty : Float
 forty = fin false 5 (pos 3)
 
--- the sum of the turn and the lift can be cast to a u32, and is the lift's amount and the bin
+-- the sum of the turn and the lift is a number whose last six bits are the turn, rounded
 pub record Binned (a : Float) : Type 0 where
-  pub fine : T (inUnsigned binary32 32 (tenth ⊗ a ⊕ lift))
-  pub is : toUnsigned 32 (tenth ⊗ a ⊕ lift) ≡ toUnsigned 64 (rounded (tenth ⊗ a)) + amount
+  pub fine : T (not (isNan (tenth ⊗ a ⊕ lift)))
+  pub is : toBits binary32 (tenth ⊗ a ⊕ lift) % 64 ≡ toUnsigned 64 (rounded (tenth ⊗ a))
   pub size : toUnsigned 64 (rounded (tenth ⊗ a)) ≤ bins
+
+-- a whole number of at most 36 above the lift
+abbrev raised : ℕ → Float
+raised j = ofInt binary32 (pos (j + amount))
+
+abbrev shows : ℕ → Bool
+shows j = not (isNan (raised j)) && eqb (toBits binary32 (raised j) % 64) j
+
+all-show : every (bins + 1) shows ≡ true
+unfolding every ofInt toBits isNan
+all-show = refl
+
+last-bits : (j : ℕ) → j < bins + 1 → T (not (isNan (raised j))) × (toBits binary32 (raised j) % 64 ≡ j)
+last-bits j h =
+    let p = and-both (not (isNan (raised j))) _ (every-all (bins + 1) shows all-show j h) in
+    (is-T _ (p .0), eqb→eq _ _ (is-T _ (p .1)))
 
 module _ (a : Float) (low : T (le (fin false 0 (pos 0)) a)) (high : T (lt a turn)) where
   turn-bounds : Bounds (fin false 0 (pos 0)) turn a
@@ -91,50 +108,37 @@ module _ (a : Float) (low : T (le (fin false 0 (pos 0)) a)) (high : T (lt a turn
   binned =
       let n = toUnsigned 64 (rounded (tenth ⊗ a)) in
       let s : n ≤ bins = bin-cuts .size in
-      let r = lifted-back significand place amount refl lifts n (omega arith) in
       let e = lifted significand place amount refl lifts (tenth ⊗ a) bin-least bin-small in
+      let r = last-bits n (omega arith) in
       record { fine = rw e (r .0); is = rw e (r .1); size = s }
 
--- an angle as the routine gives it: none, or in 0 to below 360
-abbrev pub Direction : Float → Type 0
-Direction a = (a ≡ nan) ⊎ (T (le (fin false 0 (pos 0)) a) × T (lt a turn))
-
-pub direction : (dx dy : Float) → Direction (angleOf dx dy)
+-- of a direction in the routine's range
+pub binned-in : (dx dy : Float) → inAngle dx dy ≡ true → Binned (angleOf dx dy)
 unfolding ofBits
-direction dx dy = go (inAngle dx dy) refl
-  where
-    go : (b : Bool) → inAngle dx dy ≡ b → Direction (angleOf dx dy)
-    go true e = inr (angle-rule .least dx dy (is-T _ e), angle-rule .below dx dy (is-T _ e))
-    go false e = inl (angle-rule .outside dx dy e)
+binned-in dx dy e = binned (angleOf dx dy) (angle-rule .least dx dy (is-T _ e)) (angle-rule .below dx dy (is-T _ e))
 
-no-bin : lt (tenth ⊗ nan) forty ≡ false
-unfolding ofBits mul lt
-no-bin = refl
-
-pub binned-in : (a : Float) → Direction a → lt (tenth ⊗ a) forty ≡ true → Binned a
-binned-in a (inl e) h = absurd (false≢true (sym no-bin ∙ ap (λ (x : Float). lt (tenth ⊗ x) forty) (sym e) ∙ h))
-binned-in a (inr p) h = binned a (p .0) (p .1)
-
--- the bin as the code finds it
-abbrev pub found : Float → ℕ
-found a = toUnsigned 32 (tenth ⊗ a ⊕ lift) - amount
-
-pub binned-is : (a : Float) → Binned a → found a ≡ toUnsigned 64 (rounded (tenth ⊗ a))
-binned-is a r = rw (r .is) (omega arith)
-
-bin-none : binOf nan ≡ 0
-unfolding binOf mul roundEven toUnsigned ofBits
-bin-none = refl
-
--- what has no angle has bin 0
-pub bin-else : (a : Float) → Direction a → lt (tenth ⊗ a) forty ≡ false → 0 ≡ binOf a
-bin-else a (inl e) h = rw (e, bin-none)
-bin-else a (inr p) h = absurd (false≢true (sym h ∙ bin-small a (p .0) (p .1)))
-
-pub bin-high : (a : Float) (b : ℕ) → b ≡ toUnsigned 64 (rounded (tenth ⊗ a)) → bins ≤ b → binOf a ≡ b - bins
+bin-high : (a : Float) (b : ℕ) → b ≡ toUnsigned 64 (rounded (tenth ⊗ a)) → bins ≤ b → binOf a ≡ b - bins
 unfolding binOf
 bin-high a b e h = rw (← e, le-leb bins b h)
 
-pub bin-low : (a : Float) (b : ℕ) → b ≡ toUnsigned 64 (rounded (tenth ⊗ a)) → b < bins → binOf a ≡ b
+bin-low : (a : Float) (b : ℕ) → b ≡ toUnsigned 64 (rounded (tenth ⊗ a)) → b < bins → binOf a ≡ b
 unfolding binOf
 bin-low a b e h = rw (← e, lt-leb bins b h)
+
+-- the bin as the code finds it: the last six bits, or as much less a whole turn
+abbrev found : Float → ℕ
+found a = toBits binary32 (tenth ⊗ a ⊕ lift) % 64
+
+pub found-high : (dx dy a : Float) → a ≡ angleOf dx dy → inAngle dx dy ≡ true → bins ≤ found a → (found a - bins ≡ binOf (angleOf dx dy)) × (found a - bins < bins)
+found-high dx dy a e h l =
+    let r = binned-in dx dy h in
+    let z : found a ≡ found (angleOf dx dy) = ap found e in
+    let b = bin-high (angleOf dx dy) (found (angleOf dx dy)) (r .is) (omega arith) in
+    (omega arith, omega (arith, r .is, r .size))
+
+pub found-low : (dx dy a : Float) → a ≡ angleOf dx dy → inAngle dx dy ≡ true → found a < bins → (found a ≡ binOf (angleOf dx dy)) × (found a < bins)
+found-low dx dy a e h l =
+    let r = binned-in dx dy h in
+    let z : found a ≡ found (angleOf dx dy) = ap found e in
+    let b = bin-low (angleOf dx dy) (found (angleOf dx dy)) (r .is) (omega arith) in
+    (omega arith, l)

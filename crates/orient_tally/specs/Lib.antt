@@ -2,4 +2,5 @@ pub mod Window
 pub mod Sample
 pub mod Tally
 pub mod Place
+pub mod Runs
 pub mod Rules

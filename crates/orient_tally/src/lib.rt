@@ -7,12 +7,16 @@ ghost use Prim.Native.Nat.{_+_, _-_, _*_, _<_, _≤_};
 ghost use lib.ListN.{length};
 ghost use Rattle.params.specs.Limits.{maxSide, scaleLow, scaleHigh};
 ghost use Rattle.params.specs.Table.{within};
-ghost use Rattle.hal.specs.Powers.{powers as table};
-ghost use Rattle.hal.specs.Angle.{angleOf};
+ghost use Rattle.hal.specs.Powers.{pairs as pairTable};
+ghost use Rattle.hal.specs.Cubics.{cubics as cubicTable};
+ghost use Rattle.hal.specs.Turns.{turns as turnTable};
+ghost use Rattle.hal.specs.Exp.{inDown};
+ghost use Rattle.hal.specs.Angle.{angleOf, inAngle};
 ghost use Rattle.orient_tally.specs.Window.{radiusOf, falloffOf, windowOf, cell};
 ghost use Rattle.orient_tally.specs.Sample.{bins, apart, weightAt, binOf, rowGood, windowGood};
-ghost use Rattle.orient_tally.specs.Tally.{early, sampleOf, shareOf, added, tallied, empty, tallyOf, gatheredOf};
-ghost use Rattle.orient_tally.specs.Place.{maxReach, Fits, cellAt};
+ghost use Rattle.orient_tally.specs.Tally.{early, shareOf, added, tallied, empty, tallyOf, gatheredOf};
+ghost use Rattle.orient_tally.specs.Place.{maxReach, Fits, exponentAt, Asked, InRange};
+ghost use Rattle.orient_tally.specs.Runs.{runOf, runLength, sampleIn, stripGood, stripsGood};
 
 // The tally: a sum of weighted magnitudes for each 10 degrees of direction.
 pub struct Tally {
@@ -37,6 +41,14 @@ pub struct Window {
     pub rows: usize,
     pub cols: usize,
     pub falloff: f32,
+}
+
+// Cells of row y, one after the other from a column on, that are all early or all late.
+struct Run {
+    win: Window,
+    y: usize,
+    from: usize,
+    late: bool,
 }
 
 // The tally of a window, and the number of cells read for it.
@@ -96,29 +108,53 @@ fn distance(a: usize, b: usize) -> usize
     if a < b { b - a } else { a - b }
 }
 
-fn weight_at(powers: &[u32; 256], win: Window, y: usize, x: usize) -> f32
-    requires { ⌜ (now powers ≡ table) × ((apart y (win .row) ≤ maxReach) × (apart x (win .col) ≤ maxReach)) ⌝ }
+fn weight_at(pairs: &[u32; 512], win: Window, y: usize, x: usize) -> f32
+    requires { ⌜ (now pairs ≡ pairTable) × ((apart y (win .row) ≤ maxReach) × ((apart x (win .col) ≤ maxReach) × (inDown (exponentAt win (cell y x)) ≡ true))) ⌝ }
     ensures { λ r. ⌜ r ≡ weightAt win (cell y x) ⌝ }
 {
     let i = distance(y, win.row);
     let j = distance(x, win.col);
     let square = (i * i + j * j) as u32;
-    hal::exp_with(powers, (square as f32) * win.falloff)
+    hal::exp_in(pairs, (square as f32) * win.falloff)
 }
 
-// The bin of a direction. From 2^23 = 8388608 on every f32 is whole, so that the sum rounds the turn, ties to even. A turn is at most 36, well below 40: the test fails
-// only for a not-a-number, whose bin is 0.
-fn bin_of(dx: f32, dy: f32) -> usize
+// The bin of a direction. From 2^23 = 8388608 on every f32 is whole, so that the sum rounds the turn, ties to even, and its last bits are the whole number: at most 36,
+// which six of them hold.
+fn bin_of(turns: &[f32; 272], dx: f32, dy: f32) -> usize
+    requires { ⌜ (now turns ≡ turnTable) × (inAngle dx dy ≡ true) ⌝ }
     ensures { λ r. ⌜ (r ≡ binOf (angleOf dx dy)) × (r < bins) ⌝ }
 {
-    let turn = 0.1 * hal::angle(dx, dy);
-    if turn < 40.0 {
-        let b = ((turn + 8388608.0) as u32 - 8388608) as usize;
-        if b >= 36 { b - 36 } else { b }
-    } else {
-        0
+    let turn = 0.1 * hal::angle_in(turns, dx, dy);
+    let b = (f32::to_bits(turn + 8388608.0) % 64) as usize;
+    if b >= 36 { b - 36 } else { b }
+}
+
+// The sample of cell i of a run.
+fn sample_at<'a>(
+    img: &'a [f32],
+    pairs: &'a [u32; 512],
+    cubics: &'a [f64; 256],
+    turns: &'a [f32; 272],
+    run: Run,
+    i: usize,
+) -> Sample
+    requires { ⌜ (now pairs ≡ pairTable) × ((now cubics ≡ cubicTable) × ((now turns ≡ turnTable) × Asked (now img) (run .win) (run .y) (run .from + i))) ⌝ }
+    ensures { λ r. ⌜ (r ≡ sampleIn (now (img .entry)) run i) × (r .bin < bins) ⌝ }
+{
+    let win = run.win;
+    let x = run.from + i;
+    let weight = weight_at(pairs, win, run.y, x);
+    let s = picture::slope_at(img, win.size, run.y, x);
+    let magnitude = hal::magnitude_in(cubics, s.dx, s.dy);
+    Sample {
+        bin: bin_of(turns, s.dx, s.dy),
+        weight: weight,
+        magnitude: magnitude,
+        late: run.late,
     }
 }
+
+// ---- runs of cells
 
 // How many of n samples are early: all but the last n mod 4.
 fn early_of(n: usize) -> usize
@@ -127,21 +163,31 @@ fn early_of(n: usize) -> usize
     n - n % 4
 }
 
-// Of n cells read the one after k others.
-fn sample_at<'a>(img: &'a [f32], powers: &'a [u32; 256], win: Window, n: usize, k: usize) -> Sample
-    requires { ⌜ (now powers ≡ table) × (Fits (length (now img)) win × ((n ≡ win .rows * win .cols) × (k < n))) ⌝ }
-    ensures { λ r. ⌜ (r ≡ sampleOf (now (img .entry)) win n k (cellAt win k)) × (r .bin < bins) ⌝ }
+// Of n cells read the longest run that starts with the one after k others, lies in one row, and is early or late as a whole: where it starts.
+fn run_at(win: Window, n: usize, k: usize) -> Run
+    requires { ⌜ (win .top + win .rows ≤ maxSide) × ((win .left + win .cols ≤ maxSide) × ((n ≡ win .rows * win .cols) × (k < n))) ⌝ }
+    ensures { λ r. ⌜ r ≡ runOf win n k ⌝ }
 {
-    let y = win.top + k / win.cols;
-    let x = win.left + k % win.cols;
-    let s = picture::slope_at(img, win.size, y, x);
     let late = early_of(n) <= k;
-    Sample {
-        bin: bin_of(s.dx, s.dy),
-        weight: weight_at(powers, win, y, x),
-        magnitude: hal::magnitude(s.dx, s.dy),
+    Run {
+        win: win,
+        y: win.top + k / win.cols,
+        from: win.left + k % win.cols,
         late: late,
     }
+}
+
+// How many cells it has: as many as are left of the row, or of the early ones.
+fn cells_at(win: Window, n: usize, k: usize) -> usize
+    requires { ⌜ (n ≡ win .rows * win .cols) × (k < n) ⌝ }
+    ensures { λ m. ⌜ m ≡ runLength win n k ⌝ }
+{
+    let early = early_of(n);
+    let rest = win.cols - k % win.cols;
+    if early <= k {
+        return rest;
+    }
+    if early - k < rest { early - k } else { rest }
 }
 
 // ---- the tally
@@ -178,29 +224,44 @@ fn add_sample(t: &mut Tally, s: Sample)
     add_in(&mut t.bins, s);
 }
 
-// The tally is lent from sample to sample: one for each of the n cells that are read.
-fn gather<'a>(img: &'a [f32], powers: &'a [u32; 256], win: Window, n: usize) -> Tally
-    requires { ⌜ (now powers ≡ table) × (Fits (length (now img)) win × (n ≡ win .rows * win .cols)) ⌝ }
+// The tally is lent from sample to sample, run after run of the n cells that are read.
+fn gather<'a>(
+    img: &'a [f32],
+    pairs: &'a [u32; 512],
+    cubics: &'a [f64; 256],
+    turns: &'a [f32; 272],
+    win: Window,
+    n: usize,
+) -> Tally
+    requires { ⌜ (now pairs ≡ pairTable) × ((now cubics ≡ cubicTable) × ((now turns ≡ turnTable) × (InRange (now img) win × (n ≡ win .rows * win .cols)))) ⌝ }
     ensures { λ r. ⌜ r ≡ tallyOf (now (img .entry)) win ⌝ }
 {
     let mut t = fresh();
     let mut k = 0;
     while k < n {
-        let s = sample_at(img, powers, win, n, k);
-        add_sample(&mut t, s);
-        k += 1;
+        let run = run_at(win, n, k);
+        let m = cells_at(win, n, k);
+        let mut i = 0;
+        while i < m {
+            let s = sample_at(img, pairs, cubics, turns, run, i);
+            add_sample(&mut t, s);
+            i += 1;
+        }
+        k += m;
     }
     t
 }
 
 // The tally of a window, and the number of cells read.
 pub fn tally_of(img: &[f32], win: Window) -> Gathered
-    requires { ⌜ Fits (length (now img)) win ⌝ }
+    requires { ⌜ InRange (now img) win ⌝ }
     ensures { λ r. ⌜ r ≡ gatheredOf (now (img .entry)) win ⌝ }
 {
-    let powers = hal::table();
+    let pairs = hal::pair_table();
+    let cubics = hal::cubic_table();
+    let turns = hal::turn_table();
     let n = win.rows * win.cols;
-    let t = gather(img, &powers, win, n);
+    let t = gather(img, &pairs, &cubics, &turns, win, n);
     Gathered { tally: t, read: n }
 }
 
@@ -221,8 +282,8 @@ fn row_good(img: &[f32], win: Window, i: usize) -> bool
     ok
 }
 
-// Whether the four neighbours of each cell are in range.
-pub fn window_good(img: &[f32], win: Window) -> bool
+// Row by row.
+fn cells_good(img: &[f32], win: Window) -> bool
     requires { ⌜ Fits (length (now img)) win ⌝ }
     ensures { λ r. ⌜ r ≡ windowGood (now (img .entry)) win ⌝ }
 {
@@ -234,4 +295,40 @@ pub fn window_good(img: &[f32], win: Window) -> bool
         i += 1;
     }
     true
+}
+
+// Row y of the picture, from the column before the window to the one after it.
+fn strip_good(img: &[f32], win: Window, y: usize) -> bool
+    requires { ⌜ Fits (length (now img)) win × ((0 < win .cols) × (y < win .size .height)) ⌝ }
+    ensures { λ r. ⌜ r ≡ stripGood (now (img .entry)) win y ⌝ }
+{
+    let at = y * win.size.width + win.left;
+    picture::block_good(img, at - 1, at + win.cols + 1)
+}
+
+// The same of each row of the window, of the row above and of the one below.
+fn strips_good(img: &[f32], win: Window) -> bool
+    requires { ⌜ Fits (length (now img)) win × ((0 < win .rows) × (0 < win .cols)) ⌝ }
+    ensures { λ r. ⌜ r ≡ stripsGood (now (img .entry)) win ⌝ }
+{
+    let mut ok = true;
+    let mut i: usize = 0;
+    while i < win.rows + 2 {
+        ok = ok & strip_good(img, win, win.top - 1 + i);
+        i += 1;
+    }
+    ok
+}
+
+// Whether the four neighbours of each cell are in range. Whole strips hold them all, and the strips' corners beside: where these are good nothing else is asked.
+pub fn window_good(img: &[f32], win: Window) -> bool
+    requires { ⌜ Fits (length (now img)) win ⌝ }
+    ensures { λ r. ⌜ r ≡ windowGood (now (img .entry)) win ⌝ }
+{
+    if (win.rows > 0) & (win.cols > 0) {
+        if strips_good(img, win) {
+            return true;
+        }
+    }
+    cells_good(img, win)
 }

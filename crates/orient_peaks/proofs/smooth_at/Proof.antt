@@ -4,7 +4,7 @@ use Rattle.orient_peaks.proofs.smooth_at.Statement.{statement}
 use Rattle.orient_peaks.proofs.smooth_at.Tie as tie
 use Rattle.orient_peaks.proofs.smooth_at.Reads as reads
 use Rattle.orient_peaks.proofs.smooth_at.Lts as lts
-use Rattle.ieee.proofs.mul_add.Reads as mul-add-reads
+use Rattle.ieee.proofs.add_part.Reads as add-part-reads
 use Rattle.orient_peaks.proofs.bin_around.Reads as bin-around-reads
 
 add-bin-around : tie.Need-add-bin-around
@@ -40,11 +40,11 @@ bin-around-requires-4 c κs = search needs
 bin-around-requires-5 : tie.Need-bin-around-requires-5
 bin-around-requires-5 c κs = search needs
 
-mul-add-requires : tie.Need-mul-add-requires
-mul-add-requires c κs = search needs
+add-part-requires : tie.Need-add-part-requires
+add-part-requires c κs = search needs
 
-mul-add-requires-2 : tie.Need-mul-add-requires-2
-mul-add-requires-2 c κs = search needs
+add-part-requires-2 : tie.Need-add-part-requires-2
+add-part-requires-2 c κs = search needs
 
 returns : tie.Need-returns
 unfolding smoothAt
@@ -65,6 +65,6 @@ smooth-at-spec =
     add-bin-around-4
     bin-around-requires-4
     bin-around-requires-5
-    mul-add-requires
-    mul-add-requires-2
+    add-part-requires
+    add-part-requires-2
     returns)

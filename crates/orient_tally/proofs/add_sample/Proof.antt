@@ -26,12 +26,11 @@ use types.Mut.{open-ref, close-ref}
 use sound.WpLaws.{FmC, fmOf, WpFn-mono}
 use denote.RattleType.{RattleType, owns}
 use denote.Memory.{mem, partAt}
-use denote.Laws.{Is, shows}
-use denote.Builtin.{f32, unit}
-use denote.Array.{Array}
+use denote.Laws.{Is}
+use denote.Builtin.{unit}
 use denote.Ref.{RefT, MutRef, ptr-vals, mut-tells}
 use denote.Lend.{lends-ref, ref-back}
-use denote.Steps.{only, owned, peeks, heard, nothing}
+use denote.Steps.{only, owned, heard, nothing}
 use denote.Struct.Laws as LL
 use denote.Triple.Entry.{onEntry}
 use denote.Triple.Spec.{Meets, tripleOf}

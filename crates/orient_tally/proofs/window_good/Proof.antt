@@ -1,65 +1,29 @@
-use Prim.Native.Nat.{_+_, _-_, _≤_}
-use mathlib.Core.Path.{_≡_, sym, _∙_}
-use mathlib.Core.Bool.{true}
-use native.Mathlib.Omega.{arith}
+use mathlib.Core.Path.{sym, _∙_}
+use lib.Dec.{ltb, ltb→lt}
+use Rattle.lists.proofs.Bools.{and-both, is-T}
+use Rattle.orient_tally.proofs.Runs.{strips-window}
 use borrow.Author.Needs.{needs}
-use borrow.Author.Tests.{not-true, not-false}
-use Rattle.lists.specs.Ranges.{every}
-use Rattle.orient_tally.specs.Sample.{rowGood, windowGood}
-use Rattle.lists.proofs.Every.{every-none, every-more, every-to, every-stop}
 use Rattle.orient_tally.proofs.window_good.Statement.{statement}
 use Rattle.orient_tally.proofs.window_good.Tie as tie
 use Rattle.orient_tally.proofs.window_good.Reads as reads
 use Rattle.orient_tally.proofs.window_good.Lts as lts
-use Rattle.orient_tally.proofs.row_good.Reads as row-good-reads
+use Rattle.orient_tally.proofs.cells_good.Reads as cells-good-reads
+use Rattle.orient_tally.proofs.strips_good.Reads as strips-good-reads
 
-abbrev Inv-loop : tie.InvT-loop
-Inv-loop img win i₀ i = (i ≤ win .rows) × (true ≡ every i (λ k. rowGood img win (win .top + k)))
+strips-good-requires : tie.Need-strips-good-requires
+strips-good-requires c κs =
+    let w = c .before .before .before .before .args .win in
+    let p = and-both (ltb 0 (w .rows)) (ltb 0 (w .cols)) (c .if1 .taken) in
+    (c .before .before .before .before .pre, (ltb→lt 0 (w .rows) (is-T _ (p .0)), ltb→lt 0 (w .cols) (is-T _ (p .1))))
 
-abbrev μ-loop : tie.MeasureT-loop
-μ-loop img win i₀ i = win .rows - i
+returns : tie.Need-returns
+returns c = sym (strips-window _ _ (c .before .before .before .before .before .before .pre) (sym (c .before .strips-good .ensures) ∙ c .if2 .taken))
 
-loop-holds : tie.Need-loop-holds Inv-loop μ-loop
-loop-holds c = (search needs, sym (every-none _))
+cells-good-requires : tie.Need-cells-good-requires
+cells-good-requires c κs = search needs
 
-row-good-requires : tie.Need-row-good-requires Inv-loop μ-loop
-row-good-requires c κs = (c .before .before .before .before .pre, c .if1 .taken)
-
-returns : tie.Need-returns Inv-loop μ-loop
-unfolding windowGood
-returns c =
-    let r = c .before .row-good in
-    sym (every-stop _ (c .before .before .before .before .loop .i) _ (c .before .before .if1 .taken) (sym (r .ensures) ∙ not-true (r .result) (c .if2 .taken)))
-
-add-i : tie.Need-add-i Inv-loop μ-loop
-add-i c = omega arith
-
-loop-less : tie.Need-loop-less Inv-loop μ-loop
-loop-less c = omega arith
-
-loop-again : tie.Need-loop-again Inv-loop μ-loop
-loop-again c =
-    let l = c .before .before .before .before .loop in
-    let r = c .before .row-good in
-    (omega arith, sym (every-more (l .i) _ (sym (l .inv .1)) (sym (r .ensures) ∙ not-false (r .result) (c .if2 .left))))
-
-returns-2 : tie.Need-returns-2 Inv-loop μ-loop
-unfolding windowGood
-returns-2 c =
-    let l = c .before .before .loop in
-    let z : l .i ≡ c .before .before .before .before .args .win .rows = omega arith in
-    l .inv .1 ∙ every-to _ z
+returns-2 : tie.Need-returns-2
+returns-2 c = search needs
 
 pub window-good-spec : {M : Type 1} → statement M
-window-good-spec =
-    tie.close
-    (tie.spec
-    Inv-loop
-    μ-loop
-    loop-holds
-    row-good-requires
-    returns
-    add-i
-    loop-less
-    loop-again
-    returns-2)
+window-good-spec = tie.close (tie.spec strips-good-requires returns cells-good-requires returns-2)

@@ -14,7 +14,7 @@ use lib.Ieee.Fits.{down-pos, add-fits, and-l, and-r}
 use lib.Ieee.Back.{float-back-unsigned}
 use lib.Ieee.Nearest.{div-mono}
 use lib.Ieee.Scale.{finite}
-use Rattle.ieee.specs.F32.{_⊕_, _⊖_, f32, toI32, float, floatZ}
+use Rattle.ieee.specs.F32.{_⊕_, _⊖_, f32, toI32, float, floatZ, bitsOf}
 use Rattle.ieee.specs.Numbers.{nought, one}
 use Rattle.ieee_laws.proofs.Order.{le-fin, lt-le, le-number, lt-not-le, le-or-lt-float}
 use Rattle.ieee_laws.proofs.Monotone.{add-le, toUnsigned-le}
@@ -274,6 +274,10 @@ split-at v k f =
     let t = f .top in
     let s = step k (omega arith) in
     record { bits = rw (f .is, s .sum) (s .bits); past = rw (f .is) }
+
+pub split-parted : (v x : Float) → Parted v x → _≡_ {A = Split} (record { bits = bitsOf ((v ⊕ base) ⊖ x); past = v ⊖ (((v ⊕ base) ⊖ base) ⊖ x) }) (splitOf v)
+unfolding splitOf
+split-parted v x p = rw (p .whole, p .floor)
 
 pub split-number : (v : Float) → Near v → T (not (isNan (floatZ (floorI v) ⊕ base)))
 split-number v n =

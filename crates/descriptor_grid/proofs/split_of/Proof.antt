@@ -1,6 +1,5 @@
 use mathlib.Core.Logic.{⊎-elim}
-use Rattle.descriptor_grid.specs.Reach.{splitOf}
-use Rattle.descriptor_grid.proofs.Floors.{Parted, parted-up, parted-down, split-number}
+use Rattle.descriptor_grid.proofs.Floors.{Parted, parted-up, parted-down, split-parted, split-number}
 use Rattle.descriptor_grid.proofs.split_of.Statement.{statement}
 use Rattle.descriptor_grid.proofs.split_of.Tie as tie
 use Rattle.descriptor_grid.proofs.split_of.Reads as reads
@@ -16,8 +15,7 @@ float-to-bits-t8 : tie.Need-float-to-bits-t8
 float-to-bits-t8 c = rw (parted-of c .whole) (split-number (c .before .args .v) (c .before .pre))
 
 returns : tie.Need-returns
-unfolding splitOf
-returns c = let p = parted-of c in rw (p .whole, p .floor)
+returns c = split-parted (c .before .args .v) (c .if1 .one) (parted-of c)
 
 pub split-of-spec : {M : Type 1} → statement M
 split-of-spec = tie.close (tie.spec float-to-bits-t8 returns)

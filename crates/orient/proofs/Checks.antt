@@ -24,8 +24,9 @@ use Rattle.orient_peaks.specs.Peaks.{anglesOf}
 use Rattle.orient_peaks.specs.Found.{heldOf, Holds}
 use Rattle.orient_peaks.proofs.Rules.{peak-rule}
 use Rattle.orient_peaks.specs.declared.Angles.{Angles}
-use Rattle.orient_tally.specs.Place.{Fits}
+use Rattle.orient_tally.specs.Place.{Fits, InRange}
 use Rattle.orient_tally.proofs.Spans.{window-fits}
+use Rattle.orient_tally.proofs.Rules.{tally-rule}
 use Rattle.orient.specs.Keypoint.{octaveIn, cellWrong, octaveWrong, floatsWrong, scaleOf, scaleWrong, keypointWrong}
 use Rattle.orient.specs.Entry.{windowAt, anglesAt, orientFault}
 use Rattle.orient.specs.Given.{directionsOf}
@@ -76,8 +77,11 @@ module _ (s : Size) (k : RawKeypoint) where
   unfolding windowAt
   aimed-fits len e a = window-fits len s (k .rr) (k .cc) (scaleOf k) e (a .high) (a .wide) (a .row) (a .column) (a .scale)
 
-  pub ready-fits : (len : ℕ) → Ready len s k → Fits len (windowAt s k)
-  ready-fits len r = aimed-fits len (r .whole) (r .aimed)
+  pub ready-range : (img : List Float) → Ready img s k → InRange img (windowAt s k)
+  unfolding windowAt
+  ready-range img r =
+      let a = r .aimed in
+      record { fits = aimed-fits (length img) (r .whole) a; good = r .good; down = λ i j p q. tally-rule .exponents s (k .rr) (k .cc) (scaleOf k) i j (a .row) (a .column) (a .scale) p q }
 
   module _ (img : List Float) where
     -- the angles of the tally that was gathered
@@ -122,5 +126,5 @@ module _ (s : Size) (k : RawKeypoint) where
           unfolding orientFault firstFault lengthWrong
           fault-none e = rw (shape, eq-eqb (length img) (s .height * s .width) whole, right, e)
 
-          pub ready : Ready (length img) s k
-          ready = record { whole = whole; aimed = aimed shape right }
+          pub ready : windowGood img (windowAt s k) ≡ true → Ready img s k
+          ready e = record { whole = whole; aimed = aimed shape right; good = e }

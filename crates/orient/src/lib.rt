@@ -99,7 +99,7 @@ fn window_at(s: Size, k: RawKeypoint) -> Window
 // The first fault in the order of the table, 0 for none; room is tested later.
 fn fault_of(img: &[f32], s: Size, k: RawKeypoint) -> u32
     ensures { λ b. ⌜ b ≡ orientFault (now (img .entry)) s k ⌝ }
-    ensures { λ b. ⌜ (b ≡ 0 → Ready (length (now (img .entry))) s k) ⌝ }
+    ensures { λ b. ⌜ (b ≡ 0 → Ready (now (img .entry)) s k) ⌝ }
 {
     if params::shape_wrong(s.width, s.height) {
         return 1;
@@ -168,7 +168,7 @@ pub struct Directions {
 }
 
 fn angles_about(img: &[f32], s: Size, k: RawKeypoint) -> Directions
-    requires { ⌜ Ready (length (now img)) s k ⌝ }
+    requires { ⌜ Ready (now img) s k ⌝ }
     ensures { λ d. ⌜ d ≡ directionsOf (now (img .entry)) s k ⌝ }
 {
     let g = orient_tally::tally_of(img, window_at(s, k));

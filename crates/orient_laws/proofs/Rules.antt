@@ -36,14 +36,14 @@ use Rattle.orient_tally.specs.Sample.{bins, weightAt, windowGood}
 use Rattle.orient_tally.specs.Tally.{sampleOf, tallyOf}
 use Rattle.orient_tally.specs.Place.{Fits, cellAt}
 use Rattle.orient_tally.specs.declared.Window.{Window}
-use Rattle.orient_tally.proofs.Cells.{placed, placed-at}
+use Rattle.orient_tally.proofs.Cells.{placed, at-cell}
 use Rattle.orient_tally.proofs.Cells as cells
 use Rattle.orient_tally.proofs.Rules.{tally-rule}
 use Rattle.orient_peaks.specs.Peaks.{around, isPeak, leastOf, peakAngle, peakOf, anglesIn, anglesOf, smoothed, wrapped, crestOf}
 use Rattle.orient.specs.Keypoint.{keypointWrong, scaleOf}
 use Rattle.orient.specs.Accepted.{Aimed}
 use Rattle.orient.specs.Entry.{windowAt, orientFault, anglesAt, orientedOf, orientedList}
-use Rattle.orient.proofs.Checks.{aimed, ready-fits}
+use Rattle.orient.proofs.Checks.{aimed, aimed-fits}
 use Rattle.orient.proofs.Words.{length-map}
 use Rattle.orient.specs.declared.OrientedKeypoint.{OrientedKeypoint}
 use Rattle.orient_laws.specs.Rules.{Turn, Still, AnglesRule}
@@ -162,8 +162,8 @@ module _ (img : List Float) (s : Size) (k : RawKeypoint) (fine : orientFault img
   win = windowAt s k
 
   -- what is asked of each cell's sample
-  place : (i : ℕ) → i < win .rows * win .cols → cells.At (length img) win i
-  place i l = placed-at (ready-fits s k (length img) (record { whole = same-length; aimed = aim })) refl l
+  place : (i : ℕ) → i < win .rows * win .cols → cells.At win i
+  place i l = at-cell win (win .rows * win .cols) i refl l
 
   weight-in : (i : ℕ) → i < win .rows * win .cols → Bounds nil one (weightAt win (cellAt win i))
   unfolding windowAt weightAt ofBits
@@ -213,7 +213,7 @@ module _ (img : List Float) (s : Size) (k : RawKeypoint) (fine : orientFault img
   -- ---- a level picture
   module _ (v : Float) (same : (i : ℕ) → i < length img → eq (getD img i nan) v ≡ true) where
     fits : Fits (length img) win
-    fits = ready-fits s k (length img) (record { whole = same-length; aimed = aim })
+    fits = aimed-fits s k (length img) same-length aim
 
     at : (y x : ℕ) → y < win .size .height → x < win .size .width → eq (pixel img (win .size .width) y x) v ≡ true
     unfolding pixel

@@ -77,8 +77,7 @@ pub placed : {len : ℕ} {win : Window} → Fits len win → (i j : ℕ) → i <
 placed {len} {win} f i j a b =
     record {
       around = record { whole = f .whole; up = omega arith; down = omega arith; left = omega arith; right = omega arith };
-      rows = omega arith;
-      cols = omega arith;
+      near = record { high = omega arith; wide = omega arith; rows = omega arith; cols = omega arith };
     }
 
 -- the row and the column of the cell after k others

@@ -34,11 +34,17 @@ pub record Fits (len : ℕ) (win : Window) : Type 0 where
   pub before : win .col ≤ win .left + maxReach
   pub after : win .left + win .cols ≤ suc (win .col + maxReach)
 
--- (y, x) and its four neighbours lie in the picture, and it is near the window's middle
-pub record Placed (len : ℕ) (win : Window) (y x : ℕ) : Type 0 where
-  pub around : Around len (win .size) y x
+-- (y, x) is near the window's middle
+pub record Near (win : Window) (y x : ℕ) : Type 0 where
+  pub high : y ≤ maxSide
+  pub wide : x ≤ maxSide
   pub rows : apart y (win .row) ≤ maxReach
   pub cols : apart x (win .col) ≤ maxReach
+
+-- and it lies in the picture with its four neighbours
+pub record Placed (len : ℕ) (win : Window) (y x : ℕ) : Type 0 where
+  pub around : Around len (win .size) y x
+  pub near : Near win y x
 
 -- where the cell lies that is read after k others
 abbrev pub cellAt : Window → ℕ → Cell

@@ -5,6 +5,7 @@ ghost use mathlib.Core.Path.{_≡_};
 ghost use mathlib.Core.Bool.{true};
 ghost use Prim.Native.Nat.{_+_, _-_, _*_, _<_, _≤_};
 ghost use lib.ListN.{length};
+ghost use lib.IntN.{pos};
 ghost use Rattle.params.specs.Limits.{maxSide, scaleLow, scaleHigh};
 ghost use Rattle.params.specs.Table.{within};
 ghost use Rattle.hal.specs.Powers.{pairs as pairTable};
@@ -15,7 +16,7 @@ ghost use Rattle.hal.specs.Angle.{angleOf, inAngle};
 ghost use Rattle.orient_tally.specs.Window.{radiusOf, falloffOf, windowOf, cell};
 ghost use Rattle.orient_tally.specs.Sample.{bins, apart, weightAt, binOf, rowGood, windowGood};
 ghost use Rattle.orient_tally.specs.Tally.{early, shareOf, added, tallied, empty, tallyOf, gatheredOf};
-ghost use Rattle.orient_tally.specs.Place.{maxReach, Fits, exponentAt, Asked, InRange};
+ghost use Rattle.orient_tally.specs.Place.{maxReach, Fits, Near, exponentAt, Asked, InRange};
 ghost use Rattle.orient_tally.specs.Runs.{runOf, runLength, sampleIn, stripGood, stripsGood};
 
 // The tally: a sum of weighted magnitudes for each 10 degrees of direction.
@@ -102,20 +103,21 @@ pub fn window_of(s: Size, row: usize, col: usize, scale: f32) -> Window
 
 // ---- a sample
 
-fn distance(a: usize, b: usize) -> usize
-    ensures { λ r. ⌜ r ≡ apart a b ⌝ }
+// The square of how far apart two places are.
+fn square(a: usize, b: usize) -> i32
+    requires { ⌜ (a ≤ maxSide) × (apart a b ≤ maxReach) ⌝ }
+    ensures { λ r. ⌜ r ≡ pos (apart a b * apart a b) ⌝ }
 {
-    if a < b { b - a } else { a - b }
+    let d = a as i32 - b as i32;
+    d * d
 }
 
 fn weight_at(pairs: &[u32; 512], win: Window, y: usize, x: usize) -> f32
-    requires { ⌜ (now pairs ≡ pairTable) × ((apart y (win .row) ≤ maxReach) × ((apart x (win .col) ≤ maxReach) × (inDown (exponentAt win (cell y x)) ≡ true))) ⌝ }
+    requires { ⌜ (now pairs ≡ pairTable) × (Near win y x × (inDown (exponentAt win (cell y x)) ≡ true)) ⌝ }
     ensures { λ r. ⌜ r ≡ weightAt win (cell y x) ⌝ }
 {
-    let i = distance(y, win.row);
-    let j = distance(x, win.col);
-    let square = (i * i + j * j) as u32;
-    hal::exp_in(pairs, (square as f32) * win.falloff)
+    let sum = square(y, win.row) + square(x, win.col);
+    hal::exp_in(pairs, (sum as f32) * win.falloff)
 }
 
 // The bin of a direction. From 2^23 = 8388608 on every f32 is whole, so that the sum rounds the turn, ties to even, and its last bits are the whole number: at most 36,

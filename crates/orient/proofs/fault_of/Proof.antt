@@ -1,5 +1,8 @@
-use mathlib.Core.Path.{sym, _∙_}
+use mathlib.Core.Path.{_≡_, sym, _∙_}
+use mathlib.Core.Bool.{true}
 use native.Mathlib.Omega.{arith}
+use Rattle.orient_tally.specs.Sample.{windowGood}
+use Rattle.orient.specs.Entry.{windowAt}
 use Rattle.orient.proofs.Checks.{fault-shape, fault-length, fault-keypoint, fault-sample, fault-none, size-small, aimed, aimed-fits, ready}
 use borrow.Author.Needs.{needs}
 use Rattle.orient.proofs.fault_of.Statement.{statement}
@@ -40,7 +43,9 @@ returns-4 c =
     let s = sym (c .before .before .before .before .before .before .before .before .shape-wrong .ensures) ∙ c .before .before .before .before .before .before .before .if1 .left in
     let w = c .before .before .before .before .before .if2 .left in
     let r = sym (c .before .before .before .before .keypoint-wrong .ensures) ∙ c .before .before .before .if3 .left in
-    (fault-none _ _ _ s w r (rw (← c .before .before .window-at .ensures) (sym (c .before .window-good .ensures) ∙ c .if4 .taken)), λ z. ready _ _ (c .before .before .before .before .before .before .before .before .before .before .args .img .now) s w r)
+    let a = c .before .before .before .before .before .before .before .before .before .before .args in
+    let g : windowGood (a .img .now) (windowAt (a .s) (a .k)) ≡ true = rw (← c .before .before .window-at .ensures) (sym (c .before .window-good .ensures) ∙ c .if4 .taken) in
+    (fault-none _ _ _ s w r g, λ z. ready _ _ _ s w r g)
 
 returns-5 : tie.Need-returns-5
 returns-5 c =

@@ -11,7 +11,7 @@ use lib.IntN.{ℤ, pos, negsuc}
 use lib.Ieee.{Float, nan, inf, fin, binary32, mul, add, le, eq, fits, ofBits}
 use lib.Ieee.Digits.{back}
 use lib.Ieee.Exact.{HasValue}
-use lib.Ieee.Positive.{positive, above, above-of-le, values-of-le}
+use lib.Ieee.Positive.{positive, above, above-of-le, values-of-le, le-trans-positive}
 use lib.Ieee.Scale.{finite}
 use Rattle.lists.proofs.Naturals.{le-or-lt}
 use Rattle.ieee.specs.Fused.{fma}
@@ -24,7 +24,18 @@ either : (p q : Bool) → (p || q) ≡ true → (p ≡ true) ⊎ (q ≡ true)
 either true q h = inl refl
 either false q h = inr h
 
--- ---- from 2 ^ -100 on the exponent is 26 at least
+-- ---- from 2 ^ -122 on, of which a sixteenth is the least normal number, the exponent is 4 at least
+unfoldable pub least : Float
+least = fin false 1 (negsuc 121)
+
+least-value : HasValue least false 1 (2 ^ 122)
+unfolding least
+least-value = (refl, refl)
+
+least-positive : T (positive least)
+unfolding least
+least-positive = tt
+
 above-positive : (a : Float) → finite a ≡ true → T (above a) → T (positive a)
 above-positive nan f h = absurd h
 above-positive (inf s) f h = absurd (false≢true f)
@@ -37,20 +48,12 @@ plain (inf t) s n d p v = absurd p
 plain (fin true m e) s n d p v = absurd p
 plain (fin false m e) s n d p v = (refl, v .1)
 
-least : HasValue (ofBits binary32 226492416) false 1 (2 ^ 100)
-unfolding ofBits
-least = (refl, refl)
-
-least-positive : T (positive (ofBits binary32 226492416))
-unfolding ofBits
-least-positive = tt
-
-from-least : (m x : ℕ) → m < 2 ^ 24 → 2 ^ 149 ≤ m * 2 ^ x * 2 ^ 100 → 26 ≤ x
-from-least m x h l = elim (le-or-lt 26 x) [
+from-least : (m x : ℕ) → m < 2 ^ 24 → 2 ^ 149 ≤ m * 2 ^ x * 2 ^ 122 → 4 ≤ x
+from-least m x h l = elim (le-or-lt 4 x) [
   | inl g ↦ g
   | inr g ↦
-      (let b : 2 ^ 49 ≤ m * 2 ^ x = le-of-mul-le-mul-right (le-trans (le-of-eq (sym (pow-add 2 49 100))) l) (pow-pos 100) in
-      absurd (not-le-of-lt (lt-of-lt-of-le (mul-lt-mul-of-pos-right h (pow-pos x)) (mul-le-mul-left (2 ^ 24) (pow-mono {i = x} {j = 25} (omega arith)))) b))
+      (let b : 2 ^ 27 ≤ m * 2 ^ x = le-of-mul-le-mul-right (le-trans (le-of-eq (sym (pow-add 2 27 122))) l) (pow-pos 122) in
+      absurd (not-le-of-lt (lt-of-lt-of-le (mul-lt-mul-of-pos-right h (pow-pos x)) (mul-le-mul-left (2 ^ 24) (pow-mono {i = x} {j = 3} (omega arith)))) b))
 ]
 
 none-left : (m x : ℕ) → 0 ≡ m * 2 ^ x * 1 → m ≡ 0
@@ -60,14 +63,20 @@ none-left (suc m) x h = absurd (none (suc m * 2 ^ x) (mul-pos (zero-lt-suc m) (p
     none : (a : ℕ) → 0 < a → a ≡ 0 → ⊥
     none a p e = omega arith
 
-module _ (a w c : Float) (held : T (fits binary32 a)) (k : ℕ) (K : k ≤ 26) (W : HasValue w false 1 (2 ^ k)) (test : (le (ofBits binary32 226492416) a || eq a (ofBits binary32 0)) ≡ true) where
+-- ---- a is a zero, or from some bound on that is 2 ^ -122 at least
+pub record Bound (b : Float) : Type 0 where
+  pub number : T (positive b)
+  pub enough : T (le least b)
+
+module _ (a w c b : Float) (held : T (fits binary32 a)) (B : Bound b) (k : ℕ) (K : k ≤ 4) (W : HasValue w false 1 (2 ^ k)) (test : (le b a || eq a (ofBits binary32 0)) ≡ true) where
   module _ (A : Split a) (f : finite a ≡ true) where
     room : (k ≤ A .x) ⊎ (A .m ≡ 0)
-    room = elim (either (le (ofBits binary32 226492416) a) (eq a (ofBits binary32 0)) test) [
+    room = elim (either (le b a) (eq a (ofBits binary32 0)) test) [
       | inl h ↦
-          (let l : T (le (ofBits binary32 226492416) a) = subst T (sym h) tt in
-          let p = above-positive a f (above-of-le (ofBits binary32 226492416) a least-positive l) in
-          inl (le-trans K (from-least (A .m) (A .x) (A .parts .digits) (values-of-le (ofBits binary32 226492416) a 1 (2 ^ 100) (A .m * 2 ^ A .x) (2 ^ 149) least-positive p least (plain a (A .s) (A .m * 2 ^ A .x) (2 ^ 149) p (A .parts .value)) l))))
+          (let l : T (le b a) = subst T (sym h) tt in
+          let p = above-positive a f (above-of-le b a (B .number) l) in
+          let v = plain a (A .s) (A .m * 2 ^ A .x) (2 ^ 149) p (A .parts .value) in
+          inl (le-trans K (from-least (A .m) (A .x) (A .parts .digits) (values-of-le least a 1 (2 ^ 122) (A .m * 2 ^ A .x) (2 ^ 149) least-positive p least-value v (le-trans-positive least b a least-positive (B .number) p (B .enough) l)))))
       | inr h ↦ (let z = zero-of a held h in inr (none-left (A .m) (A .x) (subst (λ (v : Float). HasValue v (A .s) (A .m * 2 ^ A .x) (2 ^ 149)) (z .1) (A .parts .value) .1)))
     ]
 
@@ -102,9 +111,8 @@ sixteenth : (w : Float) → eq w (ofBits binary32 1031798784) ≡ true → HasVa
 unfolding ofBits
 sixteenth w e = power-of w 3 e
 
-pub part-once : (a w c : Float) → T (fits binary32 a) → (eq w (ofBits binary32 1048576000) || eq w (ofBits binary32 1031798784)) ≡ true → (le (ofBits binary32 226492416) a || eq a (ofBits binary32 0)) ≡ true
-    → add binary32 (mul binary32 a w) c ≡ fma binary32 a w c
-part-once a w c held h test = elim (either (eq w (ofBits binary32 1048576000)) (eq w (ofBits binary32 1031798784)) h) [
-  | inl e ↦ part a w c held 2 (lit≤ tt) (quarter w e) test (finite a) refl
-  | inr e ↦ part a w c held 4 (lit≤ tt) (sixteenth w e) test (finite a) refl
+pub part-once : (a w c b : Float) → T (fits binary32 a) → Bound b → (eq w (ofBits binary32 1048576000) || eq w (ofBits binary32 1031798784)) ≡ true → (le b a || eq a (ofBits binary32 0)) ≡ true → add binary32 (mul binary32 a w) c ≡ fma binary32 a w c
+part-once a w c b held B h test = elim (either (eq w (ofBits binary32 1048576000)) (eq w (ofBits binary32 1031798784)) h) [
+  | inl e ↦ part a w c b held B 2 (lit≤ tt) (quarter w e) test (finite a) refl
+  | inr e ↦ part a w c b held B 4 (lit≤ tt) (sixteenth w e) test (finite a) refl
 ]

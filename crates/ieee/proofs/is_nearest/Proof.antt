@@ -12,13 +12,6 @@ use Rattle.ieee.proofs.is_nearest.Tie as tie
 square-lt : (k : ℕ) → k < 2 ^ 25 → k * k < 2 ^ 50
 square-lt k h = let l : k ≤ 2 ^ 25 - 1 = omega arith in lt-of-le-of-lt (mul-le-mul l l) (lit< tt)
 
--- d is a + k - 1 - k * k, wrapped
-between : (a k d : ℕ) → 0 < a → a < 2 ^ 48 → k < 2 ^ 25 → (d + k * k) % 2 ^ 64 ≡ a + k - 1 → d < 2 * k → (k * k < a + k) × (a ≤ k * k + k)
-between a k d p l h e g =
-    let s = square-lt k h in
-    let w : (d + k * k) % 2 ^ 64 ≡ d + k * k = mod-eq-of-lt (omega arith) in
-    (omega arith, omega arith)
-
 add-wrapping-sub-u64 : tie.Need-add-wrapping-sub-u64
 add-wrapping-sub-u64 c = search needs
 
@@ -35,7 +28,11 @@ mul-result : tie.Need-mul-result
 mul-result c = search needs
 
 returns : tie.Need-returns
-returns c = let s = c .before in λ h. between (s .args .a) (s .args .k) (c .wrapping-sub-u64 .result) (s .pre .0) (s .pre .1) (s .pre .2) (c .wrapping-sub-u64 .ensures) (ltb-true (c .wrapping-sub-u64 .result) (2 * s .args .k) h)
+returns c =
+    let k = c .before .args .k in
+    let d = c .wrapping-sub-u64 in
+    let s = square-lt k (c .before .pre .2) in
+    λ h. let l = ltb-true (d .result) (2 * k) h in (omega (arith, d .ensures), omega (arith, d .ensures))
 
 pub is-nearest-spec : {M : Type 1} → statement M
 is-nearest-spec =

@@ -2,6 +2,7 @@
 use mathlib.Core.Path.{_≡_, sym, ap, _∙_, subst}
 use Prim.Native.Nat.{ℕ, _+_, _-_, _*_, _/_, _%_, _^_, _≤_, _<_}
 use native.Mathlib.Nat.{lt-of-le-of-lt, mod-lt}
+use native.Mathlib.Omega.{arith}
 use lib.Dec.{lit<}
 use lib.Pow.{pow-pos}
 use lib.Ieee.{Float, binary32, binary64, mul, toBits}
@@ -21,7 +22,7 @@ returns c =
     let n = t .before .raised-sum in
     let k = toBits binary64 (d .before .before .cubic-at .result) % 2 ^ 25 in
     let w = subst (λ (m : ℕ). (k * k < m + k) × (m ≤ k * k + k)) (a .ensures) (d .is-nearest .ensures (c .before .if2 .taken)) in
-    guessed _ (n .result) k (n .ensures) (t .if1 .taken) (c .if3 .taken) (w .0) (w .1)
+    guessed _ (n .result) k (n .ensures) (t .if1 .taken) (λ z. omega (arith, z, c .if3 .taken)) (w .0) (w .1)
 
 raised-sum-requires : tie.Need-raised-sum-requires
 raised-sum-requires c κs = search needs

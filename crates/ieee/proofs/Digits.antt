@@ -1,14 +1,14 @@
 -- The digits of a raised pattern, as a number and times 2 ^ 46; and the root by the digits. Assumes nothing.
 use mathlib.Core.Path.{_≡_, refl, sym, ap, ap₂, _∙_, subst}
-use Prim.Native.Nat.{ℕ, zero, suc, _+_, _-_, _*_, _/_, _%_, _^_, _≤_, _<_}
-use native.Mathlib.Nat.{le-trans, le-of-eq, le-of-lt, lt-of-lt-of-le, lt-of-le-of-lt, mul-one, mul-comm, mul-assoc, mul-left-comm, mul-pos, zero-lt-suc, mul-le-mul, mul-le-mul-left, mul-lt-mul-of-pos-right, add-mul, mod-eq-of-lt, mod-lt}
+use Prim.Native.Nat.{ℕ, suc, _+_, _-_, _*_, _/_, _%_, _^_, _≤_, _<_}
+use native.Mathlib.Nat.{le-trans, le-of-lt, lt-of-lt-of-le, mul-one, mul-assoc, mul-pos, zero-lt-suc, mul-le-mul, mul-le-mul-left, mul-lt-mul-of-pos-right, mod-eq-of-lt}
 use native.Mathlib.Omega.{arith}
 use mathlib.Core.Bool.{Bool, true, false}
-use lib.Dec.{T, leb, eqb, eqb→eq, not-T, le→leb, lit<, lit≤}
+use lib.Dec.{T, leb, eqb, eqb→eq, not-T, lit<, lit≤}
 use lib.Arith.{lt→nleb}
 use lib.Pow.{pow-add, pow-pos, pow-mono}
-use lib.IntN.{ℤ, pos}
-use lib.Ieee.{Float, binary32, binary64, round, mul, ofInt, ofBits, ofFields, inSigned, inFloat, toSigned}
+use lib.IntN.{pos}
+use lib.Ieee.{Float, binary32, binary64, mul, ofInt, ofBits, ofFields, inSigned, toSigned}
 use lib.Ieee.Back.{positive-back}
 use lib.Ieee.Bits.{is-false}
 use lib.Ieee.Exact.{HasValue, odd-sign}

@@ -1,21 +1,19 @@
 -- a * b + c of f32s in binary64, and the f32 of a pattern of binary64. Assumes nothing.
-use mathlib.Core.Path.{_≡_, refl, sym, ap, ap₂, _∙_, subst}
-use mathlib.Core.Logic.{_⊎_, inl, inr}
-use Prim.Native.Nat.{ℕ, zero, suc, _+_, _-_, _*_, _/_, _%_, _^_, _≤_, _<_}
-use native.Mathlib.Nat.{le-refl, le-trans, le-of-eq, le-of-lt, lt-of-lt-of-le, lt-of-le-of-lt, mul-comm, mul-assoc, mul-left-comm, mul-pos, mul-le-mul, mod-lt, mod-eq-of-lt, zero-add, lt-irrefl}
+use mathlib.Core.Path.{_≡_, refl, sym, ap, _∙_, subst}
+use mathlib.Core.Logic.{inl, inr}
+use Prim.Native.Nat.{ℕ, suc, _+_, _-_, _*_, _/_, _%_, _^_, _≤_, _<_}
+use native.Mathlib.Nat.{lt-of-lt-of-le, lt-of-le-of-lt, mul-assoc, mul-pos, mul-le-mul, mod-lt, mod-eq-of-lt, zero-add}
 use native.Mathlib.Omega.{arith}
-use mathlib.Core.Bool.{Bool, true, false, not, cond, true≢false, false≢true}
+use mathlib.Core.Bool.{Bool, true, false, not, cond, false≢true}
 use lib.Dec.{T, leb, eqb, not-T, eqb→eq, lit<, lit≤}
 use lib.Arith.{lt→nleb}
-use lib.Pow.{pow-add, pow-pos, pow-mono, shl-lt}
-use lib.IntN.{ℤ, pos}
-use lib.Ieee.{Float, nan, inf, fin, Format, binary32, binary64, prec, emax, low, hid, ones, top, up, down, unlike, odd, units, round, sum, add, mul, fits, isNan, toBits, ofBits, ofFields}
+use lib.Pow.{pow-pos, pow-mono, shl-lt}
+use lib.Ieee.{Float, nan, inf, fin, Format, binary32, binary64, prec, low, top, up, down, unlike, units, round, sum, add, mul, fits, isNan, toBits, ofBits, ofFields}
 use lib.Ieee.Fits.{round-is, down-pos, add-fits}
 use lib.Ieee.Bits.{is-false, ofBits-toBits}
-use lib.Ieee.Exact.{HasValue, units-val, odd-sign, round-exact}
+use lib.Ieee.Exact.{HasValue, units-val, odd-sign}
 use lib.Ieee.Order.{drop, kept}
 use lib.Ieee.Scale.{finite, grid, overflow, round-same}
-use lib.Ieee.Nearest.{closest}
 use Rattle.lists.proofs.Naturals.{le-or-lt}
 use Rattle.ieee.specs.Fused.{fma, convert}
 use Rattle.packing.specs.Parts.{Splits}
@@ -24,11 +22,8 @@ use Rattle.packing.proofs.Fields.{ofBits-is, normal-is, value-low, value-normal
 use Rattle.packing.proofs.Plain.{value-no-nan}
 use Rattle.ieee.proofs.Product.{fma-parts, powers, later}
 use Rattle.ieee.proofs.Exactly.{fused-digits}
-use Rattle.packing.proofs.Sums.{sum-same}
 use Rattle.packing.proofs.Cases.{normal-case}
 use Rattle.ieee.proofs.Twice.{half-up, sum-twice, sum-rounds, units-over}
-
-ruleset ac = (mul-assoc, mul-comm, mul-left-comm)
 
 -- ---- the parts of a finite f32
 pub record Split (v : Float) : Type 0 where

@@ -1,22 +1,21 @@
 -- The pattern of the f64 x * x + (y * y), raised, tells the f32 that it rounds to. Assumes nothing.
 use mathlib.Core.Path.{_≡_, refl, sym, ap, ap₂, _∙_, subst}
-use mathlib.Core.Logic.{_⊎_, inl, inr}
-use Prim.Native.Nat.{ℕ, zero, suc, _+_, _-_, _*_, _/_, _%_, _^_, _≤_, _<_}
-use native.Mathlib.Nat.{le-refl, le-trans, le-of-eq, le-of-lt, lt-of-lt-of-le, lt-of-le-of-lt, lt-of-not-le, not-le-of-lt, mul-comm, mul-assoc, mul-left-comm, mul-right-comm, mul-pos, mul-le-mul, mul-le-mul-right, mul-lt-mul-of-pos-right, add-mul, mod-eq-of-lt, mod-lt}
+use mathlib.Core.Logic.{inl, inr}
+use Prim.Native.Nat.{ℕ, suc, _+_, _-_, _*_, _/_, _%_, _^_, _≤_, _<_}
+use native.Mathlib.Nat.{le-trans, le-of-eq, lt-of-lt-of-le, lt-of-le-of-lt, lt-of-not-le, not-le-of-lt, mul-comm, mul-assoc, mul-left-comm, mul-pos, mul-le-mul-right, mul-lt-mul-of-pos-right, add-mul, mod-eq-of-lt}
 use native.Mathlib.Omega.{arith}
 use mathlib.Core.Bool.{Bool, true, false, not, true≢false, false≢true}
 use lib.Dec.{T, leb, lit<, lit≤}
 use lib.Arith.{lt-of-le-ne}
 use lib.Pow.{pow-add, pow-pos, pow-mono}
-use lib.IntN.{ℤ}
-use lib.Ieee.{Float, nan, inf, fin, Format, binary32, binary64, up, down, top, unlike, round, sum, mul, add, fits, isNan, toBits, ofBits}
+use lib.Ieee.{Float, nan, inf, fin, Format, binary32, binary64, up, down, top, unlike, round, sum, mul, fits, isNan, toBits, ofBits}
 use lib.Ieee.Bits.{ofBits-toBits}
 use lib.Ieee.Exact.{HasValue}
 use lib.Ieee.Fits.{round-fits, mul-fits}
 use lib.Ieee.Scale.{finite, grid, round-val}
 use Rattle.lists.proofs.Naturals.{le-or-lt}
 use Rattle.packing.proofs.Fields.{value-normal}
-use Rattle.ieee.specs.Fused.{fma, convert}
+use Rattle.ieee.specs.Fused.{fma}
 use Rattle.ieee.specs.Parts.{RoundsOnce, narrowBits, Raised, raisedBits}
 use Rattle.ieee.proofs.Product.{fma-left, fma-last}
 use Rattle.ieee.proofs.Nearby.{nearest-down}

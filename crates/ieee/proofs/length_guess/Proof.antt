@@ -1,14 +1,13 @@
 -- `length_guess` meets its contract: digits that pass the test are the root. Assumes nothing.
-use mathlib.Core.Path.{_≡_, sym, ap, _∙_, subst}
-use Prim.Native.Nat.{ℕ, _+_, _-_, _*_, _/_, _%_, _^_, _≤_, _<_}
+use mathlib.Core.Path.{sym, ap, _∙_, subst}
+use Prim.Native.Nat.{ℕ, _+_, _*_, _/_, _%_, _^_, _≤_, _<_}
 use native.Mathlib.Nat.{lt-of-le-of-lt, mod-lt}
 use native.Mathlib.Omega.{arith}
 use lib.Dec.{lit<}
 use lib.Pow.{pow-pos}
-use lib.Ieee.{Float, binary32, binary64, mul, toBits}
+use lib.Ieee.{binary64, toBits}
 use Rattle.packing.proofs.Fields.{finite-no-nan}
 use Rattle.ieee.specs.Mild.{small}
-use Rattle.ieee.specs.Parts.{RootOrZero}
 use Rattle.ieee.proofs.Digits.{digits-small, radicand-lt, radicand-pos, guessed, no-root}
 use borrow.Author.Needs.{needs}
 use Rattle.ieee.proofs.length_guess.Statement.{statement}

@@ -194,11 +194,13 @@ fn cells_at(win: Window, n: usize, k: usize) -> usize
 
 // ---- the tally
 
+// At most three samples are late. They take the general form, since the short one begins with the plain product: shared with the early samples it would make each of them
+// wait for the one before.
 fn share(old: f32, s: Sample) -> f32
     ensures { λ r. ⌜ r ≡ shareOf old s ⌝ }
 {
     if s.late {
-        ieee::mul_add(s.weight, s.magnitude, old)
+        ieee::fma_general(s.weight, s.magnitude, old)
     } else {
         old + s.weight * s.magnitude
     }

@@ -1,15 +1,15 @@
 -- Along the half axes the angle is exact, since |dy| - |dx| and |dy| + |dx| have the same size; and (0, 0) has the angle 0. Assumes nothing.
-use mathlib.Core.Path.{_≡_, refl, sym, ap, _∙_, subst}
-use mathlib.Core.Bool.{Bool, true, false, cond}
-use Prim.Native.Nat.{ℕ, _+_, _-_, _*_, _%_, _^_, _≤_, _<_}
+use mathlib.Core.Path.{_≡_, refl, sym, ap, _∙_}
+use mathlib.Core.Bool.{Bool, true, false}
+use Prim.Native.Nat.{ℕ, _+_, _-_, _*_, _≤_, _<_}
 use native.Mathlib.Nat.{zero-mul, mul-one, one-mul, mul-pos, mul-comm, mul-assoc}
 use native.Mathlib.Omega.{arith}
-use borrow.Author.Tests.{lt-ltb, le-ltb, ltb-true}
-use lib.IntN.{ℤ, pos}
-use lib.Dec.{T, ltb, lit<, lit≤}
-use lib.Ieee.{Float, nan, inf, fin, binary32, up, down, lt, le, eq, neg, add, sub, mul, div, sum, round, ofBits, toBits, fits}
+use borrow.Author.Tests.{lt-ltb, ltb-true}
+use lib.IntN.{ℤ}
+use lib.Dec.{T, lit<}
+use lib.Ieee.{Float, nan, inf, fin, binary32, up, down, lt, eq, neg, add, sub, mul, div, sum, round, ofBits, toBits, fits}
 use lib.Ieee.Fits.{down-pos}
-use lib.Ieee.Positive.{num, den, den-pos}
+use lib.Ieee.Positive.{num, den}
 use lib.Ieee.Scale.{grid, round-same}
 use Rattle.packing.proofs.Sums.{sum-comm, sum-zero-left}
 use Rattle.ieee.specs.F32.{absOf}
@@ -19,7 +19,7 @@ use Rattle.ieee.proofs.Held.{abs-fits}
 use Rattle.ieee.proofs.SignedParts.{round-zero}
 use Rattle.hal.specs.Turns.{turns}
 use Rattle.hal.specs.Angle.{small, inAngle, sumOf, aheadOf, quarterOf, lineOf, alongOf, directionOf, angleOf}
-use Rattle.hal.proofs.AngleValues.{bounded, small-nan, small-inf, small-dx, small-dy, Side, side-left, side-right, None, none-of}
+use Rattle.hal.proofs.AngleValues.{bounded, small-nan, small-inf, small-dx, small-dy, side-left, side-right, none-of}
 use Rattle.hal.proofs.AngleLaws.{angle-level, angle-direction, by-sum}
 use Rattle.hal.proofs.AngleUnits.{rounded-above, rounded-over}
 

@@ -1,19 +1,18 @@
 -- The angle keeps its bits when dx and dy are both doubled. Assumes nothing.
 use mathlib.Core.Path.{_≡_, refl, sym, ap, _∙_, subst}
-use mathlib.Core.Logic.{_⊎_, inl, inr}
-use mathlib.Core.Bool.{Bool, true, false, not, _&&_, cond, true≢false}
+use mathlib.Core.Bool.{Bool, true, false, not, _&&_}
 use borrow.Author.Tests.{ltb-true}
-use Prim.Native.Nat.{ℕ, zero, suc, _+_, _-_, _*_, _%_, _^_, _≤_, _<_, zero-le}
-use native.Mathlib.Nat.{le-trans, le-of-eq, lt-of-le-of-lt, not-le-of-lt, mul-one, one-mul, zero-mul, mul-pos, mul-comm, mul-assoc, mul-left-comm, mul-right-comm, mul-le-mul-right, le-of-mul-le-mul-right, eq-of-mul-eq-mul-right}
+use Prim.Native.Nat.{ℕ, zero, suc, _+_, _-_, _*_, _%_, _^_, _≤_, _<_}
+use native.Mathlib.Nat.{le-trans, le-of-eq, lt-of-le-of-lt, not-le-of-lt, mul-one, one-mul, mul-pos, mul-comm, mul-assoc, mul-left-comm, mul-right-comm, mul-le-mul-right, le-of-mul-le-mul-right, eq-of-mul-eq-mul-right}
 use native.Mathlib.Omega.{arith}
 use lib.IntN.{ℤ, pos, negsuc}
-use lib.Dec.{T, ltb, leb, eqb, ltb→lt, leb→le, nleb→lt, nltb→le, eqb→eq, lit<, lit≤}
+use lib.Dec.{T, ltb, leb, eqb, ltb→lt, leb→le, nleb→lt, eqb→eq, lit<, lit≤}
 use lib.Pow.{pow-pos, pow-add, pow-lt}
-use lib.Ieee.{Float, nan, inf, fin, binary32, up, down, lt, le, eq, add, sub, div, round, fits, ofBits}
+use lib.Ieee.{Float, nan, inf, fin, binary32, up, down, lt, add, sub, div, round, fits}
 use lib.Ieee.Exact.{HasValue, round-exact}
 use lib.Ieee.Fits.{down-pos, and-l, and-r}
 use lib.Ieee.Scale.{round-same}
-use lib.Ieee.Positive.{num, den, den-pos, first-pos}
+use lib.Ieee.Positive.{num, den, den-pos}
 use Rattle.ieee.specs.F32.{absOf}
 use Rattle.ieee.specs.Numbers.{nought}
 use Rattle.hal.specs.Angle.{small, inAngle, sumOf, aheadOf, quarterOf, directionOf, angleOf}

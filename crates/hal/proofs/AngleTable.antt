@@ -2,8 +2,9 @@
 use mathlib.Core.Path.{_≡_, refl, sym, ap, _∙_, subst}
 use mathlib.Core.Bool.{Bool, true, false, not, cond, Bool·beq, _&&_}
 use mathlib.Core.List.{List}
-use Prim.Native.Nat.{ℕ, _+_, _-_, _*_}
+use Prim.Native.Nat.{ℕ, _+_, _-_, _*_, _^_}
 use lib.Dec.{T, ltb, eqb}
+use borrow.Author.Tests.{ltb-true}
 use lib.IntN.{ℤ}
 use lib.ListN.{getD}
 use lib.Ieee.{Float, nan, inf, fin, binary32, unlike, up, down, lt, add, sub, mul, div, sum, round, isNan, ofBits, fits}
@@ -14,7 +15,8 @@ use Rattle.hal.specs.Numbers.{shift}
 use Rattle.hal.specs.Turns.{turns, placeOf}
 use Rattle.hal.specs.Angle.{inAngle, sumOf, aheadOf, quarterOf, alongOf, lesserOf, greaterOf, directionOf, angleOf}
 use Rattle.hal.proofs.AngleLaws.{angle-level, angle-direction}
-use Rattle.hal.proofs.AngleUnits.{ahead-number}
+use Rattle.hal.proofs.AngleValues.{small-dx, small-dy}
+use Rattle.hal.proofs.AngleUnits.{near, apart, Whole, whole-of, both-most, sum-test, ahead-units}
 
 -- ---- a quarter's four numbers, from place i on
 pub record Row (t : List Float) (i : ℕ) (left down : Bool) : Type 0 where
@@ -71,6 +73,16 @@ step-number false false ahead h = plus-number _ _ _ _ (times-number ahead _ _ _ 
 step-number true false ahead h = plus-number _ _ _ _ (times-number ahead _ _ _ refl h)
 step-number true true ahead h = plus-number _ _ _ _ (times-number ahead _ _ _ refl h)
 step-number false true ahead h = plus-number _ _ _ _ (times-number ahead _ _ _ refl h)
+
+-- the quotient, where the sum is above 0
+ahead-number : (dx dy : Float) → T (fits binary32 dx) → T (fits binary32 dy) → T (inAngle dx dy) → lt nought (sumOf dx dy) ≡ true → T (not (isNan (aheadOf dx dy)))
+unfolding aheadOf
+ahead-number dx dy fx fy h e =
+    let x = whole-of dx fx (small-dx dx dy h) in
+    let y = whole-of dy fy (small-dy dx dy h) in
+    let m = both-most (x .units) (y .units) (2 ^ 149) (x .most) (y .most) in
+    let p = ltb-true 0 (near (y .units + x .units)) (sym (sum-test (absOf dy) (absOf dx) (y .units) (x .units) m (y .value) (x .value)) ∙ e) in
+    subst (λ (z : Float). T (not (isNan z))) (sym (ahead-units (absOf dy) (absOf dx) (y .units) (x .units) m (y .value) (x .value) p)) (round-no-nan binary32 (ltb (y .units) (x .units)) (near (apart (y .units) (x .units))) (near (y .units + x .units)))
 
 -- ---- with the sizes a and b
 module _ (dx dy a b : Float) (p : a ≡ absOf dx) (q : b ≡ absOf dy) where

@@ -1,12 +1,12 @@
 -- The angle's sum and quotient as rounded fractions, and of values of binary32 in units of 2 ^ -149, of which every such value is a whole number. Assumes nothing.
 use mathlib.Core.Path.{_≡_, refl, sym, ap, _∙_, subst}
-use mathlib.Core.Logic.{_⊎_, inl, inr}
-use mathlib.Core.Bool.{Bool, true, false, not, _&&_, cond, true≢false}
-use Prim.Native.Nat.{ℕ, zero, suc, _+_, _-_, _*_, _/_, _%_, _^_, _≤_, _<_, zero-le}
-use native.Mathlib.Nat.{le-trans, le-of-eq, le-of-lt, lt-of-le-of-lt, le-of-mul-le-mul-right, zero-mul, mul-one, one-mul, mul-pos, mul-comm, mul-assoc, mul-right-comm, mul-le-mul-right, eq-of-mul-eq-mul-right}
+use mathlib.Core.Logic.{inl, inr}
+use mathlib.Core.Bool.{Bool, true, false, not, cond, true≢false}
+use Prim.Native.Nat.{ℕ, _+_, _-_, _*_, _^_, _≤_, _<_, zero-le}
+use native.Mathlib.Nat.{le-trans, le-of-eq, le-of-lt, lt-of-le-of-lt, le-of-mul-le-mul-right, zero-mul, mul-one, mul-pos, mul-comm, mul-assoc, mul-right-comm, mul-le-mul-right, eq-of-mul-eq-mul-right}
 use native.Mathlib.Omega.{arith}
 use borrow.Author.Tests.{lt-ltb, ltb-true}
-use lib.IntN.{ℤ, pos}
+use lib.IntN.{pos}
 use lib.Dec.{T, ltb, ltb→lt, nltb→le, lit<, lit≤}
 use lib.Pow.{pow-pos}
 use lib.Ieee.{Float, nan, inf, fin, binary32, up, down, lt, le, neg, add, sub, div, sum, round, isNan, ofBits, fits}
@@ -24,7 +24,7 @@ use Rattle.ieee.specs.F32.{absOf}
 use Rattle.ieee.specs.Numbers.{nought}
 use Rattle.ieee.proofs.Values.{stored}
 use Rattle.ieee.proofs.Doubled.{round-no-nan}
-use Rattle.hal.specs.Angle.{small, inAngle, sumOf, aheadOf}
+use Rattle.hal.specs.Angle.{small, inAngle, sumOf}
 use Rattle.hal.proofs.Range.{Within, Exact, round-within}
 use Rattle.hal.proofs.AngleValues.{lt-value, div-signed, zero-or, null, bounded, small-nan, small-inf, small-dx, small-dy}
 
@@ -150,9 +150,6 @@ near-some a h p = elim (zero-or (near a)) [ inl z ↦ absurd (no z) | inr q ↦ 
         ∙ ap (λ (k : ℕ). ltb (k * 2 ^ 149) (near 1 * 2 ^ 149)) z ∙ ap (λ (k : ℕ). ltb (0 * 2 ^ 149) (k * 2 ^ 149)) one-is ∙ lt-ltb (0 * 2 ^ 149) (1 * 2 ^ 149) (lit< tt))
         (is-true (le (round binary32 false 1 (2 ^ 149)) (round binary32 false a (2 ^ 149))) (round-mono binary32 1 (2 ^ 149) a (2 ^ 149) (pow-pos 149) (pow-pos 149) (mul-le-mul-right (2 ^ 149) p)))
 
-pub near-none : (a : ℕ) → a ≡ 0 → near a ≡ 0
-near-none a e = ap near e ∙ near-few 0 (lit< tt)
-
 -- ---- the quotient in units
 pub ahead-units : (x y : Float) (R P : ℕ) → R + P ≤ 16777216 * 2 ^ 149 → HasValue x false R (2 ^ 149) → HasValue y false P (2 ^ 149) → 0 < near (R + P) → div binary32 (sub binary32 x y) (add binary32 x y) ≡ round binary32 (ltb R P) (near (apart R P)) (near (R + P))
 ahead-units x y R P h X Y p =
@@ -213,13 +210,3 @@ level-none dx dy fx fy h e =
 
     second : (a b : ℕ) → a + b ≡ 0 → a ≡ 0
     second a b e = omega arith
-
--- where it is, the quotient is a number
-pub ahead-number : (dx dy : Float) → T (fits binary32 dx) → T (fits binary32 dy) → T (inAngle dx dy) → lt nought (sumOf dx dy) ≡ true → T (not (isNan (aheadOf dx dy)))
-unfolding aheadOf
-ahead-number dx dy fx fy h e =
-    let x = whole-of dx fx (small-dx dx dy h) in
-    let y = whole-of dy fy (small-dy dx dy h) in
-    let m = both-most (x .units) (y .units) (2 ^ 149) (x .most) (y .most) in
-    let p = ltb-true 0 (near (y .units + x .units)) (sym (sum-test (absOf dy) (absOf dx) (y .units) (x .units) m (y .value) (x .value)) ∙ e) in
-    subst (λ (z : Float). T (not (isNan z))) (sym (ahead-units (absOf dy) (absOf dx) (y .units) (x .units) m (y .value) (x .value) p)) (round-no-nan binary32 (ltb (y .units) (x .units)) (near (apart (y .units) (x .units))) (near (y .units + x .units)))

@@ -1,24 +1,24 @@
 -- The exponent as a whole number: the range of start + x * rate, and what its pattern says. Assumes nothing.
 use mathlib.Core.Path.{_≡_, refl, sym, ap, _∙_, subst}
-use mathlib.Core.Logic.{_⊎_, inl, inr}
+use mathlib.Core.Logic.{inl, inr}
 use mathlib.Core.Bool.{Bool, true, false, not, _&&_, _||_, cond}
 use Prim.Native.Nat.{ℕ, zero, suc, _+_, _-_, _*_, _/_, _%_, _^_, _≤_, _<_, zero-le, min}
-use native.Mathlib.Nat.{suc-mul, le-antisymm, not-le-of-lt, mul-lt-mul-of-pos-right, le-trans, le-of-eq, le-of-lt, zero-mul, mul-one, one-mul, mul-comm, mul-assoc, mul-right-comm, mul-le-mul-right, mul-pos, div-div-eq-div-mul, div-lt-iff-lt-mul, lt-of-le-of-lt, lt-of-lt-of-le}
+use native.Mathlib.Nat.{suc-mul, le-antisymm, not-le-of-lt, mul-lt-mul-of-pos-right, le-trans, le-of-eq, le-of-lt, zero-mul, mul-one, mul-assoc, mul-right-comm, mul-le-mul-right, mul-pos, div-div-eq-div-mul, div-lt-iff-lt-mul, lt-of-le-of-lt, lt-of-lt-of-le}
 use native.Mathlib.Omega.{arith}
 use lib.IntN.{ℤ, pos, negsuc}
-use lib.Dec.{T, ltb, leb, eqb, ltb→lt, nltb→le, eqb→eq, lit<, lit≤}
+use lib.Dec.{T, ltb, eqb, ltb→lt, nltb→le, eqb→eq, lit<, lit≤}
 use lib.Pow.{pow-pos, pow-mono}
-use lib.Ieee.{Float, nan, inf, fin, Format, binary32, binary64, prec, emax, low, unlike, up, down, odd, units, size, lt, le, eq, neg, add, sub, mul, round, toUnsigned, toBits, isNan, ofBits}
+use lib.Ieee.{Float, nan, inf, fin, Format, binary64, prec, emax, low, unlike, up, down, odd, units, size, lt, le, eq, neg, add, sub, mul, round, toUnsigned, toBits, isNan, ofBits}
 use lib.Ieee.Fits.{and-i, and-l, and-r, down-pos, round-is}
-use lib.Ieee.Digits.{size-lt, size-reaches, size-le}
+use lib.Ieee.Digits.{size-lt, size-le}
 use lib.Ieee.Nearest.{div-same}
 use lib.Ieee.Back.{round-whole}
 use lib.Ieee.Positive.{num, den}
 use Rattle.ieee.proofs.SignedParts.{round-zero}
 use Rattle.ieee.specs.Numbers.{nought, two}
 use Rattle.hal.specs.Numbers.{minus32}
-use Rattle.hal.specs.Exp.{inFixed, fixedOf, inUp, upStart, upRate, inDown, downStart, downRate}
-use Rattle.hal.proofs.Range.{Within, Exact, round-within, mul-within, add-within, sub-within, or-split, above-of, below-of, ge-of, whole-le, whole-ge, lt-of, wider, cut-ge}
+use Rattle.hal.specs.Exp.{inFixed, inUp, upStart, upRate, inDown, downStart, downRate}
+use Rattle.hal.proofs.Range.{Within, Exact, round-within, add-within, sub-within, or-split, above-of, below-of, ge-of, whole-le, whole-ge, lt-of, wider, cut-ge}
 
 exact : (n : ℕ) → n ≤ 2 ^ 53 → Exact binary64 n
 exact n h = round-whole binary64 false n h

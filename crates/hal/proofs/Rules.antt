@@ -1,18 +1,18 @@
 -- The rules of specs/Rules.antt hold. Assumes nothing.
 use mathlib.Core.Path.{_≡_, refl, sym, ap, _∙_, subst}
-use mathlib.Core.Bool.{Bool, true, false, not, _&&_, cond}
-use Prim.Native.Nat.{ℕ, suc, _+_, _-_, _*_, _^_, _≤_, _<_, zero-le}
-use native.Mathlib.Nat.{le-refl, mul-pos}
+use mathlib.Core.Bool.{Bool, true, false, _&&_, cond}
+use Prim.Native.Nat.{ℕ, _+_, _-_, _*_, _^_, _≤_, _<_}
+use native.Mathlib.Nat.{mul-pos}
 use native.Mathlib.Numerals.{add-one}
 use native.Mathlib.Omega.{arith}
 use lib.IntN.{pos, negsuc}
 use lib.ListN.{length}
 use lib.Dec.{T, ltb→lt, lt→ltb}
-use lib.Ieee.{Float, nan, inf, fin, binary32, binary64, up, down, lt, le, eq, neg, mul, add, sub, div, round, toUnsigned, ofInt, ofBits, fits}
+use lib.Ieee.{Float, nan, inf, fin, binary32, binary64, up, down, lt, le, eq, neg, mul, add, sub, round, toUnsigned, ofInt, ofBits, fits}
 use lib.Ieee.Exact.{HasValue}
 use lib.Ieee.Fits.{cond-fits, nan-fits, neg-fits, add-fits, mul-fits, up-pos}
 use lib.Ieee.Positive.{positive, between}
-use Rattle.ieee.specs.F32.{_⊗_, fused, absOf}
+use Rattle.ieee.specs.F32.{_⊗_, fused}
 use Rattle.ieee_laws.specs.Sign.{Same}
 use Rattle.ieee.proofs.Held.{fma-fits, sqrt-fits}
 use Rattle.ieee_laws.proofs.Turned.{le-turned, add-turned, mul-turned}
@@ -24,9 +24,9 @@ use Rattle.hal.specs.Exp.{scaledOf, powerOf, fixedOf, inUp, upStart, upR
 use Rattle.hal.specs.Turn.{holdOf, negatedOf, quarterSineOf, inTurn, sinOf, cosOf}
 use Rattle.hal.specs.Angle.{lesserOf, greaterOf, quarterOf, lineOf, alongOf, directionOf, sumOf, aheadOf, inAngle, angleOf}
 use Rattle.hal.specs.Magnitude.{magnitudeOf}
-use Rattle.hal.specs.Rules.{In, TableRule, Exp2Rule, ExpRule, TurnRule, SineRule, CosineRule, AngleRule, MagnitudeRule, startOf, endOf}
+use Rattle.hal.specs.Rules.{In, TableRule, Exp2Rule, ExpRule, SineRule, CosineRule, AngleRule, MagnitudeRule, startOf, endOf}
 use Rattle.hal.proofs.Entries.{entry-rule}
-use Rattle.hal.proofs.Range.{Within, wider, ge-of, le-of}
+use Rattle.hal.proofs.Range.{Within, ge-of, le-of}
 use Rattle.hal.proofs.ExpLaws.{entry-after, exp2-between, exp2-at, entry-value, exp2-within, exp-within, exp-least, exp-at-zero}
 use Rattle.hal.proofs.TurnLaws.{sin-in, cos-in, sin-quarters, cos-quarters}
 use Rattle.hal.proofs.AngleLaws.{by-sum, direction-in, angle-least, angle-below}

@@ -1,5 +1,3 @@
-use mathlib.Core.Path.{_≡_}
-use lib.Ieee.{ofBits}
 use Rattle.hal.specs.Angle.{alongOf, lineOf}
 use borrow.Author.Needs.{needs}
 use Rattle.hal.proofs.along.Statement.{statement}

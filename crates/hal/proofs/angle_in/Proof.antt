@@ -1,6 +1,5 @@
 use mathlib.Core.Path.{sym, subst}
 use lib.Dec.{T}
-use lib.Ieee.{binary32, fits}
 use Rattle.hal.proofs.AngleValues.{small-dx, small-dy, small-number}
 use Rattle.hal.proofs.AngleTable.{number-at, angle-at, level-at}
 use Rattle.hal.proofs.angle_in.Statement.{statement}

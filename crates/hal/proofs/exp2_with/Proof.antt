@@ -1,13 +1,13 @@
-use mathlib.Core.Path.{_≡_, sym, ap, _∙_, subst}
-use mathlib.Core.Bool.{not, _&&_}
-use Prim.Native.Nat.{ℕ, _+_, _*_, _/_, _≤_}
+use mathlib.Core.Path.{sym, ap, _∙_, subst}
+use mathlib.Core.Bool.{not}
+use Prim.Native.Nat.{ℕ, _+_, _/_, _≤_}
 use native.Mathlib.Omega.{arith}
 use lib.Dec.{T, lit<}
-use lib.Ieee.{Float, binary64, le, neg, add, mul, ofBits, fits, isNan}
+use lib.Ieee.{binary64, le, neg, ofBits, fits, isNan}
 use lib.Ieee.Fits.{and-i, and-l, fits-widens}
 use Rattle.ieee.specs.Numbers.{nought, two}
 use Rattle.hal.specs.Exp.{inUp, upStart, upRate, upField, powerOf, fixedOf, exp2Of}
-use Rattle.hal.proofs.FixedPoint.{Word, no-nan-le}
+use Rattle.hal.proofs.FixedPoint.{no-nan-le}
 use Rattle.hal.proofs.ExpLaws.{up-word, exp2-fixed, exp2-is}
 use borrow.Author.Needs.{needs}
 use Rattle.hal.proofs.exp2_with.Statement.{statement}

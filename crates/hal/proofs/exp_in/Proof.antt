@@ -1,14 +1,14 @@
-use mathlib.Core.Path.{_≡_, sym, ap, _∙_, subst}
-use mathlib.Core.Bool.{not, _&&_}
+use mathlib.Core.Path.{sym, ap, _∙_, subst}
+use mathlib.Core.Bool.{not}
 use Prim.Native.Nat.{ℕ, _+_, _*_, _/_, _≤_}
 use native.Mathlib.Omega.{arith}
 use lib.Dec.{T, lit<}
-use lib.Ieee.{Float, binary64, le, neg, add, mul, ofBits, fits, isNan}
+use lib.Ieee.{Float, binary64, le, neg, ofBits, fits, isNan}
 use lib.Ieee.Fits.{and-i, and-l, fits-widens}
 use Rattle.ieee.specs.Numbers.{nought}
 use Rattle.hal.specs.Numbers.{minus32}
-use Rattle.hal.specs.Exp.{inDown, downStart, downRate, downField, powerOf, fixedOf, expOf}
-use Rattle.hal.proofs.FixedPoint.{Word, no-nan-le}
+use Rattle.hal.specs.Exp.{inDown, downStart, downRate, downField, powerOf, fixedOf}
+use Rattle.hal.proofs.FixedPoint.{no-nan-le}
 use Rattle.hal.proofs.ExpLaws.{down-word, exp-fixed, exp-is}
 use Rattle.hal.proofs.exp_in.Statement.{statement}
 use Rattle.hal.proofs.exp_in.Tie as tie

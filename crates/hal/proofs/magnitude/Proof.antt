@@ -1,4 +1,4 @@
-use mathlib.Core.Path.{_≡_, sym, _∙_}
+use mathlib.Core.Path.{sym, _∙_}
 use Rattle.hal.specs.Magnitude.{magnitudeOf}
 use lib.Ieee.{ofBits}
 use borrow.Author.Needs.{needs}

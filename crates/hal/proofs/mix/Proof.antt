@@ -1,8 +1,5 @@
-use mathlib.Core.Path.{_≡_}
-use Prim.Native.Nat.{ℕ, _+_, _-_, _*_, _<_}
+use Prim.Native.Nat.{_-_, _<_}
 use native.Mathlib.Omega.{arith}
-use lib.ListN.{getD}
-use Rattle.hal.specs.Powers.{entryOf}
 use Rattle.hal.specs.Exp.{mixOf}
 use Rattle.hal.proofs.Entries.{steps, Steps}
 use Rattle.hal.proofs.Mixed.{mixed, Mixed}

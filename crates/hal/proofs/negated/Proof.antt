@@ -1,5 +1,5 @@
-use Rattle.hal.specs.Turn.{holdOf, negatedOf, quarterSineOf, sinOf, cosOf}
-use lib.Ieee.{lt, le, eq, neg, sub, add, mul, div, ofBits, nan, Float, fin, binary32}
+use Rattle.hal.specs.Turn.{negatedOf}
+use lib.Ieee.{ofBits}
 use Rattle.hal.proofs.negated.Statement.{statement}
 use Rattle.hal.proofs.negated.Tie as tie
 use Rattle.hal.proofs.negated.Reads as reads

@@ -1,6 +1,6 @@
 use mathlib.Core.Path.{_≡_, sym, ap, _∙_, subst}
 use lib.Pow.{field, mod-mod-pow}
-use Prim.Native.Nat.{ℕ, _*_, _+_, _/_, _%_, _≤_}
+use Prim.Native.Nat.{ℕ, _/_, _%_, _≤_}
 use native.Mathlib.Omega.{arith}
 use Rattle.hal.specs.Exp.{powerOf}
 use Rattle.hal.proofs.ExpLaws.{Part, part}

@@ -1,5 +1,5 @@
-use Rattle.hal.specs.Turn.{holdOf, negatedOf, quarterSineOf, sinOf, cosOf}
-use lib.Ieee.{lt, le, eq, neg, sub, add, mul, div, ofBits, nan, Float, fin, binary32}
+use Rattle.hal.specs.Turn.{quarterSineOf}
+use lib.Ieee.{ofBits}
 use borrow.Author.Needs.{needs}
 use Rattle.hal.proofs.quarter_sine.Statement.{statement}
 use Rattle.hal.proofs.quarter_sine.Tie as tie

@@ -14,15 +14,22 @@ use lib.Ieee.Fits.{down-pos, add-fits, and-l, and-r}
 use lib.Ieee.Back.{float-back-unsigned}
 use lib.Ieee.Nearest.{div-mono}
 use lib.Ieee.Scale.{finite}
-use Rattle.ieee.specs.F32.{_⊕_, _⊖_, f32, toI32, float, floatZ, bitsOf}
+use Rattle.ieee.specs.F32.{_⊕_, _⊖_, _<ᶠ_, _≤ᶠ_, f32, toI32, float, floatZ, bitsOf}
 use Rattle.ieee.specs.Numbers.{nought, one}
 use Rattle.ieee_laws.proofs.Order.{le-fin, lt-le, le-number, lt-not-le, le-or-lt-float}
 use Rattle.ieee_laws.proofs.Monotone.{add-le, toUnsigned-le}
 use Rattle.ieee_laws.proofs.Bounds.{Bounds, bounds-point, bounds-finite, add-bounds}
 use Rattle.descriptor_grid.specs.Grid.{floorI}
-use Rattle.descriptor_grid.specs.Reach.{lowered, Near, Floored, base, splitOf}
+use Rattle.descriptor_grid.specs.Reach.{Near, base, splitOf}
 use Rattle.descriptor_grid.specs.declared.Split.{Split}
-use Rattle.descriptor_grid.proofs.Steps.{start, first, raised, Step, step}
+use Rattle.descriptor_grid.proofs.Steps.{lowered, start, first, raised, Step, step}
+
+-- the whole number at or below v is k - 8
+pub record Floored (v : Float) (k : ℕ) : Type 0 where
+  pub is : floorI v ≡ lowered k
+  pub low : (floatZ (lowered k) ≤ᶠ v) ≡ true
+  pub high : (v <ᶠ floatZ (lowered (k + 1))) ≡ true
+  pub top : k ≤ 16
 
 -- ---- a cut to a whole number keeps the order
 

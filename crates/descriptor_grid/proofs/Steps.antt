@@ -9,7 +9,11 @@ use lib.Ieee.Scale.{finite}
 use Rattle.ieee.specs.F32.{_⊕_, _⊖_, toI32, float, floatZ, bitsOf}
 use Rattle.ieee.specs.Numbers.{nought, one}
 use Rattle.descriptor_grid.specs.Grid.{slotOf, fromBorder}
-use Rattle.descriptor_grid.specs.Reach.{lowered, base}
+use Rattle.descriptor_grid.specs.Reach.{base}
+
+-- whole numbers are counted from -8
+abbrev pub lowered : ℕ → ℤ
+lowered k = pos k -ℤ pos 8
 
 -- 12582912 - 8, and its bits
 abbrev pub start : ℕ

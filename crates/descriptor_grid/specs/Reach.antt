@@ -1,11 +1,10 @@
--- Inner: what the code asks of a sample, of a number and of the tables, and what it says of a floor, of a split and of a spot. No part of what a caller is promised. Definitions only.
-use Prim.Native.Nat.{ℕ, _+_, _≤_}
+-- Inner: what the code asks of a sample, of a number and of the tables, what a split is, and what is said of a spot. No part of what a caller is promised. Definitions only.
+use Prim.Native.Nat.{ℕ, _≤_}
 use mathlib.Core.Path.{_≡_}
 use mathlib.Core.Bool.{true}
 use mathlib.Core.List.{List}
-use lib.IntN.{ℤ, pos, _-ℤ_}
 use lib.Ieee.{Float}
-use Rattle.ieee.specs.F32.{_⊕_, _⊖_, _<ᶠ_, _≤ᶠ_, f32, floatZ, bitsOf}
+use Rattle.ieee.specs.F32.{_⊕_, _⊖_, _≤ᶠ_, f32, floatZ, bitsOf}
 use Rattle.hal.specs.Powers.{pairs as pairTable}
 use Rattle.hal.specs.Cubics.{cubics as cubicTable}
 use Rattle.hal.specs.Turns.{turns as turnTable}
@@ -19,21 +18,10 @@ use Rattle.descriptor_grid.specs.declared.Spot.{Spot}
 use Rattle.descriptor_grid.specs.declared.Split.{Split}
 use Rattle.descriptor_grid.specs.declared.Landed.{Landed}
 
--- the code counts whole numbers from -8
-abbrev pub lowered : ℕ → ℤ
-lowered k = pos k -ℤ pos 8
-
 -- v lies in -8 to 8
 pub record Near (v : Float) : Type 0 where
   pub low : (f32 0xc100_0000 ≤ᶠ v) ≡ true
   pub high : (v ≤ᶠ f32 0x4100_0000) ≡ true
-
--- the whole number at or below v is k - 8
-pub record Floored (v : Float) (k : ℕ) : Type 0 where
-  pub is : floorI v ≡ lowered k
-  pub low : (floatZ (lowered k) ≤ᶠ v) ≡ true
-  pub high : (v <ᶠ floatZ (lowered (k + 1))) ≡ true
-  pub top : k ≤ 16
 
 -- a sample that can be added in a patch that is turned by `angle`: it lies in the grid, and the angle and the magnitude are asked inside their ranges
 pub record Lands (angle : Float) (s : Sample) : Type 0 where

@@ -24,10 +24,11 @@ use Rattle.descriptor_patch.specs.declared.Sample.{Sample}
 use Rattle.descriptor_values.specs.Places.{places}
 use Rattle.descriptor_laws.specs.ValuesRules.{Held}
 use Rattle.descriptor_grid.specs.Grid.{spotOf, gathered}
-use Rattle.descriptor_grid.specs.Reach.{lowered, Floored, Lands}
+use Rattle.descriptor_grid.specs.Reach.{Lands}
 use Rattle.descriptor_grid.specs.declared.Shares.{Shares}
 use Rattle.descriptor_grid.specs.declared.Spot.{Spot}
-use Rattle.descriptor_grid.proofs.Steps.{step}
+use Rattle.descriptor_grid.proofs.Steps.{lowered, step}
+use Rattle.descriptor_grid.proofs.Floors.{Floored}
 use Rattle.descriptor_grid.proofs.Spots.{turnOf, row, col, slot, is-spot, spot-inside}
 use Rattle.descriptor_laws.specs.GridRules.{mostShare, Eight, Counts, Flat, GridRule}
 use Rattle.descriptor_laws.proofs.Parts.{Part, Top, split-product, shares-in}

@@ -223,12 +223,14 @@ pub fn rot_row(t: Patch, r: usize, c: usize) -> f32
     apart(c, t.px) * t.sin + apart(r, t.py) * t.cos
 }
 
+// Its place in the grid, along one side.
 pub fn bin_of(rot: f32) -> f32
     ensures { λ x. ⌜ x ≡ binOf rot ⌝ }
 {
     rot + 2.0 - 0.5
 }
 
+// Above -1 and below 4: one test after the other, since with both at once the compiler takes row and column together, which is slower.
 pub fn in_grid(bin: f32) -> bool
     ensures { λ b. ⌜ b ≡ inGrid bin ⌝ }
 {

@@ -1,4 +1,3 @@
-use mathlib.Core.Bool.{_&&_}
 use lib.Ieee.{ofBits, neg}
 use Rattle.descriptor_patch.proofs.in_grid.Statement.{statement}
 use Rattle.descriptor_patch.proofs.in_grid.Tie as tie

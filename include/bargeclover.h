@@ -34,9 +34,10 @@
  * Stack, in bytes, that a call takes at most on x86-64, what memcpy and memset take not counted. A test measures it:
  *
  *   find_extrema: 12288
- *   compute_descriptor: 5120
- *   assign_orientations: 3072
- *   exp2, exp: 1536
+ *   compute_descriptor: 8192
+ *   assign_orientations: 7168
+ *   exp2, exp: 2560
+ *   angle: 1536
  *   all others: 512
  */
 #ifndef BARGECLOVER_H

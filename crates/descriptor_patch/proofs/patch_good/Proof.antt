@@ -17,7 +17,7 @@ returns : tie.Need-returns
 returns c = sym (c .before .window-good .ensures (c .if1 .taken))
 
 returns-2 : tie.Need-returns-2
-returns-2 c = search needs
+returns-2 c = c .reads-good .ensures
 
 pub patch-good-spec : {M : Type 1} → statement M
 patch-good-spec = tie.close (tie.spec window-good-requires reads-good-requires returns returns-2)

@@ -3,7 +3,7 @@
 
     python3 host/vectors/tables.py      (in the repository; Python 3.9 or later, mpmath 1.3; then rt fmt)
 
-docs/ROUTINES.md says what the numbers are. Nothing is read from our own program."""
+docs/ROUTINES.md says what the numbers are. Of the files that are written over, only the comments and the heads of the definitions are kept."""
 import struct
 from mpmath import mp, mpf, matrix
 

@@ -84,7 +84,7 @@ pub extern "C" fn bargeclover_fma(a: u32, b: u32, c: u32) -> u32
 pub extern "C" fn bargeclover_sqrt(x: u32) -> u32
     ensures { λ r. ⌜ r ≡ bitsOf (rootOf (f32 x)) ⌝ }
 {
-    ieee::bits_of(ieee::sqrt(ieee::of_bits(x)))
+    ieee::bits_of(ieee_root::sqrt(ieee::of_bits(x)))
 }
 
 #[no_mangle]
@@ -98,21 +98,21 @@ pub extern "C" fn bargeclover_narrow(x: u64) -> u32
 pub extern "C" fn bargeclover_floor(x: u32) -> u32
     ensures { λ r. ⌜ r ≡ bitsOf (floorOf (f32 x)) ⌝ }
 {
-    ieee::bits_of(ieee::floor(ieee::of_bits(x)))
+    ieee::bits_of(ieee_whole::floor(ieee::of_bits(x)))
 }
 
 #[no_mangle]
 pub extern "C" fn bargeclover_round(x: u32) -> u32
     ensures { λ r. ⌜ r ≡ bitsOf (rounded (f32 x)) ⌝ }
 {
-    ieee::bits_of(ieee::round_ties_even(ieee::of_bits(x)))
+    ieee::bits_of(ieee_whole::round_ties_even(ieee::of_bits(x)))
 }
 
 #[no_mangle]
 pub extern "C" fn bargeclover_to_i32(x: u32) -> i32
     ensures { λ r. ⌜ r ≡ toI32 (f32 x) ⌝ }
 {
-    ieee::to_i32(ieee::of_bits(x))
+    ieee_whole::to_i32(ieee::of_bits(x))
 }
 
 // ---- the threshold

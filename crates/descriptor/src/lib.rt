@@ -56,8 +56,8 @@ fn spot_wrong(s: Size, p: Spot) -> bool
 {
     !(ieee::is_finite(p.x)
         & (ieee::is_finite(p.y)
-            & (on_side(s.width, ieee::round_to_i32(p.x))
-                & on_side(s.height, ieee::round_to_i32(p.y)))))
+            & (on_side(s.width, ieee_whole::round_to_i32(p.x))
+                & on_side(s.height, ieee_whole::round_to_i32(p.y)))))
 }
 
 // The scale is outside 0.125 to 64, or the angle outside 0 to 360.
@@ -72,8 +72,8 @@ fn turn_at(s: Size, p: Spot) -> Patch
     requires { ⌜ Aimed s p ⌝ }
     ensures { λ t. ⌜ (t ≡ turnAt s p) × Lies t ⌝ }
 {
-    let px = cell_at(ieee::round_to_i32(p.x));
-    let py = cell_at(ieee::round_to_i32(p.y));
+    let px = cell_at(ieee_whole::round_to_i32(p.x));
+    let py = cell_at(ieee_whole::round_to_i32(p.y));
     descriptor_patch::patch_of(s, px, py, p.scale, p.angle)
 }
 

@@ -70,7 +70,9 @@ fn reach_of(scale: f32) -> usize
     ensures { λ r. ⌜ (r ≡ reachOf scale) × (r ≤ maxRadius) ⌝ }
 {
     let width = 3.0 * scale;
-    std::num::truncating_f32_to_u64(ieee::round_ties_even(width * 1.41421356 * 5.0 * 0.5)) as usize
+    std::num::truncating_f32_to_u64(ieee_whole::round_ties_even(
+        width * 1.41421356 * 5.0 * 0.5,
+    )) as usize
 }
 
 // The reach, but at most the picture's diagonal, cut to a whole number. A diagonal of 1024 and more is beyond every reach.
@@ -81,7 +83,7 @@ fn radius_of(s: Size, scale: f32) -> usize
     let reach = reach_of(scale);
     let x = float(s.width);
     let y = float(s.height);
-    let d = ieee::sqrt(x * x + y * y);
+    let d = ieee_root::sqrt(x * x + y * y);
     if d < 1024.0 {
         let k = std::num::truncating_f32_to_u64(d) as usize;
         if k < reach { k } else { reach }
@@ -187,8 +189,8 @@ fn columns(a: usize, b: usize, px: usize, e: Ends) -> Run
     if e.hi < e.lo {
         Run { first: a, past: 0 }
     } else {
-        let lo = shifted(px, ieee::floor_to_i32(e.lo));
-        let hi = shifted(px + 2, ieee::to_i32(-ieee::floor(-e.hi)));
+        let lo = shifted(px, ieee_whole::floor_to_i32(e.lo));
+        let hi = shifted(px + 2, ieee_whole::to_i32(-ieee_whole::floor(-e.hi)));
         Run {
             first: larger(a, less_one(lo)),
             past: smaller(b, hi),

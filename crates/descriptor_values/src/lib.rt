@@ -63,7 +63,7 @@ fn nrm2(v: &[f32; 128]) -> f32
 fn clamp_all(v: &[f32; 128]) -> [f32; 128]
     ensures { λ r. ⌜ r ≡ clamped (now (v .entry)) ⌝ }
 {
-    let thr = ieee::sqrt(nrm2(v)) * 0.2;
+    let thr = ieee_root::sqrt(nrm2(v)) * 0.2;
     let mut u = [0.0; 128];
     let mut n: usize = 0;
     while n < 128 {
@@ -91,7 +91,7 @@ fn plain_sum(v: &[f32; 128]) -> f32
 fn scale(v: &[f32; 128]) -> f32
     ensures { λ r. ⌜ r ≡ scaleOf (now (v .entry)) ⌝ }
 {
-    512.0 / bounds::max(ieee::sqrt(plain_sum(v)), 0.00000011920929)
+    512.0 / bounds::max(ieee_root::sqrt(plain_sum(v)), 0.00000011920929)
 }
 
 // Scaled, rounded, and held in 0 to 255.
@@ -102,7 +102,7 @@ fn finish(v: &[f32; 128]) -> [f32; 128]
     let mut u = [0.0; 128];
     let mut n: usize = 0;
     while n < 128 {
-        u[n] = bounds::clamp(ieee::round_ties_even(v[n] * by), 0.0, 255.0);
+        u[n] = bounds::clamp(ieee_whole::round_ties_even(v[n] * by), 0.0, 255.0);
         n += 1;
     }
     u

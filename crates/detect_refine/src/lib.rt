@@ -109,7 +109,7 @@ fn move_by(lo: usize, hi: usize, v: usize, x: f32) -> Moved
     requires { ⌜ v ≤ maxSide ⌝ }
     ensures { λ m. ⌜ m ≡ moved lo hi v x ⌝ }
 {
-    place(lo, hi, v as i64 + ieee::round_to_i32(x) as i64)
+    place(lo, hi, v as i64 + ieee_whole::round_to_i32(x) as i64)
 }
 
 // One step from the cell k with the offset o: it stays, is lost, or moves within the layers and the border.
@@ -208,7 +208,7 @@ fn code_of(xi: f32) -> u32
     requires { ⌜ (absOf xi <ᶠ half) ≡ true ⌝ }
     ensures { λ k. ⌜ (pos k ≡ codeOf xi) × (k ≤ 255) ⌝ }
 {
-    std::num::truncating_f32_to_u64(ieee::round_ties_even((xi + 0.5) * 255.0)) as u32
+    std::num::truncating_f32_to_u64(ieee_whole::round_ties_even((xi + 0.5) * 255.0)) as u32
 }
 
 // The keypoint that settled at the cell k with the offset o after so many moves; `response` is the contrast there, without its sign.

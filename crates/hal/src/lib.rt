@@ -296,7 +296,7 @@ pub fn magnitude(dx: f32, dy: f32) -> f32
     ensures { λ r. ⌜ r ≡ magnitudeOf dx dy ⌝ }
 {
     if both_small(ieee::abs(dx), ieee::abs(dy)) {
-        ieee::length(dx, dy)
+        ieee_root::length(dx, dy)
     } else {
         outside()
     }
@@ -314,5 +314,5 @@ pub fn magnitude_in(t: &[f64; 256], dx: f32, dy: f32) -> f32
     requires { ⌜ (now t ≡ cubics) × (inAngle dx dy ≡ true) ⌝ }
     ensures { λ r. ⌜ r ≡ magnitudeOf dx dy ⌝ }
 {
-    ieee::length_with(t, dx, dy)
+    ieee_root::length_with(t, dx, dy)
 }

@@ -13,7 +13,7 @@ use lib.Ieee.Bits.{ofBits-toBits}
 use lib.Ieee.Exact.{HasValue, round-exact}
 use lib.Ieee.Nearest.{div-same}
 use Rattle.ieee.proofs.SignedParts.{round-zero}
-use Rattle.ieee.proofs.Rooted.{in-units, top-lt}
+use Rattle.ieee.proofs.InUnits.{in-units, top-lt}
 
 bits-at : (f : Format) (s : Bool) (m : ℕ) (e : ℤ) (n : ℕ) (d : ℤ) → m * up e * down d ≡ n * up d * down e → toBits f (fin s m e) ≡ toBits f (fin s n d)
 unfolding toBits

@@ -13,7 +13,7 @@ use lib.Ieee.Order.{drop, kept}
 use lib.Ieee.Compare.{differs-from-itself, nan-differs}
 use Rattle.ieee.specs.F32.{absOf}
 use Rattle.ieee.proofs.Doubled.{round-no-nan}
-use Rattle.ieee.proofs.Flat.{neg-round}
+use Rattle.ieee.proofs.Negated.{neg-round}
 
 only-nan : (x : Float) → isNan x ≡ true → nan ≡ x
 unfolding isNan

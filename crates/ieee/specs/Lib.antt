@@ -1,6 +1,5 @@
 pub mod Fused
 pub mod Parts
-pub mod Mild
 pub mod Root
 pub mod Whole
 pub mod F32

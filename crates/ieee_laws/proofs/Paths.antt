@@ -9,7 +9,8 @@ use lib.Ieee.Fits.{add-fits}
 use lib.Ieee.Bits.{ofBits-toBits}
 use Rattle.packing.specs.Parts.{Splits}
 use Rattle.ieee.specs.Fused.{fma, convert}
-use Rattle.ieee.specs.Parts.{RoundsOnce, RootOrZero}
+use Rattle.ieee.specs.Parts.{RoundsOnce}
+use Rattle.ieee_root.specs.Parts.{RootOrZero}
 use Rattle.ieee.specs.Root.{sqrt}
 use Rattle.ieee.proofs.Product.{fma-parts}
 use Rattle.ieee.proofs.Doubled.{Split, wide-is, converted, fma-narrow}

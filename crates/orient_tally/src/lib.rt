@@ -64,7 +64,7 @@ fn radius_of(scale: f32) -> usize
     requires { ⌜ within scaleLow scaleHigh scale ≡ true ⌝ }
     ensures { λ r. ⌜ (r ≡ radiusOf scale) × (r ≤ maxReach) ⌝ }
 {
-    std::num::truncating_f32_to_u64(ieee::round_ties_even(4.5 * scale)) as usize
+    std::num::truncating_f32_to_u64(ieee_whole::round_ties_even(4.5 * scale)) as usize
 }
 
 fn falloff(scale: f32) -> f32

@@ -1,4 +1,4 @@
--- The laws of rounding that the proofs of the functions here and in `ieee` share.
+-- The laws of rounding that the proofs of the functions here and in the crates of `ieee` share.
 pub mod Size
 pub mod Half
 pub mod Units

@@ -34,7 +34,7 @@ fn show(example: &[u8], got: u32, expected: u32) {
 fn floor(example: &[u8], x: f32, expected: f32) {
     show(
         example,
-        ieee::bits_of(ieee::floor(x)),
+        ieee::bits_of(ieee_whole::floor(x)),
         ieee::bits_of(expected),
     );
 }
@@ -42,7 +42,7 @@ fn floor(example: &[u8], x: f32, expected: f32) {
 fn rounding(example: &[u8], x: f32, expected: f32) {
     show(
         example,
-        ieee::bits_of(ieee::round_ties_even(x)),
+        ieee::bits_of(ieee_whole::round_ties_even(x)),
         ieee::bits_of(expected),
     );
 }

@@ -115,7 +115,7 @@ fn from_nought(i: i32) -> u32 {
 
 // The nearest whole number, 0 for what is below.
 fn whole(x: f32) -> u32 {
-    from_nought(ieee::round_to_i32(x))
+    from_nought(ieee_whole::round_to_i32(x))
 }
 
 // A float of at least 0 in hundredths.

@@ -1,5 +1,6 @@
-// Replays vectors that an independent C program made (host/vectors/ieee.c) through the public functions of `ieee`, and says of each operation how many were tried and how
-// many differ. A record is five words of 32 bits, most significant byte first: the operation, three operands and the answer, floats by their bits.
+// Replays vectors that an independent C program made (host/vectors/ieee.c) through the public functions of `ieee`, `ieee_root` and `ieee_whole`, and says of each operation
+// how many were tried and how many differ. A record is five words of 32 bits, most significant byte first: the operation, three operands and the answer, floats by their
+// bits.
 ghost use Prim.Native.Nat.{_+_, _<_, _≤_};
 use libc::STDOUT_FILENO;
 
@@ -35,22 +36,22 @@ fn agrees(v: i32, want: u32) -> bool {
     v as f64 == signed(want)
 }
 
-// Whether `ieee` gives the answer to the operation op.
+// Whether the operation op has the answer that is wanted.
 fn same(op: u32, a: u32, b: u32, c: u32, want: u32) -> bool {
     let x = ieee::of_bits(a);
     let y = ieee::of_bits(b);
     match op {
         1 => ieee::bits_of(ieee::mul_add(x, y, ieee::of_bits(c))) == want,
-        2 => ieee::bits_of(ieee::sqrt(x)) == want,
+        2 => ieee::bits_of(ieee_root::sqrt(x)) == want,
         3 => ieee::bits_of(ieee::narrow(ieee::of_bits64(join(a, b)))) == want,
-        4 => ieee::bits_of(ieee::floor(x)) == want,
-        5 => ieee::bits_of(ieee::round_ties_even(x)) == want,
-        6 => agrees(ieee::to_i32(x), want),
+        4 => ieee::bits_of(ieee_whole::floor(x)) == want,
+        5 => ieee::bits_of(ieee_whole::round_ties_even(x)) == want,
+        6 => agrees(ieee_whole::to_i32(x), want),
         7 => ieee::bits_of(ieee::abs(x)) == want,
         8 => ieee::bits_of(x) == want,
-        9 => ieee::bits_of(ieee::length(x, y)) == want,
-        10 => agrees(ieee::floor_to_i32(x), want),
-        11 => agrees(ieee::round_to_i32(x), want),
+        9 => ieee::bits_of(ieee_root::length(x, y)) == want,
+        10 => agrees(ieee_whole::floor_to_i32(x), want),
+        11 => agrees(ieee_whole::round_to_i32(x), want),
         _ => false,
     }
 }

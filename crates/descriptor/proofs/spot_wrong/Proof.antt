@@ -7,7 +7,7 @@ use Rattle.descriptor.proofs.spot_wrong.Reads as reads
 use Rattle.descriptor.proofs.spot_wrong.Lts as lts
 use Rattle.descriptor.proofs.on_side.Reads as on-side-reads
 use Rattle.ieee.proofs.is_finite.Reads as is-finite-reads
-use Rattle.ieee.proofs.round_to_i32.Reads as round-to-i32-reads
+use Rattle.ieee_whole.proofs.round_to_i32.Reads as round-to-i32-reads
 
 is-finite-requires : tie.Need-is-finite-requires
 is-finite-requires c κs = search needs

@@ -9,7 +9,7 @@ use Rattle.descriptor.proofs.turn_at.Tie as tie
 use Rattle.descriptor.proofs.turn_at.Reads as reads
 use Rattle.descriptor.proofs.turn_at.Lts as lts
 use Rattle.descriptor.proofs.cell_at.Reads as cell-at-reads
-use Rattle.ieee.proofs.round_to_i32.Reads as round-to-i32-reads
+use Rattle.ieee_whole.proofs.round_to_i32.Reads as round-to-i32-reads
 use Rattle.descriptor_patch.proofs.patch_of.Reads as patch-of-reads
 
 round-to-i32-requires : tie.Need-round-to-i32-requires

@@ -9,9 +9,9 @@ use Rattle.descriptor_patch.proofs.columns.Statement.{statement}
 use Rattle.descriptor_patch.proofs.columns.Tie as tie
 use Rattle.descriptor_patch.proofs.columns.Reads as reads
 use Rattle.descriptor_patch.proofs.columns.Lts as lts
-use Rattle.ieee.proofs.floor.Reads as floor-reads
-use Rattle.ieee.proofs.floor_to_i32.Reads as floor-to-i32-reads
-use Rattle.ieee.proofs.to_i32.Reads as to-i32-reads
+use Rattle.ieee_whole.proofs.floor.Reads as floor-reads
+use Rattle.ieee_whole.proofs.floor_to_i32.Reads as floor-to-i32-reads
+use Rattle.ieee_whole.proofs.to_i32.Reads as to-i32-reads
 use Rattle.descriptor_patch.proofs.larger.Reads as larger-reads
 use Rattle.descriptor_patch.proofs.less_one.Reads as less-one-reads
 use Rattle.descriptor_patch.proofs.shifted.Reads as shifted-reads

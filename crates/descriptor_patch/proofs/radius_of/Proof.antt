@@ -9,7 +9,7 @@ use Rattle.descriptor_patch.proofs.radius_of.Statement.{statement}
 use Rattle.descriptor_patch.proofs.radius_of.Tie as tie
 use Rattle.descriptor_patch.proofs.radius_of.Reads as reads
 use Rattle.descriptor_patch.proofs.radius_of.Lts as lts
-use Rattle.ieee.proofs.sqrt.Reads as sqrt-reads
+use Rattle.ieee_root.proofs.sqrt.Reads as sqrt-reads
 use Rattle.descriptor_patch.proofs.float.Reads as float-reads
 use Rattle.descriptor_patch.proofs.reach_of.Reads as reach-of-reads
 use Rattle.std.proofs.num.truncating_f32_to_u64.Reads as truncating-f32-to-u64-reads

@@ -15,7 +15,7 @@ use Rattle.descriptor_values.proofs.clamp_all.Tie as tie
 use Rattle.descriptor_values.proofs.clamp_all.Reads as reads
 use Rattle.descriptor_values.proofs.clamp_all.Lts as lts
 use Rattle.bounds.proofs.min.Reads as min-reads
-use Rattle.ieee.proofs.sqrt.Reads as sqrt-reads
+use Rattle.ieee_root.proofs.sqrt.Reads as sqrt-reads
 use Rattle.params.specs.Limits.{valueCount}
 use Rattle.descriptor_values.proofs.nrm2.Reads as nrm2-reads
 

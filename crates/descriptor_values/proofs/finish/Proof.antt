@@ -16,7 +16,7 @@ use Rattle.descriptor_values.proofs.finish.Tie as tie
 use Rattle.descriptor_values.proofs.finish.Reads as reads
 use Rattle.descriptor_values.proofs.finish.Lts as lts
 use Rattle.bounds.proofs.clamp.Reads as clamp-reads
-use Rattle.ieee.proofs.round_ties_even.Reads as round-ties-even-reads
+use Rattle.ieee_whole.proofs.round_ties_even.Reads as round-ties-even-reads
 use Rattle.params.specs.Limits.{valueCount}
 use Rattle.descriptor_values.proofs.scale.Reads as scale-reads
 

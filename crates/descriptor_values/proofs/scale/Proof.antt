@@ -5,7 +5,7 @@ use Rattle.descriptor_values.proofs.scale.Tie as tie
 use Rattle.descriptor_values.proofs.scale.Reads as reads
 use Rattle.descriptor_values.proofs.scale.Lts as lts
 use Rattle.bounds.proofs.max.Reads as max-reads
-use Rattle.ieee.proofs.sqrt.Reads as sqrt-reads
+use Rattle.ieee_root.proofs.sqrt.Reads as sqrt-reads
 use Rattle.descriptor_values.proofs.plain_sum.Reads as plain-sum-reads
 
 -- src/lib.rt:85:36

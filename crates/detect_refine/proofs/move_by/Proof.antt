@@ -14,7 +14,7 @@ use Rattle.detect_refine.proofs.move_by.Statement.{statement}
 use Rattle.detect_refine.proofs.move_by.Tie as tie
 use Rattle.detect_refine.proofs.move_by.Reads as reads
 use Rattle.detect_refine.proofs.move_by.Lts as lts
-use Rattle.ieee.proofs.round_to_i32.Reads as round-to-i32-reads
+use Rattle.ieee_whole.proofs.round_to_i32.Reads as round-to-i32-reads
 use Rattle.detect_refine.proofs.place.Reads as place-reads
 
 cast-place : tie.Need-cast-place

@@ -9,7 +9,7 @@ use Rattle.hal.proofs.magnitude.Lts as lts
 use Rattle.hal.proofs.both_small.Reads as both-small-reads
 use Rattle.hal.proofs.outside.Reads as outside-reads
 use Rattle.ieee.proofs.abs.Reads as abs-reads
-use Rattle.ieee.proofs.length.Reads as length-reads
+use Rattle.ieee_root.proofs.length.Reads as length-reads
 
 abs-requires : tie.Need-abs-requires
 abs-requires c κs = search needs

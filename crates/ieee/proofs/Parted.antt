@@ -1,16 +1,17 @@
 -- A part of an f32, 2 ^ -k of it, is exact where it stays normal, and of a zero: so adding to it rounds once. Assumes nothing.
 use mathlib.Core.Path.{_≡_, refl, sym, ap, _∙_, subst}
 use mathlib.Core.Logic.{_⊎_, inl, inr}
-use mathlib.Core.Bool.{Bool, true, false, _||_, false≢true}
-use Prim.Native.Nat.{ℕ, zero, suc, _+_, _-_, _*_, _^_, _≤_, _<_}
+use mathlib.Core.Bool.{Bool, true, false, not, _&&_, _||_, false≢true}
+use Prim.Native.Nat.{ℕ, zero, suc, _+_, _-_, _*_, _^_, _≤_, _<_, suc-le-suc}
 use native.Mathlib.Nat.{le-trans, le-of-eq, lt-of-lt-of-le, not-le-of-lt, mul-one, mul-pos, zero-lt-suc, zero-mul, mul-assoc, mul-comm, mul-left-comm, mul-lt-mul-of-pos-right, mul-le-mul-left, le-of-mul-le-mul-right}
 use native.Mathlib.Omega.{arith}
-use lib.Dec.{T, lit≤}
+use lib.Dec.{T, leb, eqb, leb→le, eqb→eq}
 use lib.Pow.{pow-add, pow-pos, pow-mono, shl-lt}
-use lib.IntN.{negsuc}
+use lib.IntN.{pos, negsuc}
 use lib.Ieee.{Float, nan, inf, fin, binary32, mul, add, le, eq, fits, ofBits}
 use lib.Ieee.Digits.{back}
 use lib.Ieee.Exact.{HasValue}
+use lib.Ieee.Fits.{and-l, and-r}
 use lib.Ieee.Positive.{positive, above, above-of-le, values-of-le, le-trans-positive}
 use lib.Ieee.Scale.{finite}
 use Rattle.lists.proofs.Naturals.{le-or-lt}
@@ -102,17 +103,30 @@ module _ (a w c b : Float) (held : T (fits binary32 a)) (B : Bound b) (k : ℕ) 
   part true f = at-number (split32 a held f) f
   part false f = fma-left binary32 a w c f
 
--- ---- a quarter, and a sixteenth
-quarter : (w : Float) → eq w (ofBits binary32 1048576000) ≡ true → HasValue w false 1 (2 ^ 2)
-unfolding ofBits
-quarter w e = power-of w 1 e
+-- ---- a weight that makes such a part: a half to a sixteenth
+unfoldable pub weight : Float → Bool
+weight nan = false
+weight (inf s) = false
+weight (fin s m (pos k)) = false
+weight (fin s m (negsuc k)) = not s && eqb m 1 && leb k 3
 
-sixteenth : (w : Float) → eq w (ofBits binary32 1031798784) ≡ true → HasValue w false 1 (2 ^ 4)
-unfolding ofBits
-sixteenth w e = power-of w 3 e
+pub record Weighs (w : Float) : Type 0 where
+  pub k : ℕ
+  pub few : k ≤ 4
+  pub value : HasValue w false 1 (2 ^ k)
 
-pub part-once : (a w c b : Float) → T (fits binary32 a) → Bound b → (eq w (ofBits binary32 1048576000) || eq w (ofBits binary32 1031798784)) ≡ true → (le b a || eq a (ofBits binary32 0)) ≡ true → add binary32 (mul binary32 a w) c ≡ fma binary32 a w c
-part-once a w c b held B h test = elim (either (eq w (ofBits binary32 1048576000)) (eq w (ofBits binary32 1031798784)) h) [
-  | inl e ↦ part a w c b held B 2 (lit≤ tt) (quarter w e) test (finite a) refl
-  | inr e ↦ part a w c b held B 4 (lit≤ tt) (sixteenth w e) test (finite a) refl
-]
+weighs : (w b : Float) → T (weight b) → eq w b ≡ true → Weighs w
+unfolding weight
+weighs w nan h e = absurd h
+weighs w (inf s) h e = absurd h
+weighs w (fin s m (pos k)) h e = absurd h
+weighs w (fin true m (negsuc k)) h e = absurd h
+weighs w (fin false m (negsuc k)) h e =
+    let one : m ≡ 1 = eqb→eq m 1 (and-l (eqb m 1) (leb k 3) h) in
+    record { k = suc k; few = suc-le-suc (leb→le k 3 (and-r (eqb m 1) (leb k 3) h)); value = power-of w k (subst (λ (n : ℕ). eq w (fin false n (negsuc k)) ≡ true) one e) }
+
+pub part-once : (a w c b u v : Float) → T (fits binary32 a) → Bound b → T (weight u) → T (weight v) → (eq w u || eq w v) ≡ true → (le b a || eq a (ofBits binary32 0)) ≡ true → add binary32 (mul binary32 a w) c ≡ fma binary32 a w c
+part-once a w c b u v held B p q h test = elim (either (eq w u) (eq w v) h) [ inl e ↦ at (weighs w u p e) | inr e ↦ at (weighs w v q e) ]
+  where
+    at : Weighs w → add binary32 (mul binary32 a w) c ≡ fma binary32 a w c
+    at W = part a w c b held B (W .k) (W .few) (W .value) test (finite a) refl

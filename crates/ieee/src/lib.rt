@@ -30,7 +30,7 @@ fn is_finite64(v: f64) -> bool
 // lost is too little to bring it to a middle. 0x3810.. is 2^-126 (field 1023 - 126 = 0x381), 0x47f0.. is 2^128 (field 1023 + 128 = 0x47f). Of 53 digits 24 stay, so that
 // 29 go: 0x2000_0000 = 2^29, and the middle is 0x1000_0000 = 2^28.
 fn rounds_once(n: u64) -> bool
-    ensures { λ r. ⌜ (r ≡ true → RoundsOnce n) ⌝ }
+    ensures { λ r. ⌜ (r ≡ true → RoundsOnce n) × (RoundsOnce n → r ≡ true) ⌝ }
 {
     let m = n % 0x8000_0000_0000_0000;
     if m >= 0x3810_0000_0000_0000 {

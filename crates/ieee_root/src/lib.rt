@@ -2,10 +2,10 @@
 // A guess answers for the common case, and an exact test accepts it. Where that cannot answer, the general path takes the root of the whole significand in a u64, and
 // rounds once, in `packing::pack`.
 ghost use mathlib.Core.Path.{_≡_};
-ghost use mathlib.Core.Bool.{true};
+ghost use mathlib.Core.Bool.{true, _&&_};
 ghost use Prim.Native.Nat.{_+_, _*_, _^_, _<_, _≤_};
 ghost use lib.Ieee.{binary32, binary64, ofBits};
-ghost use lib.Dec.{T};
+ghost use lib.Dec.{T, ltb, leb};
 ghost use lib.Ieee.Scale.{finite};
 ghost use lib.Ieee.Positive.{positive};
 ghost use Rattle.ieee.specs.Root.{sqrt};
@@ -203,7 +203,7 @@ fn cubic_at(cubics: &[f64; 256], i: usize, a: f64) -> f64
 // Whether k is the nearest to the root of a: a lies above k^2 - k and not above k^2 + k, as in `checked_root`, in one comparison. A difference below zero wraps, and is large.
 fn is_nearest(a: u64, k: u64) -> bool
     requires { ⌜ (0 < a) × (a < 2 ^ 48) × (k < 2 ^ 25) ⌝ }
-    ensures { λ r. ⌜ (r ≡ true → (k * k < a + k) × (a ≤ k * k + k)) ⌝ }
+    ensures { λ r. ⌜ r ≡ (ltb (k * k) (a + k) && leb a (k * k + k)) ⌝ }
 {
     std::num::wrapping_sub_u64(a + k - 1, k * k) < 2 * k
 }

@@ -2,8 +2,8 @@
 use mathlib.Core.Path.{_≡_, sym, subst}
 use mathlib.Core.Bool.{Bool, true, _||_}
 use lib.Dec.{T}
-use lib.Ieee.{Float, ofBits, le}
-use Rattle.ieee.proofs.Parted.{Bound, least, part-once}
+use lib.Ieee.{Float, ofBits, le, eq}
+use Rattle.ieee.proofs.Parted.{Bound, least, weight, part-once}
 use borrow.Author.Needs.{needs}
 use Rattle.ieee.proofs.add_part.Statement.{statement}
 use Rattle.ieee.proofs.add_part.Tie as tie
@@ -19,11 +19,32 @@ bound : (c : tie.Then2) → Bound (tested c)
 unfolding left ofBits le least
 bound c = record { number = tt; enough = tt }
 
+-- the two weights that it tests
+first : (w u v : Float) → (eq w u || eq w v) ≡ true → Float
+first w u v h = u
+
+second : (w u v : Float) → (eq w u || eq w v) ≡ true → Float
+second w u v h = v
+
+abbrev one : tie.Then2 → Float
+one c = first _ _ _ (c .before .if1 .taken)
+
+abbrev other : tie.Then2 → Float
+other c = second _ _ _ (c .before .if1 .taken)
+
+one-weighs : (c : tie.Then2) → T (weight (one c))
+unfolding first ofBits weight
+one-weighs c = tt
+
+other-weighs : (c : tie.Then2) → T (weight (other c))
+unfolding second ofBits weight
+other-weighs c = tt
+
 returns : tie.Need-returns
-unfolding left
+unfolding left first second
 returns c =
     let s = c .before .before in
-    part-once (s .args .a) (s .args .w) (s .args .c) (tested c) (subst T (sym (s .good .0 .1)) tt) (bound c) (c .before .if1 .taken) (c .if2 .taken)
+    part-once (s .args .a) (s .args .w) (s .args .c) (tested c) (one c) (other c) (subst T (sym (s .good .0 .1)) tt) (bound c) (one-weighs c) (other-weighs c) (c .before .if1 .taken) (c .if2 .taken)
 
 mul-add-requires : tie.Need-mul-add-requires
 mul-add-requires c κs = search needs

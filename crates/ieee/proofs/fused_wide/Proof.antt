@@ -41,7 +41,7 @@ returns : tie.Need-returns
 returns c =
     let d = c .before .before in
     let s = d .before .before .before in
-    let k = c .before .rounds-once .ensures (c .if2 .taken) in
+    let k = c .before .rounds-once .ensures .0 (c .if2 .taken) in
     record {
       once = λ h. k;
       right = λ h. fused-narrow (s .args .a) (s .args .b) (s .args .c) (A s) (B s) (C s) (sym (d .before .before .is-finite .ensures) ∙ d .before .if1 .taken) (d .wide-fma .result) (d .wide-fma .ensures) k;

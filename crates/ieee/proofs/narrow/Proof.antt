@@ -31,7 +31,7 @@ rounds-once-requires : tie.Need-rounds-once-requires
 rounds-once-requires c κs = search needs
 
 narrow-once-requires : tie.Need-narrow-once-requires
-narrow-once-requires c κs = c .before .rounds-once .ensures (c .if2 .taken)
+narrow-once-requires c κs = c .before .rounds-once .ensures .0 (c .if2 .taken)
 
 returns : tie.Need-returns
 returns c = let s = c .before .before .before .before .before in both _ _ (c .narrow-once .ensures ∙ ap (convert binary32) (ofBits-toBits binary64 (s .args .x) (held s)))

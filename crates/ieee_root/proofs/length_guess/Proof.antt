@@ -1,17 +1,24 @@
 -- `length_guess` meets its contract: digits that pass the test are the root. Assumes nothing.
-use mathlib.Core.Path.{sym, ap, _∙_, subst}
+use mathlib.Core.Path.{_≡_, sym, ap, _∙_, subst}
+use mathlib.Core.Bool.{Bool, true, _&&_}
 use Prim.Native.Nat.{ℕ, _+_, _*_, _/_, _%_, _^_, _≤_, _<_}
 use native.Mathlib.Nat.{lt-of-le-of-lt, mod-lt}
 use native.Mathlib.Omega.{arith}
-use lib.Dec.{lit<}
+use lib.Dec.{T, ltb, leb, ltb→lt, leb→le, lit<}
 use lib.Pow.{pow-pos}
 use lib.Ieee.{binary64, toBits}
+use lib.Ieee.Fits.{and-l, and-r}
 use Rattle.packing.proofs.Fields.{finite-no-nan}
 use Rattle.ieee_root.specs.Mild.{small}
 use Rattle.ieee_root.proofs.Digits.{digits-small, radicand-lt, radicand-pos, guessed, no-root}
 use borrow.Author.Needs.{needs}
 use Rattle.ieee_root.proofs.length_guess.Statement.{statement}
 use Rattle.ieee_root.proofs.length_guess.Tie as tie
+
+tested : (a k : ℕ) (r : Bool) → r ≡ (ltb (k * k) (a + k) && leb a (k * k + k)) → r ≡ true → (k * k < a + k) × (a ≤ k * k + k)
+tested a k r e h =
+    let t : T (ltb (k * k) (a + k) && leb a (k * k + k)) = subst T (sym (sym e ∙ h)) tt in
+    (ltb→lt (k * k) (a + k) (and-l (ltb (k * k) (a + k)) (leb a (k * k + k)) t), leb→le a (k * k + k) (and-r (ltb (k * k) (a + k)) (leb a (k * k + k)) t))
 
 returns : tie.Need-returns
 returns c =
@@ -20,7 +27,7 @@ returns c =
     let t = d .before .before .before .before in
     let n = t .before .raised-sum in
     let k = toBits binary64 (d .before .before .cubic-at .result) % 2 ^ 25 in
-    let w = subst (λ (m : ℕ). (k * k < m + k) × (m ≤ k * k + k)) (a .ensures) (d .is-nearest .ensures (c .before .if2 .taken)) in
+    let w = subst (λ (m : ℕ). (k * k < m + k) × (m ≤ k * k + k)) (a .ensures) (tested (a .result) k (d .is-nearest .result) (d .is-nearest .ensures) (c .before .if2 .taken)) in
     guessed _ (n .result) k (n .ensures) (t .if1 .taken) (λ z. omega (arith, z, c .if3 .taken)) (w .0) (w .1)
 
 raised-sum-requires : tie.Need-raised-sum-requires

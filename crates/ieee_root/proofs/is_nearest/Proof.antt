@@ -41,7 +41,7 @@ returns c =
     let a = c .before .args .a in
     let k = c .before .args .k in
     let d = c .wrapping-sub-u64 in
-    one-test a k (k * k) (d .result) (c .before .pre) (square-lt k (c .before .pre .2)) (omega arith) (d .ensures) (ltb (d .result) (2 * k)) (ltb (k * k) (a + k)) refl refl
+    one-test a k (k * k) (d .result) (c .before .pre) (square-lt k (c .before .pre .2)) (omega arith) (omega (arith, d .ensures)) (ltb (d .result) (2 * k)) (ltb (k * k) (a + k)) refl refl
 
 pub is-nearest-spec : {M : Type 1} → statement M
 is-nearest-spec =

@@ -1,5 +1,6 @@
 #!/usr/bin/env python3
-"""The tables of the routines, as code and as definitions: crates/hal/src/{pairs,cubics,turns}.rt and crates/hal/specs/{Cubics,Turns}.antt.
+"""The tables of the routines, as code and as definitions: crates/hal/src/pairs.rt, crates/hal_angle/src/{cubics,turns}.rt and
+crates/hal_angle/specs/{Cubics,Turns}.antt.
 
     python3 host/vectors/tables.py      (in the repository; Python 3.9 or later, mpmath 1.3; then rt fmt)
 
@@ -75,13 +76,13 @@ def plain(x, single):
     raise ValueError(x)
 
 
-def code(name, comment, constant, kind, numbers):
+def code(path, constant, kind, numbers):
     rows = ''.join(f'    {n},\n' for n in numbers)
-    open(f'crates/hal/src/{name}.rt', 'w').write(f'{comment}pub const {constant}: [{kind}; {len(numbers)}] = [\n{rows}];\n')
+    head = ''.join(line for line in open(path) if line.startswith('//'))
+    open(path, 'w').write(f'{head}pub const {constant}: [{kind}; {len(numbers)}] = [\n{rows}];\n')
 
 
-def definition(name, numbers, wide):
-    path = f'crates/hal/specs/{name}.antt'
+def definition(path, numbers, wide):
     text = open(path).read()
     start = text.index('=\n') + 2
     end = text.index('∷ []\n', start) + len('∷ []\n')
@@ -89,12 +90,8 @@ def definition(name, numbers, wide):
     open(path, 'w').write(f'{text[:start]}    {rows} ∷ []\n{text[end:]}')
 
 
-def comment(path):
-    return ''.join(line for line in open(path) if line.startswith('//'))
-
-
-code('pairs', comment('crates/hal/src/pairs.rt'), 'PAIRS', 'u32', PAIRS)
-code('cubics', comment('crates/hal/src/cubics.rt'), 'CUBICS', 'f64', [plain(x, False) for x in CUBICS])
-code('turns', comment('crates/hal/src/turns.rt'), 'TURNS', 'f32', [plain(x, True) for x in TURNS])
-definition('Cubics', [f'f64 0x{bits64(x):016x}' for x in CUBICS], 6)
-definition('Turns', [f'f32 0x{bits32(x):08x}' for x in TURNS], 8)
+code('crates/hal/src/pairs.rt', 'PAIRS', 'u32', PAIRS)
+code('crates/hal_angle/src/cubics.rt', 'CUBICS', 'f64', [plain(x, False) for x in CUBICS])
+code('crates/hal_angle/src/turns.rt', 'TURNS', 'f32', [plain(x, True) for x in TURNS])
+definition('crates/hal_angle/specs/Cubics.antt', [f'f64 0x{bits64(x):016x}' for x in CUBICS], 6)
+definition('crates/hal_angle/specs/Turns.antt', [f'f32 0x{bits32(x):08x}' for x in TURNS], 8)

@@ -20,8 +20,8 @@ ghost use Rattle.bargeclover.specs.Given.{settingsOf, shapeOf, sizeOf, s
 ghost use Rattle.words.specs.Inputs.{inputsNumber, inputsLeft};
 ghost use Rattle.hal.specs.Exp.{exp2Of, expOf};
 ghost use Rattle.hal.specs.Turn.{sinOf, cosOf};
-ghost use Rattle.hal.specs.Angle.{angleOf};
-ghost use Rattle.hal.specs.Magnitude.{magnitudeOf};
+ghost use Rattle.hal_angle.specs.Angle.{angleOf};
+ghost use Rattle.hal_angle.specs.Magnitude.{magnitudeOf};
 use descriptor::Spot;
 use params::Settings;
 use picture::Shape;
@@ -61,14 +61,14 @@ pub extern "C" fn bargeclover_cos(degrees: u32) -> u32
 pub extern "C" fn bargeclover_angle(dx: u32, dy: u32) -> u32
     ensures { λ r. ⌜ r ≡ bitsOf (angleOf (f32 dx) (f32 dy)) ⌝ }
 {
-    ieee::bits_of(hal::angle(ieee::of_bits(dx), ieee::of_bits(dy)))
+    ieee::bits_of(hal_angle::angle(ieee::of_bits(dx), ieee::of_bits(dy)))
 }
 
 #[no_mangle]
 pub extern "C" fn bargeclover_magnitude(dx: u32, dy: u32) -> u32
     ensures { λ r. ⌜ r ≡ bitsOf (magnitudeOf (f32 dx) (f32 dy)) ⌝ }
 {
-    ieee::bits_of(hal::magnitude(ieee::of_bits(dx), ieee::of_bits(dy)))
+    ieee::bits_of(hal_angle::magnitude(ieee::of_bits(dx), ieee::of_bits(dy)))
 }
 
 // ---- single operations

@@ -105,9 +105,9 @@ fn spot_of(
     let s = l.sample;
     let r = l.row;
     let c = l.col;
-    let m = hal::magnitude_in(cubics, s.dx, s.dy) * hal::exp_in(pairs, s.fall);
+    let m = hal_angle::magnitude_in(cubics, s.dx, s.dy) * hal::exp_in(pairs, s.fall);
     // 8 / 360 slots a degree
-    let o = split_of((hal::angle_in(turns, s.dx, s.dy) - angle) * 0.022222223);
+    let o = split_of((hal_angle::angle_in(turns, s.dx, s.dy) - angle) * 0.022222223);
     Spot {
         row: ((r.bits + 1) % 64) as usize,
         col: ((c.bits + 1) % 64) as usize,

@@ -14,11 +14,12 @@ use Rattle.ieee.specs.Numbers.{nought, one}
 use Rattle.ieee_laws.proofs.Order.{lt-le}
 use Rattle.ieee_laws.proofs.Monotone.{nil}
 use Rattle.ieee_laws.proofs.Bounds.{Bounds, bounds-point, sub-bounds}
-use Rattle.hal.specs.Angle.{inAngle}
+use Rattle.hal_angle.specs.Angle.{inAngle}
 use Rattle.hal.specs.Exp.{inDown, expOf}
-use Rattle.hal.specs.Magnitude.{magnitudeOf}
+use Rattle.hal_angle.specs.Magnitude.{magnitudeOf}
 use Rattle.hal.specs.Rules.{In}
-use Rattle.hal.proofs.Rules.{exp-rule, magnitude-rule}
+use Rattle.hal.proofs.Rules.{exp-rule}
+use Rattle.hal_angle.proofs.Rules.{magnitude-rule}
 use Rattle.lists.specs.Each.{Each}
 use Rattle.descriptor_patch.specs.declared.Sample.{Sample}
 use Rattle.descriptor_values.specs.Places.{places}

@@ -24,9 +24,8 @@ use Rattle.lists.specs.Ranges.{joined}
 use Rattle.lists.proofs.Ranges.{joined-more}
 use Rattle.params.specs.Limits.{sampleLimit, scaleLow, scaleHigh}
 use Rattle.params.specs.Table.{within, goodSample, allGood}
-use Rattle.hal.specs.Numbers.{minus32, furthest}
+use Rattle.hal.specs.Numbers.{minus32}
 use Rattle.hal.specs.Exp.{inDown}
-use Rattle.hal.specs.Angle.{small, inAngle}
 use Rattle.lists.specs.Each.{Each}
 use Rattle.lists.proofs.Each.{each-one, each-when, each-joined}
 use Rattle.picture.specs.Picture.{pixel, slopeAt, fourAt}

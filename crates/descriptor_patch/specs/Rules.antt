@@ -7,7 +7,7 @@ use lib.Ieee.{Float}
 use Rattle.params.specs.Limits.{scaleLow, scaleHigh}
 use Rattle.params.specs.Table.{within, allGood}
 use Rattle.hal.specs.Exp.{inDown}
-use Rattle.hal.specs.Angle.{inAngle}
+use Rattle.hal_angle.specs.Angle.{inAngle}
 use Rattle.lists.specs.Each.{Each}
 use Rattle.picture.specs.Picture.{fourAt, firstIn, pastIn}
 use Rattle.picture.specs.declared.Size.{Size}

@@ -5,51 +5,41 @@ use Prim.Native.Nat.{ℕ, _+_, _-_, _*_, _^_, _≤_, _<_}
 use native.Mathlib.Nat.{mul-pos}
 use native.Mathlib.Numerals.{add-one}
 use native.Mathlib.Omega.{arith}
-use lib.IntN.{pos, negsuc}
+use lib.IntN.{pos}
 use lib.ListN.{length}
 use lib.Dec.{T, ltb→lt, lt→ltb}
-use lib.Ieee.{Float, nan, inf, fin, binary32, binary64, up, down, lt, le, eq, neg, mul, add, sub, round, toUnsigned, ofInt, ofBits, fits}
+use lib.Ieee.{Float, nan, inf, fin, binary32, binary64, up, down, lt, le, neg, mul, add, sub, round, toUnsigned, ofInt, ofBits, fits}
 use lib.Ieee.Exact.{HasValue}
-use lib.Ieee.Fits.{cond-fits, nan-fits, neg-fits, add-fits, mul-fits, up-pos}
+use lib.Ieee.Fits.{cond-fits, nan-fits, neg-fits, mul-fits, up-pos}
 use lib.Ieee.Positive.{positive, between}
-use Rattle.ieee.specs.F32.{_⊗_, fused}
 use Rattle.ieee_laws.specs.Sign.{Same}
-use Rattle.ieee.proofs.Held.{fma-fits, sqrt-fits}
 use Rattle.ieee_laws.proofs.Turned.{le-turned, add-turned, mul-turned}
 use Rattle.ieee_laws.proofs.TurnedOps.{same, toUnsigned-same}
-use Rattle.ieee.specs.Numbers.{nought, one, minusOne, two, four, eighthTurn, quarterTurn, halfTurn, threeQuarterTurn, wholeTurn}
-use Rattle.hal.specs.Numbers.{minus32, lastAngle, furthest, threeEighthTurn, fiveEighthTurn, sevenEighthTurn, steps63, minusSteps63, shift}
+use Rattle.ieee.specs.Numbers.{nought, one, minusOne, two, four, quarterTurn, halfTurn, threeQuarterTurn, wholeTurn}
+use Rattle.hal.specs.Numbers.{minus32}
 use Rattle.hal.specs.Powers.{powers, entryOf}
 use Rattle.hal.specs.Exp.{scaledOf, powerOf, fixedOf, inUp, upStart, upRate, upField, exp2Of, inDown, downStart, downRate, downField, expOf}
 use Rattle.hal.specs.Turn.{holdOf, negatedOf, quarterSineOf, inTurn, sinOf, cosOf}
-use Rattle.hal.specs.Angle.{lesserOf, greaterOf, quarterOf, lineOf, alongOf, directionOf, sumOf, aheadOf, inAngle, angleOf}
-use Rattle.hal.specs.Magnitude.{magnitudeOf}
-use Rattle.hal.specs.Rules.{In, TableRule, Exp2Rule, ExpRule, SineRule, CosineRule, AngleRule, MagnitudeRule, startOf, endOf}
+use Rattle.hal.specs.Rules.{In, TableRule, Exp2Rule, ExpRule, SineRule, CosineRule}
 use Rattle.hal.proofs.Entries.{entry-rule}
 use Rattle.hal.proofs.Range.{Within, ge-of, le-of}
 use Rattle.hal.proofs.ExpLaws.{entry-after, exp2-between, exp2-at, entry-value, exp2-within, exp-within, exp-least, exp-at-zero}
 use Rattle.hal.proofs.TurnLaws.{sin-in, cos-in, sin-quarters, cos-quarters}
-use Rattle.hal.proofs.AngleLaws.{by-sum, direction-in, angle-least, angle-below}
-use Rattle.hal.proofs.AngleValues.{small-dx, small-dy, none-num}
-use Rattle.hal.proofs.AngleUnits.{level-none}
-use Rattle.hal.proofs.AngleAxes.{angle-east, angle-north, angle-west, angle-south, angle-none}
-use Rattle.hal.proofs.AngleDoubled.{angle-double}
-use Rattle.hal.proofs.MagnitudeLaws.{magnitude-is, magnitude-within, magnitude-none}
 
 -- ---- the named numbers are what their pages say
-pub named : (nought ≡ fin false 0 (pos 0)) × (one ≡ fin false 1 (pos 0)) × (minusOne ≡ fin true 1 (pos 0)) × (two ≡ fin false 1 (pos 1)) × (four ≡ fin false 1 (pos 2)) × (minus32 ≡ fin true 1 (pos 5)) × (eighthTurn ≡ fin false 45 (pos 0)) × (quarterTurn ≡ fin false 45 (pos 1)) × (halfTurn ≡ fin false 45 (pos 2)) × (threeQuarterTurn ≡ fin false 135 (pos 1)) × (wholeTurn ≡ fin false 45 (pos 3)) × (lastAngle ≡ fin false 11796479 (negsuc 14)) × (furthest ≡ fin false 1 (pos 21)) × (threeEighthTurn ≡ fin false 135 (pos 0)) × (fiveEighthTurn ≡ fin false 225 (pos 0)) × (sevenEighthTurn ≡ fin false 315 (pos 0)) × (steps63 ≡ fin false 63 (pos 0)) × (minusSteps63 ≡ fin true 63 (pos 0)) × (shift ≡ fin false 12582975 (pos 0))
+pub named : (nought ≡ fin false 0 (pos 0)) × (one ≡ fin false 1 (pos 0)) × (minusOne ≡ fin true 1 (pos 0)) × (two ≡ fin false 1 (pos 1)) × (four ≡ fin false 1 (pos 2)) × (minus32 ≡ fin true 1 (pos 5)) × (quarterTurn ≡ fin false 45 (pos 1)) × (halfTurn ≡ fin false 45 (pos 2)) × (threeQuarterTurn ≡ fin false 135 (pos 1)) × (wholeTurn ≡ fin false 45 (pos 3))
 unfolding ofBits
-named = (refl, refl, refl, refl, refl, refl, refl, refl, refl, refl, refl, refl, refl, refl, refl, refl, refl, refl, refl)
+named = (refl, refl, refl, refl, refl, refl, refl, refl, refl, refl)
 
 -- ---- where exp's exponent starts and where it ends, as docs/ROUTINES.md says
 pub down-ends : (fixedOf downStart downRate minus32 ≡ 1790483156) × (fixedOf downStart downRate nought ≡ 47 * 2147483648)
 unfolding fixedOf toUnsigned add mul round ofBits
 down-ends = (refl, refl)
 
-in-of : (z lo hi : Float) (a b : ℕ) → HasValue lo false a 1 → HasValue hi false b 1 → Within a b z → In lo hi z
+pub in-of : (z lo hi : Float) (a b : ℕ) → HasValue lo false a 1 → HasValue hi false b 1 → Within a b z → In lo hi z
 in-of z lo hi a b h k w = record { least = ge-of z lo a b w h; most = le-of z hi a b w k }
 
-otherwise : (b : Bool) (x : Float) → b ≡ false → cond b x nan ≡ nan
+pub otherwise : (b : Bool) (x : Float) → b ≡ false → cond b x nan ≡ nan
 otherwise b x e = simp e
 
 -- ---- the table
@@ -179,83 +169,6 @@ cosine-rule = record {
   at-360 = cos-quarters .4;
   outside = cos-outside;
   held = cos-fits;
-}
-
--- ---- the angle
-along-fits : (middle u : Float) → T (fits binary32 (alongOf middle u))
-unfolding alongOf lineOf
-along-fits middle u = add-fits binary32 _ _
-
-held-fits : (lo hi q : Float) → T (fits binary32 lo) → T (fits binary32 hi) → T (fits binary32 q) → T (fits binary32 (lesserOf (greaterOf lo q) hi))
-held-fits lo hi q l h k = cond-fits binary32 (lt (greaterOf lo q) hi) (greaterOf lo q) hi (cond-fits binary32 (lt lo q) q lo k l) h
-
-ends-fit : (left down : Bool) → T (fits binary32 (quarterOf left down .least)) × T (fits binary32 (quarterOf left down .largest))
-unfolding fits ofBits
-ends-fit false false = (tt, tt)
-ends-fit true false = (tt, tt)
-ends-fit true true = (tt, tt)
-ends-fit false true = (tt, tt)
-
-direction-fits : (left down : Bool) (ahead : Float) → T (fits binary32 (directionOf (quarterOf left down) ahead))
-unfolding directionOf
-direction-fits left down ahead =
-    let q = quarterOf left down in
-    held-fits (q .least) (q .largest) (alongOf (q .middle) (mul binary32 ahead (q .steps))) (ends-fit left down .0) (ends-fit left down .1) (along-fits (q .middle) (mul binary32 ahead (q .steps)))
-
-angle-fits : (dx dy : Float) → T (fits binary32 (angleOf dx dy))
-unfolding angleOf ofBits
-angle-fits dx dy =
-    cond-fits binary32 (inAngle dx dy) _ nan (cond-fits binary32 (lt nought (sumOf dx dy)) (directionOf (quarterOf (lt dx nought) (lt dy nought)) (aheadOf dx dy)) nought (direction-fits (lt dx nought) (lt dy nought) (aheadOf dx dy)) (unfold fits in tt)) (nan-fits binary32)
-
-angle-outside : (dx dy : Float) → inAngle dx dy ≡ false → angleOf dx dy ≡ nan
-unfolding angleOf
-angle-outside dx dy e = otherwise (inAngle dx dy) _ e
-
-nought-first : In (startOf false false) (endOf false false) nought
-unfolding le lt eq ofBits
-nought-first = record { least = tt; most = tt }
-
-angle-quarters : (dx dy : Float) → T (fits binary32 dx) → T (fits binary32 dy) → T (inAngle dx dy) → In (startOf (lt dx nought) (lt dy nought)) (endOf (lt dx nought) (lt dy nought)) (angleOf dx dy)
-angle-quarters dx dy fx fy h =
-    by-sum (In (startOf (lt dx nought) (lt dy nought)) (endOf (lt dx nought) (lt dy nought))) dx dy h
-    (λ e.
-    let n = level-none dx dy fx fy h e in
-    subst (λ (b : Bool). In (startOf b (lt dy nought)) (endOf b (lt dy nought)) nought) (sym (none-num dx (small-dx dx dy h) (n .0) .sign))
-    (subst (λ (b : Bool). In (startOf false b) (endOf false b) nought) (sym (none-num dy (small-dy dx dy h) (n .1) .sign)) nought-first))
-    (λ e. direction-in (lt dx nought) (lt dy nought) (aheadOf dx dy))
-
-pub angle-rule : AngleRule
-angle-rule = record {
-  least = angle-least;
-  below = angle-below;
-  quarters = angle-quarters;
-  east = angle-east;
-  north = λ dx dy fx fy h. angle-north dx dy h fx fy;
-  west = λ dx dy fx fy h. angle-west dx dy h fx fy;
-  south = λ dx dy fx fy h. angle-south dx dy h fx fy;
-  none = angle-none;
-  doubled = angle-double;
-  outside = angle-outside;
-  held = angle-fits;
-}
-
--- ---- the magnitude
-magnitude-fits : (dx dy : Float) → T (fits binary32 (magnitudeOf dx dy))
-unfolding magnitudeOf
-magnitude-fits dx dy = cond-fits binary32 (inAngle dx dy) _ nan (sqrt-fits binary32 (fused dx dx (dy ⊗ dy)) (fma-fits binary32 dx dx (dy ⊗ dy))) (nan-fits binary32)
-
-magnitude-outside : (dx dy : Float) → inAngle dx dy ≡ false → magnitudeOf dx dy ≡ nan
-unfolding magnitudeOf
-magnitude-outside dx dy e = otherwise (inAngle dx dy) _ e
-
-pub magnitude-rule : MagnitudeRule
-unfolding ofBits
-magnitude-rule = record {
-  root = magnitude-is;
-  within = λ dx dy h. in-of (magnitudeOf dx dy) nought (fin false 1 (pos 22)) 0 4194304 (refl, refl) (refl, refl) (magnitude-within dx dy h);
-  none = magnitude-none;
-  outside = magnitude-outside;
-  held = magnitude-fits;
 }
 
 -- ---- the sign of a zero is free: where two numbers are the same, so is exp2 of them

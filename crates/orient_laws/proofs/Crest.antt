@@ -20,7 +20,7 @@ use Rattle.ieee.specs.Numbers.{half, two}
 use Rattle.ieee_laws.proofs.Monotone.{nil}
 use Rattle.ieee_laws.proofs.Order.{round-marked}
 use Rattle.ieee_laws.proofs.Bounds.{Bounds, bounds-finite, marked-nonneg}
-use Rattle.hal.proofs.AngleValues.{div-value}
+use Rattle.hal_angle.proofs.AngleValues.{div-value}
 use Rattle.orient_laws.proofs.Near.{Near, near, near-value, divisor}
 use Rattle.orient_laws.proofs.Units.{At, Units, sub-units, at-value, value-at, at-less}
 

@@ -21,10 +21,11 @@ use Rattle.ieee_laws.proofs.Level.{eq-both, sub-finite, sub-level}
 use Rattle.lists.proofs.Ranges.{joined-empty}
 use Rattle.params.specs.Table.{firstFault, line, shapeWrong, lengthWrong}
 use Rattle.detect_refine.specs.declared.RawKeypoint.{RawKeypoint}
-use Rattle.hal.specs.Angle.{small, inAngle}
+use Rattle.hal_angle.specs.Angle.{inReach, inAngle}
 use Rattle.hal.specs.Rules.{In}
-use Rattle.hal.proofs.AngleValues.{small-nan, small-inf}
-use Rattle.hal.proofs.Rules.{exp-rule, magnitude-rule}
+use Rattle.hal_angle.proofs.AngleValues.{reach-nan, reach-inf}
+use Rattle.hal.proofs.Rules.{exp-rule}
+use Rattle.hal_angle.proofs.Rules.{magnitude-rule}
 use Rattle.lists.specs.Each.{Each, none}
 use Rattle.lists.proofs.Each.{each-one, each-at, each-when, each-joined}
 use Rattle.picture.specs.Picture.{pixel, slopeAt}
@@ -116,14 +117,14 @@ module _ (b : List Float) (f : Filled nil b) where
   unfolding anglesOf anglesIn peakOf
   no-angle = joined-empty 0 bins _ (λ j. rw (level-bins (leastOf (smoothed b)) j))
 
-small-finite : (x : Float) → small (absOf x) ≡ true → finite x ≡ true
-small-finite nan h = absurd (small-nan (is-T _ h))
-small-finite (inf s) h = absurd (small-inf s (is-T _ h))
-small-finite (fin s m e) h = refl
+reach-finite : (x : Float) → inReach (absOf x) ≡ true → finite x ≡ true
+reach-finite nan h = absurd (reach-nan (is-T _ h))
+reach-finite (inf s) h = absurd (reach-inf s (is-T _ h))
+reach-finite (fin s m e) h = refl
 
 -- two that equal the same number have the difference 0, where it is in the angle's range
-level-pair : (x y v : Float) → small (absOf (x ⊖ y)) ≡ true → eq x v ≡ true → eq y v ≡ true → eq (x ⊖ y) nought ≡ true
-level-pair x y v r p q = rw (zero-is binary32) (sub-level binary32 x y (sub-finite binary32 x y (small-finite (x ⊖ y) r)) (eq-both x y v p q))
+level-pair : (x y v : Float) → inReach (absOf (x ⊖ y)) ≡ true → eq x v ≡ true → eq y v ≡ true → eq (x ⊖ y) nought ≡ true
+level-pair x y v r p q = rw (zero-is binary32) (sub-level binary32 x y (sub-finite binary32 x y (reach-finite (x ⊖ y) r)) (eq-both x y v p q))
 
 -- ---- accepted arguments
 in-bounds : {lo hi r : Float} → finite lo ≡ true → finite hi ≡ true → In lo hi r → Bounds lo hi r
@@ -227,7 +228,7 @@ module _ (img : List Float) (s : Size) (k : RawKeypoint) (fine : orientFault img
         let down = p .down in
         let left = p .left in
         let right = p .right in
-        let q = and-both (small (absOf (pixel img w y (x + 1) ⊖ pixel img w y (x - 1)))) (small (absOf (pixel img w (y - 1) x ⊖ pixel img w (y + 1) x))) r in
+        let q = and-both (inReach (absOf (pixel img w y (x + 1) ⊖ pixel img w y (x - 1)))) (inReach (absOf (pixel img w (y - 1) x ⊖ pixel img w (y + 1) x))) r in
         record {
           dx = level-pair _ _ v (q .0) (at y (x + 1) (omega arith) right) (at y (x - 1) (omega arith) (omega arith));
           dy = level-pair _ _ v (q .1) (at (y - 1) x (omega arith) (omega arith)) (at (y + 1) x down (omega arith));

@@ -19,7 +19,7 @@ use Rattle.ieee.proofs.SignedParts.{plus, minus}
 use Rattle.ieee_laws.proofs.Order.{le-fin, lt-fin}
 use Rattle.ieee.proofs.SignedParts.{summed}
 use Rattle.ieee_laws.proofs.Monotone.{nil}
-use Rattle.hal.proofs.AngleDoubled.{fits-parts}
+use Rattle.hal_angle.proofs.AngleDoubled.{fits-parts}
 
 -- x is X / 2 ^ 149; a zero may have a sign
 pub record At (x : Float) (X : ℕ) : Type 0 where

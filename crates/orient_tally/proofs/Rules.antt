@@ -29,7 +29,7 @@ use Rattle.picture.specs.declared.Size.{Size}
 use Rattle.picture.proofs.Slopes.{good-slope}
 use Rattle.hal.specs.Numbers.{minus32}
 use Rattle.hal.specs.Exp.{inDown}
-use Rattle.hal.specs.Angle.{inAngle}
+use Rattle.hal_angle.specs.Angle.{inAngle}
 use Rattle.lists.specs.Ranges.{every}
 use Rattle.orient_tally.specs.Window.{radiusFactor, radiusOf, sigmaOf, falloffOf, windowOf, Cell, cell, cellsRead}
 use Rattle.orient_tally.specs.Sample.{squareAt, apart, rowGood, windowGood}

@@ -15,8 +15,8 @@ use Rattle.ieee.specs.Whole.{roundEven}
 use Rattle.ieee_laws.proofs.Order.{lt-le-trans, le-lt-trans, lt-le}
 use Rattle.ieee_laws.proofs.Monotone.{toUnsigned-le}
 use Rattle.ieee_laws.proofs.Bounds.{Bounds, bounds-point, mul-bounds, roundEven-bounds}
-use Rattle.hal.specs.Angle.{angleOf, inAngle}
-use Rattle.hal.proofs.Rules.{angle-rule}
+use Rattle.hal_angle.specs.Angle.{angleOf, inAngle}
+use Rattle.hal_angle.proofs.Rules.{angle-rule}
 use Rattle.params.specs.Limits.{scaleLow, scaleHigh}
 use Rattle.params.specs.Table.{within}
 use Rattle.orient_tally.specs.Window.{radiusFactor}

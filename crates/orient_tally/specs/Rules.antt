@@ -12,7 +12,7 @@ use Rattle.params.specs.Table.{within, allGood}
 use Rattle.picture.specs.Picture.{slopeAt, fourAt}
 use Rattle.picture.specs.declared.Size.{Size}
 use Rattle.hal.specs.Exp.{inDown}
-use Rattle.hal.specs.Angle.{inAngle}
+use Rattle.hal_angle.specs.Angle.{inAngle}
 use Rattle.lists.specs.Ranges.{every}
 use Rattle.orient_tally.specs.Window.{Cell, cell, windowOf, cellsOf, cellsRead}
 use Rattle.orient_tally.specs.Sample.{squareAt, windowGood}

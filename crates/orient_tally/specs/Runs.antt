@@ -5,8 +5,8 @@ use mathlib.Core.List.{List}
 use lib.Dec.{leb}
 use lib.Ieee.{Float}
 use Rattle.lists.specs.Ranges.{every}
-use Rattle.hal.specs.Angle.{angleOf}
-use Rattle.hal.specs.Magnitude.{magnitudeOf}
+use Rattle.hal_angle.specs.Angle.{angleOf}
+use Rattle.hal_angle.specs.Magnitude.{magnitudeOf}
 use Rattle.picture.specs.Picture.{slopeAt}
 use Rattle.picture.specs.Samples.{goodFrom}
 use Rattle.orient_tally.specs.Window.{cell}

@@ -9,10 +9,10 @@ ghost use lib.IntN.{pos};
 ghost use Rattle.params.specs.Limits.{maxSide, scaleLow, scaleHigh};
 ghost use Rattle.params.specs.Table.{within};
 ghost use Rattle.hal.specs.Powers.{pairs as pairTable};
-ghost use Rattle.hal.specs.Cubics.{cubics as cubicTable};
-ghost use Rattle.hal.specs.Turns.{turns as turnTable};
+ghost use Rattle.hal_angle.specs.Cubics.{cubics as cubicTable};
+ghost use Rattle.hal_angle.specs.Turns.{turns as turnTable};
 ghost use Rattle.hal.specs.Exp.{inDown};
-ghost use Rattle.hal.specs.Angle.{angleOf, inAngle};
+ghost use Rattle.hal_angle.specs.Angle.{angleOf, inAngle};
 ghost use Rattle.orient_tally.specs.Window.{radiusOf, falloffOf, windowOf, cell};
 ghost use Rattle.orient_tally.specs.Sample.{bins, apart, weightAt, binOf, rowGood, windowGood};
 ghost use Rattle.orient_tally.specs.Tally.{early, shareOf, added, tallied, empty, tallyOf, gatheredOf};
@@ -126,7 +126,7 @@ fn bin_of(turns: &[f32; 272], dx: f32, dy: f32) -> usize
     requires { ⌜ (now turns ≡ turnTable) × (inAngle dx dy ≡ true) ⌝ }
     ensures { λ r. ⌜ (r ≡ binOf (angleOf dx dy)) × (r < bins) ⌝ }
 {
-    let turn = 0.1 * hal::angle_in(turns, dx, dy);
+    let turn = 0.1 * hal_angle::angle_in(turns, dx, dy);
     let b = (f32::to_bits(turn + 8388608.0) % 64) as usize;
     if b >= 36 { b - 36 } else { b }
 }
@@ -147,7 +147,7 @@ fn sample_at<'a>(
     let x = run.from + i;
     let weight = weight_at(pairs, win, run.y, x);
     let s = picture::slope_at(img, win.size, run.y, x);
-    let magnitude = hal::magnitude_in(cubics, s.dx, s.dy);
+    let magnitude = hal_angle::magnitude_in(cubics, s.dx, s.dy);
     Sample {
         bin: bin_of(turns, s.dx, s.dy),
         weight: weight,
@@ -262,8 +262,8 @@ pub fn tally_of(img: &[f32], win: Window) -> Gathered
     ensures { λ r. ⌜ r ≡ gatheredOf (now (img .entry)) win ⌝ }
 {
     let pairs = hal::pair_table();
-    let cubics = hal::cubic_table();
-    let turns = hal::turn_table();
+    let cubics = hal_angle::cubic_table();
+    let turns = hal_angle::turn_table();
     let n = win.rows * win.cols;
     let t = gather(img, &pairs, &cubics, &turns, win, n);
     Gathered { tally: t, read: n }

@@ -13,8 +13,8 @@ use Rattle.ieee_laws.proofs.Bounds.{Bounds, bounds-wider, sub-bounds}
 use Rattle.ieee_laws.proofs.Turned.{le-turned}
 use Rattle.params.specs.Limits.{sampleLimit}
 use Rattle.params.specs.Table.{goodSample, allGood}
-use Rattle.hal.specs.Numbers.{furthest}
-use Rattle.hal.specs.Angle.{small, inAngle}
+use Rattle.hal_angle.specs.Numbers.{furthest}
+use Rattle.hal_angle.specs.Angle.{inReach, inAngle}
 use Rattle.picture.specs.Picture.{pixel, slopeAt, fourAt}
 
 abbrev nearest : Float
@@ -24,23 +24,23 @@ far-opp : Turned true nearest furthest
 unfolding ofBits
 far-opp = of-fin (turned refl)
 
-small-of : (x : Float) → le nearest x ≡ true → le x furthest ≡ true → small (absOf x) ≡ true
+reach-of : (x : Float) → le nearest x ≡ true → le x furthest ≡ true → inReach (absOf x) ≡ true
 unfolding absOf isNan
-small-of nan a b = absurd (le-number nan furthest b .0)
-small-of (inf true) a b = le-turned {b = true} (of-inf refl) far-opp ∙ a
-small-of (inf false) a b = b
-small-of (fin true m e) a b = le-turned {b = true} (of-fin (turned refl)) far-opp ∙ a
-small-of (fin false m e) a b = b
+reach-of nan a b = absurd (le-number nan furthest b .0)
+reach-of (inf true) a b = le-turned {b = true} (of-inf refl) far-opp ∙ a
+reach-of (inf false) a b = b
+reach-of (fin true m e) a b = le-turned {b = true} (of-fin (turned refl)) far-opp ∙ a
+reach-of (fin false m e) a b = b
 
 good-bounds : (x : Float) → goodSample x ≡ true → Bounds (neg sampleLimit) sampleLimit x
 unfolding ofBits neg
 good-bounds x h = let p = and-both (le (neg sampleLimit) x) (le x sampleLimit) h in record { from = refl; to = refl; low = p .0; high = p .1 }
 
-difference : (x y : Float) → goodSample x ≡ true → goodSample y ≡ true → small (absOf (x ⊖ y)) ≡ true
+difference : (x y : Float) → goodSample x ≡ true → goodSample y ≡ true → inReach (absOf (x ⊖ y)) ≡ true
 unfolding ofBits neg sub le
 difference x y a b =
     let u = bounds-wider nearest furthest refl refl refl refl (sub-bounds binary32 refl refl (good-bounds x a) (good-bounds y b)) in
-    small-of (x ⊖ y) (u .low) (u .high)
+    reach-of (x ⊖ y) (u .low) (u .high)
 
 slopes-in : (a b c d : Float) → allGood (a ∷ b ∷ c ∷ d ∷ []) ≡ true → inAngle (a ⊖ b) (c ⊖ d) ≡ true
 unfolding allGood

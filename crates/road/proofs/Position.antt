@@ -25,7 +25,7 @@ use Rattle.detect_refine.specs.Sound.{Near}
 use Rattle.descriptor_patch.specs.Patch.{cellOf}
 use Rattle.descriptor.specs.Place.{onSide}
 use borrow.Author.Tests.{lt-ltb}
-use Rattle.hal.proofs.AngleValues.{div-value}
+use Rattle.hal_angle.proofs.AngleValues.{div-value}
 use Rattle.descriptor_inputs.specs.Inputs.{shrinkOf}
 
 -- a whole number as an f32, and its value

@@ -8,9 +8,9 @@ use Rattle.descriptor_grid.proofs.spot_of.Reads as reads
 use Rattle.descriptor_grid.proofs.spot_of.Lts as lts
 use Rattle.descriptor_grid.proofs.shares_of.Reads as shares-of-reads
 use Rattle.descriptor_grid.proofs.split_of.Reads as split-of-reads
-use Rattle.hal.proofs.angle_in.Reads as angle-in-reads
+use Rattle.hal_angle.proofs.angle_in.Reads as angle-in-reads
 use Rattle.hal.proofs.exp_in.Reads as exp-in-reads
-use Rattle.hal.proofs.magnitude_in.Reads as magnitude-in-reads
+use Rattle.hal_angle.proofs.magnitude_in.Reads as magnitude-in-reads
 
 magnitude-in-requires : tie.Need-magnitude-in-requires
 magnitude-in-requires c κs = search needs

@@ -5,7 +5,7 @@ use Rattle.orient_tally.proofs.bin_of.Statement.{statement}
 use Rattle.orient_tally.proofs.bin_of.Tie as tie
 use Rattle.orient_tally.proofs.bin_of.Reads as reads
 use Rattle.orient_tally.proofs.bin_of.Lts as lts
-use Rattle.hal.proofs.angle_in.Reads as angle-in-reads
+use Rattle.hal_angle.proofs.angle_in.Reads as angle-in-reads
 
 -- src/lib.rt:128:22
 angle-in-requires : tie.Need-angle-in-requires

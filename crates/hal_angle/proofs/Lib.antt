@@ -1,0 +1,8 @@
+pub mod AngleValues
+mod AngleLaws
+mod AngleUnits
+mod AngleTable
+mod AngleAxes
+pub mod AngleDoubled
+pub mod MagnitudeLaws
+pub mod Rules

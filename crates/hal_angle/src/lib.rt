@@ -1,0 +1,139 @@
+// The angle and the magnitude of a pair, which stand in for the source's own.
+// docs/ROUTINES.md has their steps, specs/ the same as definitions, specs/Rules.antt what is proved of those.
+mod cubics;
+mod turns;
+
+ghost use mathlib.Core.Path.{_≡_};
+ghost use mathlib.Core.Bool.{true, not, _&&_, cond};
+ghost use Prim.Native.Nat.{_≤_};
+ghost use lib.Dec.{T};
+ghost use lib.Ieee.{isNan};
+ghost use Rattle.ieee.specs.F32.{_⊕_, absOf};
+ghost use Rattle.hal_angle.specs.Numbers.{shift};
+ghost use Rattle.hal_angle.specs.Turns.{turns, placeOf};
+ghost use Rattle.hal_angle.specs.Cubics.{cubics};
+ghost use Rattle.hal_angle.specs.Angle.{inReach, inAngle, quarterOf, alongOf, lesserOf, greaterOf, directionOf, angleOf};
+ghost use Rattle.hal_angle.specs.Magnitude.{magnitudeOf};
+
+// |x|, of an x that is a number.
+fn size(x: f32) -> f32
+    requires { ⌜ T (not (isNan x)) ⌝ }
+    ensures { λ r. ⌜ r ≡ absOf x ⌝ }
+{
+    f32::from_bits(f32::to_bits(x) % 0x8000_0000)
+}
+
+fn lesser(a: f32, b: f32) -> f32
+    ensures { λ r. ⌜ r ≡ lesserOf a b ⌝ }
+{
+    if a < b { a } else { b }
+}
+
+fn greater(a: f32, b: f32) -> f32
+    ensures { λ r. ⌜ r ≡ greaterOf a b ⌝ }
+{
+    if a < b { b } else { a }
+}
+
+// The table of the angle, to be made once and lent.
+pub fn turn_table() -> [f32; 272]
+    ensures { λ r. ⌜ r ≡ turns ⌝ }
+{
+    turns::TURNS
+}
+
+// The angle at u, from -63 to 63, in a quarter with this middle: by line k, at the step that is next to u.
+fn along(t: &[f32; 272], middle: f32, u: f32) -> f32
+    requires { ⌜ now t ≡ turns ⌝ ∗ ⌜ T (not (isNan (u ⊕ shift))) ⌝ }
+    ensures { λ r. ⌜ r ≡ alongOf middle u ⌝ }
+{
+    let r = u + 12582975.0;
+    let k = (f32::to_bits(r) % 128) as usize;
+    let d = u - (r - 12582975.0);
+    middle + t[2 * k] + d * t[2 * k + 1]
+}
+
+// n where c is, else 0.
+fn part(c: bool, n: usize) -> usize
+    ensures { λ r. ⌜ r ≡ cond c n 0 ⌝ }
+{
+    if c { n } else { 0 }
+}
+
+// Where the table has the quarter that the signs name.
+fn quarter(left: bool, down: bool) -> usize
+    ensures { λ r. ⌜ (r ≡ placeOf left down) × (r ≤ 268) ⌝ }
+{
+    256 + (part(left, 4) + part(down, 8))
+}
+
+// The angle in the quarter that the signs name, `ahead` being from -1 to 1. Nothing here branches once it is compiled.
+fn direction(t: &[f32; 272], left: bool, down: bool, ahead: f32) -> f32
+    requires { ⌜ now t ≡ turns ⌝ ∗ ⌜ T (not (isNan ahead)) ⌝ }
+    ensures { λ r. ⌜ r ≡ directionOf (quarterOf left down) ahead ⌝ }
+{
+    let i = quarter(left, down);
+    let q = along(t, t[i], ahead * t[i + 1]);
+    lesser(greater(t[i + 2], q), t[i + 3])
+}
+
+// For loops: both are in the range.
+pub fn angle_in(t: &[f32; 272], dx: f32, dy: f32) -> f32
+    requires { ⌜ (now t ≡ turns) × (inAngle dx dy ≡ true) ⌝ }
+    ensures { λ r. ⌜ r ≡ angleOf dx dy ⌝ }
+{
+    let a = size(dx);
+    let b = size(dy);
+    let s = b + a;
+    if s > 0.0 {
+        direction(t, dx < 0.0, dy < 0.0, (b - a) / s)
+    } else {
+        0.0
+    }
+}
+
+// Neither a nor b is a NaN or above 2^21 = 2097152, twice the largest sample.
+fn both_in_reach(a: f32, b: f32) -> bool
+    ensures { λ r. ⌜ r ≡ (inReach a && inReach b) ⌝ }
+{
+    if a <= 2097152.0 {
+        b <= 2097152.0
+    } else {
+        false
+    }
+}
+
+pub fn angle(dx: f32, dy: f32) -> f32
+    ensures { λ r. ⌜ r ≡ angleOf dx dy ⌝ }
+{
+    if both_in_reach(ieee::abs(dx), ieee::abs(dy)) {
+        angle_in(&turns::TURNS, dx, dy)
+    } else {
+        hal::outside()
+    }
+}
+
+pub fn magnitude(dx: f32, dy: f32) -> f32
+    ensures { λ r. ⌜ r ≡ magnitudeOf dx dy ⌝ }
+{
+    if both_in_reach(ieee::abs(dx), ieee::abs(dy)) {
+        ieee_root::length(dx, dy)
+    } else {
+        hal::outside()
+    }
+}
+
+// The table of the magnitude's guesses, to be made once and lent.
+pub fn cubic_table() -> [f64; 256]
+    ensures { λ r. ⌜ r ≡ cubics ⌝ }
+{
+    cubics::CUBICS
+}
+
+// For loops: both are in the range.
+pub fn magnitude_in(t: &[f64; 256], dx: f32, dy: f32) -> f32
+    requires { ⌜ (now t ≡ cubics) × (inAngle dx dy ≡ true) ⌝ }
+    ensures { λ r. ⌜ r ≡ magnitudeOf dx dy ⌝ }
+{
+    ieee_root::length_with(t, dx, dy)
+}

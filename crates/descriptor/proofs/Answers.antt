@@ -11,7 +11,7 @@ use Rattle.ieee.specs.F32.{bitsOf}
 use Rattle.ieee.specs.Numbers.{nought}
 use Rattle.params.specs.Limits.{valueCount}
 use Rattle.picture.specs.declared.Size.{Size}
-use Rattle.descriptor_patch.specs.Patch.{samplesOf}
+use Rattle.descriptor_run.specs.Cells.{samplesOf}
 use Rattle.descriptor_patch.specs.declared.Patch.{Patch}
 use Rattle.descriptor_grid.specs.Grid.{gatheredIn, gathered}
 use Rattle.descriptor_values.specs.Places.{places}

@@ -17,7 +17,8 @@ use Rattle.params.specs.Limits.{maxSide, scaleLow, scaleHigh}
 use Rattle.params.specs.Table.{within, line, firstFault, sideWrong, shapeWrong, lengthWrong, allGood}
 use Rattle.params.proofs.Bools.{or-neither, in-range}
 use Rattle.picture.specs.declared.Size.{Size}
-use Rattle.descriptor_patch.specs.Patch.{cellOf, patchOf, readsOf}
+use Rattle.descriptor_patch.specs.Patch.{cellOf, patchOf}
+use Rattle.descriptor_run.specs.Cells.{readsOf}
 use Rattle.descriptor_patch.specs.Place.{Sides}
 use Rattle.descriptor_patch.specs.declared.Patch.{Patch}
 use Rattle.descriptor.specs.Place.{onSide, cellAt, spotWrong, turnWrong, turnAt}

@@ -24,8 +24,9 @@ use Rattle.lists.proofs.Both.{both-when, both-joined}
 use Rattle.params.specs.Limits.{sampleLimit}
 use Rattle.params.specs.Table.{goodSample, allGood}
 use Rattle.picture.specs.Picture.{pixel, slopeAt, fourAt, firstIn, pastIn}
-use Rattle.descriptor_patch.specs.Patch.{endsOf, inRun, gridAt, usedAt, sampleAt, overCells, samplesOf, readsOf}
-use Rattle.descriptor_patch.specs.Rules.{Used}
+use Rattle.descriptor_patch.specs.Patch.{gridAt, sampleAt}
+use Rattle.descriptor_run.specs.Cells.{endsOf, inRun, usedAt, overCells, samplesOf, readsOf}
+use Rattle.descriptor_run.specs.Rules.{Used}
 use Rattle.descriptor_patch.specs.declared.Patch.{Patch}
 use Rattle.descriptor.specs.Nothing.{Level}
 

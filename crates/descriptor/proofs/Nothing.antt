@@ -12,9 +12,11 @@ use Rattle.hal.specs.Turn.{inTurn}
 use Rattle.picture.specs.declared.Size.{Size}
 use Rattle.lists.specs.Each.{Each}
 use Rattle.params.specs.Limits.{valueCount}
-use Rattle.descriptor_patch.specs.Patch.{sampleAt, samplesOf, readsOf}
-use Rattle.descriptor_patch.specs.Rules.{Used}
-use Rattle.descriptor_patch.proofs.Rules.{each, fair, patch-rule}
+use Rattle.descriptor_patch.specs.Patch.{sampleAt}
+use Rattle.descriptor_run.specs.Cells.{samplesOf, readsOf}
+use Rattle.descriptor_run.specs.Rules.{Used}
+use Rattle.descriptor_patch.proofs.Rules.{fair}
+use Rattle.descriptor_run.proofs.Rules.{each, used-rule}
 use Rattle.descriptor_patch.specs.declared.Patch.{Patch}
 use Rattle.descriptor_grid.specs.Grid.{gatheredIn, gathered}
 use Rattle.descriptor_laws.specs.GridRules.{Flat}
@@ -70,7 +72,7 @@ module _ (img : List Float) (s : Size) (p : Spot) where
     module _ (level : Level (readsOf img t)) where
       flat-at : (r c : ℕ) → Used t r c → Flat (p .angle) (sampleAt img t r c)
       flat-at r c u =
-          let four = patch-rule .reads img t (known .good) r c u in
+          let four = used-rule .reads img t (known .good) r c u in
           let z = no-slope img t level r c u four in
           record { counts = counts-of (p .angle) (sampleAt img t r c) turns (fair img t r c (used-grid t r c (u .used)) four); dx = z .0; dy = z .1 }
 

@@ -13,9 +13,9 @@ use Rattle.hal.specs.Turn.{inTurn}
 use Rattle.orient.specs.declared.OrientedKeypoint.{OrientedKeypoint}
 use Rattle.descriptor_inputs.specs.Inputs.{inputsOf}
 use Rattle.descriptor_inputs.specs.Rules.{Taken}
-use Rattle.descriptor_patch.specs.Patch.{samplesOf}
+use Rattle.descriptor_run.specs.Cells.{samplesOf}
 use Rattle.descriptor_patch.specs.Rules.{Fair}
-use Rattle.descriptor_patch.proofs.Rules.{patch-rule}
+use Rattle.descriptor_run.proofs.Rules.{used-rule}
 use Rattle.descriptor_patch.specs.declared.Sample.{Sample}
 use Rattle.descriptor_patch.specs.declared.Patch.{Patch}
 use Rattle.descriptor_grid.specs.Grid.{gathered}
@@ -53,7 +53,7 @@ module _ (img : List Float) (s : Size) (p : Spot) (fine : faultOf img s p ≡ 0)
   unfolding valuesAt
   whole n l =
       value-rule .whole (gathered (p .angle) (samplesOf img t))
-      (grid-rule .held (p .angle) (samplesOf img t) (each-weaker (λ a f. counts-of (p .angle) a turns f) (patch-rule .samples img t (known .good)))) n l
+      (grid-rule .held (p .angle) (samplesOf img t) (each-weaker (λ a f. counts-of (p .angle) a turns f) (used-rule .samples img t (known .good)))) n l
 
 pub descriptor-rule : DescriptorRule
 descriptor-rule = record { whole = whole; accepted = accepted }

@@ -9,7 +9,8 @@ use Rattle.ieee.specs.Numbers.{nought, wholeTurn}
 use Rattle.params.specs.Limits.{scaleLow, scaleHigh}
 use Rattle.params.specs.Table.{within, allGood}
 use Rattle.picture.specs.declared.Size.{Size}
-use Rattle.descriptor_patch.specs.Patch.{cellOf, readsOf}
+use Rattle.descriptor_patch.specs.Patch.{cellOf}
+use Rattle.descriptor_run.specs.Cells.{readsOf}
 use Rattle.descriptor_patch.specs.Place.{Sides}
 use Rattle.descriptor.specs.Place.{cellAt, turnAt}
 use Rattle.descriptor.specs.declared.Spot.{Spot}

@@ -10,7 +10,7 @@ use Rattle.params.specs.Limits.{valueCount}
 use Rattle.params.specs.Table.{line, firstFault, shapeWrong, lengthWrong, allGood}
 use Rattle.params.specs.Answers.{onFault}
 use Rattle.picture.specs.declared.Size.{Size}
-use Rattle.descriptor_patch.specs.Patch.{samplesOf, readsOf}
+use Rattle.descriptor_run.specs.Cells.{samplesOf, readsOf}
 use Rattle.descriptor_grid.specs.Grid.{gathered}
 use Rattle.descriptor_values.specs.Values.{valuesOf}
 use Rattle.descriptor.specs.Place.{spotWrong, turnWrong, turnAt}

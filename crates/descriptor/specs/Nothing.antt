@@ -10,7 +10,7 @@ use lib.Ieee.{Float, nan}
 use Rattle.ieee.specs.F32.{_=ᶠ_}
 use Rattle.params.specs.Limits.{valueCount}
 use Rattle.picture.specs.declared.Size.{Size}
-use Rattle.descriptor_patch.specs.Patch.{readsOf}
+use Rattle.descriptor_run.specs.Cells.{readsOf}
 use Rattle.descriptor.specs.Place.{turnAt}
 use Rattle.descriptor.specs.declared.Spot.{Spot}
 use Rattle.descriptor.specs.Entry.{faultOf, usedOf, describedOf, describedOut}

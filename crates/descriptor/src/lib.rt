@@ -8,7 +8,7 @@ ghost use Prim.Native.Nat.{_+_, _*_, _<_, _≤_};
 ghost use lib.ListN.{length};
 ghost use Rattle.ieee.specs.F32.{bitsOf};
 ghost use Rattle.params.specs.Limits.{valueCount};
-ghost use Rattle.descriptor_patch.specs.Patch.{samplesOf};
+ghost use Rattle.descriptor_run.specs.Cells.{samplesOf};
 ghost use Rattle.descriptor_patch.specs.Place.{Lies};
 ghost use Rattle.descriptor.specs.Place.{onSide, cellAt, spotWrong, turnWrong, turnAt};
 ghost use Rattle.descriptor.specs.Entry.{numberOf, countOf, usedOf, faultOf, wordsAt, describedOf, describedOut};
@@ -94,7 +94,7 @@ fn fault_of(img: &[f32], s: Size, p: Spot) -> u32
     if turn_wrong(p) {
         return 5;
     }
-    if descriptor_patch::patch_good(img, turn_at(s, p)) {
+    if descriptor_reads::patch_good(img, turn_at(s, p)) {
         0
     } else {
         6

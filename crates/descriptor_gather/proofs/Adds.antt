@@ -12,13 +12,14 @@ use Rattle.lists.proofs.Ranges.{joined-start, joined-more, joined-bound}
 use Rattle.params.specs.Table.{allGood}
 use Rattle.params.specs.Limits.{maxSide}
 use Rattle.picture.specs.Picture.{fourAt, firstIn, pastIn}
-use Rattle.descriptor_patch.specs.Patch.{gridAt, readsOf}
-use Rattle.descriptor_patch.specs.Run.{runOf, overRun, rowOf}
-use Rattle.descriptor_patch.specs.declared.Run.{Run}
+use Rattle.descriptor_patch.specs.Patch.{gridAt}
+use Rattle.descriptor_run.specs.Cells.{readsOf}
+use Rattle.descriptor_run.specs.Run.{runOf, overRun, rowOf}
+use Rattle.descriptor_run.specs.declared.Run.{Run}
 use Rattle.descriptor_patch.specs.declared.Sample.{Sample}
 use Rattle.descriptor_patch.specs.declared.Patch.{Patch}
-use Rattle.descriptor_patch.proofs.Runs.{over-cells}
-use Rattle.descriptor_patch.proofs.Rules.{good-part}
+use Rattle.descriptor_run.proofs.Runs.{over-cells}
+use Rattle.descriptor_run.proofs.Rules.{good-part}
 use Rattle.descriptor_grid.specs.Grid.{spotOf, scattered, gatheredIn}
 use Rattle.descriptor_gather.specs.Gather.{sampleIn}
 

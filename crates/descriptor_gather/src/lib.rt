@@ -3,7 +3,7 @@
 use descriptor_grid::Landed;
 use descriptor_patch::Patch;
 use descriptor_patch::Rots;
-use descriptor_patch::Run;
+use descriptor_run::Run;
 ghost use mathlib.Core.Path.{_≡_};
 ghost use mathlib.Core.Bool.{true, cond};
 ghost use mathlib.Core.List.{[]};
@@ -11,9 +11,10 @@ ghost use lib.ListN.{length};
 ghost use Rattle.params.specs.Table.{allGood};
 ghost use Rattle.picture.specs.Picture.{fourAt};
 ghost use Rattle.picture.specs.Place.{Around};
-ghost use Rattle.descriptor_patch.specs.Patch.{gridAt, readsOf, samplesOf};
-ghost use Rattle.descriptor_patch.specs.Run.{overRun};
-ghost use Rattle.descriptor_patch.specs.Place.{Inner};
+ghost use Rattle.descriptor_patch.specs.Patch.{gridAt};
+ghost use Rattle.descriptor_run.specs.Cells.{readsOf, samplesOf};
+ghost use Rattle.descriptor_run.specs.Run.{overRun};
+ghost use Rattle.descriptor_run.specs.Place.{Inner};
 ghost use Rattle.descriptor_grid.specs.Grid.{gatheredIn};
 ghost use Rattle.descriptor_grid.specs.Reach.{Lent};
 ghost use Rattle.descriptor_gather.specs.Gather.{sampleIn, Patched};
@@ -119,7 +120,7 @@ fn rows(
     let mut n: usize = 0;
     let mut r = picture::first_in(t.py, t.radius);
     while r < end {
-        let e = descriptor_patch::run_of(t, r);
+        let e = descriptor_run::run_of(t, r);
         n += row(
             img,
             pairs,

@@ -1,6 +1,2 @@
-pub mod Whole
 pub mod Reach
-pub mod Runs
-pub mod Good
 pub mod Rules
-pub mod Window

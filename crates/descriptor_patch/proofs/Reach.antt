@@ -1,8 +1,8 @@
 -- The reach of a patch, and the picture's diagonal. Assumes nothing.
-use Prim.Native.Nat.{ℕ, zero, suc, _*_, _/_, _^_, _≤_, _<_, min}
+use Prim.Native.Nat.{ℕ, zero, suc, _*_, _/_, _^_, _≤_, min}
 use mathlib.Core.Path.{_≡_, refl, sym, _∙_}
-use mathlib.Core.Bool.{Bool, true, false, not, _&&_, false≢true}
-use mathlib.Core.Logic.{_⊎_, ⊎-elim}
+use mathlib.Core.Bool.{true, false, not, false≢true}
+use mathlib.Core.Logic.{⊎-elim}
 use native.Mathlib.Omega.{arith}
 use lib.Dec.{T}
 use lib.IntN.{pos}
@@ -12,7 +12,7 @@ use Rattle.ieee.specs.F32.{_⊗_, f32, rounded, rootOf, float}
 use Rattle.ieee.specs.Root.{sqrt, halves}
 use Rattle.ieee.specs.Whole.{roundEven}
 use Rattle.ieee.specs.Numbers.{half, three, five, root2}
-use Rattle.ieee_laws.proofs.Order.{le-or-lt-float, le-number, lt-le, lt-le-trans, le-lt-trans, round-marked}
+use Rattle.ieee_laws.proofs.Order.{le-or-lt-float, le-number, lt-le-trans, le-lt-trans, round-marked}
 use Rattle.ieee_laws.proofs.Monotone.{nil, above-zero, toUnsigned-le}
 use Rattle.ieee_laws.proofs.Bounds.{Bounds, bounds-point, bounds-above, add-bounds, mul-bounds, roundEven-bounds, ofInt-bounds, marked-nonneg}
 use Rattle.params.specs.Limits.{maxSide, scaleLow, scaleHigh}

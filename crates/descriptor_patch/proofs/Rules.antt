@@ -1,41 +1,33 @@
--- The laws of a patch's samples that specs/Rules.antt states. Assumes nothing.
-use Prim.Native.Nat.{ℕ, zero, suc, _+_, _-_, _<_, _≤_, min}
-use mathlib.Core.Path.{_≡_, refl, sym, ap, _∙_}
-use mathlib.Core.Bool.{true, false, not, _&&_, false≢true}
-use mathlib.Core.List.{List, [], _∷_}
-use mathlib.Core.Logic.{_⊎_, ⊎-elim}
-use native.Mathlib.Nat.{eq-or-lt-of-le, le-of-suc-le-suc}
-use native.Mathlib.Numerals.{add-one}
+-- The laws of a patch and of a cell's sample that specs/Rules.antt states. Assumes nothing.
+use Prim.Native.Nat.{ℕ, _<_}
+use mathlib.Core.Path.{_≡_, refl, _∙_}
+use mathlib.Core.Bool.{true, false, not, false≢true}
+use mathlib.Core.List.{List}
+use mathlib.Core.Logic.{⊎-elim}
 use native.Mathlib.Omega.{arith}
 use lib.Dec.{T}
-use lib.IntN.{pos, _-ℤ_}
+use lib.IntN.{pos}
 use lib.Ieee.{Float, nan, inf, fin, binary32, ofBits, neg, add, sub, mul, lt, le, isNan}
 use lib.Ieee.Scale.{finite}
 use Rattle.lists.proofs.Bools.{and-both}
 use Rattle.ieee.specs.F32.{_⊕_, _⊖_, _⊗_, f32, absOf}
 use Rattle.ieee.specs.Numbers.{half, two, four, minusOne}
-use Rattle.ieee_laws.specs.Sign.{Turned, of-inf, of-fin, turned, nought as no-sign}
+use Rattle.ieee_laws.specs.Sign.{Turned, of-fin, turned, nought as no-sign}
 use Rattle.ieee_laws.proofs.Order.{le-or-lt-float, le-trans-float, le-number, lt-le, lt-not-le}
 use Rattle.ieee_laws.proofs.Monotone.{nil, add-le, sub-le}
-use Rattle.ieee_laws.proofs.Bounds.{Bounds, bounds-finite, bounds-point, bounds-wider, add-bounds, sub-bounds, mul-bounds, abs-nonneg}
+use Rattle.ieee_laws.proofs.Bounds.{Bounds, bounds-finite, bounds-point, bounds-wider, add-bounds, mul-bounds, abs-nonneg}
 use Rattle.ieee_laws.proofs.Turned.{neg-opp, mul-turned, le-turned}
 use Rattle.ieee_laws.proofs.TurnedOps.{same}
-use Rattle.lists.specs.Ranges.{joined}
-use Rattle.lists.proofs.Ranges.{joined-more}
-use Rattle.params.specs.Limits.{sampleLimit, scaleLow, scaleHigh}
-use Rattle.params.specs.Table.{within, goodSample, allGood}
+use Rattle.params.specs.Limits.{scaleLow, scaleHigh}
+use Rattle.params.specs.Table.{within, allGood}
 use Rattle.hal.specs.Numbers.{minus32}
 use Rattle.hal.specs.Exp.{inDown}
-use Rattle.lists.specs.Each.{Each}
-use Rattle.lists.proofs.Each.{each-one, each-when, each-joined}
-use Rattle.picture.specs.Picture.{pixel, slopeAt, fourAt}
+use Rattle.picture.specs.Picture.{fourAt}
 use Rattle.picture.specs.declared.Size.{Size}
-use Rattle.picture.proofs.Runs.{good-append}
 use Rattle.picture.proofs.Slopes.{good-slope}
-use Rattle.descriptor_patch.specs.Patch.{expScale, binOf, inRun, endsOf, inGrid, gridAt, usedAt, rotsOf, sampleAt, samplesOf, readsOf, overCells, radiusOf, patchOf}
-use Rattle.descriptor_patch.specs.Place.{maxRadius, Sides, Lies}
-use Rattle.descriptor_patch.specs.Rules.{Fair, Used, PatchRule}
-use Rattle.descriptor_patch.specs.declared.Sample.{Sample}
+use Rattle.descriptor_patch.specs.Patch.{expScale, binOf, inGrid, gridAt, rotsOf, sampleAt, radiusOf, patchOf}
+use Rattle.descriptor_patch.specs.Place.{Sides, Lies}
+use Rattle.descriptor_patch.specs.Rules.{Fair, PatchRule}
 use Rattle.descriptor_patch.specs.declared.Patch.{Patch}
 use Rattle.descriptor_patch.proofs.Reach.{reach-small}
 
@@ -45,30 +37,6 @@ lies : (s : Size) (px py : ℕ) (scale angle : Float) → Sides s → px < s .wi
 unfolding patchOf radiusOf
 lies s px py scale angle p a b k =
     record { wide = p .wide; high = p .high; col = a; row = b; reach = omega (arith, reach-small scale k) }
-
--- what is shown of the sample of each used cell holds of all samples
-pub each : (P : Sample → Type 0) (img : List Float) (t : Patch) → ((r c : ℕ) → Used t r c → P (sampleAt img t r c)) → Each P (samplesOf img t)
-unfolding samplesOf overCells
-each P img t k =
-    each-joined _ _ _
-    (λ r a b. each-joined _ _ _ (λ c d e. each-when (usedAt t r c) _ (λ u. each-one (k r c (record { top = a; bottom = b; left = d; right = e; used = u })))))
-
--- ---- what is read
-
-pub good-part : (lo hi i : ℕ) (f : ℕ → List Float) → allGood (joined lo hi f) ≡ true → lo ≤ i → i < hi → allGood (f i) ≡ true
-good-part lo zero i f g a b = absurd (omega arith)
-good-part lo (suc hi) i f g a b =
-    let l : lo ≤ hi = omega arith in
-    let e : (allGood (joined lo hi f) && allGood (f hi)) ≡ true = sym (good-append (joined lo hi f) (f hi)) ∙ ap allGood (sym (joined-more lo hi f l)) ∙ rw (add-one hi) g in
-    let p = and-both (allGood (joined lo hi f)) (allGood (f hi)) e in
-    ⊎-elim (λ q. rw q (p .1)) (λ m. good-part lo hi i f (p .0) a m) (eq-or-lt-of-le (le-of-suc-le-suc b))
-
-reads : (img : List Float) (t : Patch) → allGood (readsOf img t) ≡ true → (r c : ℕ) → Used t r c → allGood (fourAt img (t .size .width) r c) ≡ true
-unfolding readsOf overCells
-reads img t g r c u =
-    let a = good-part _ _ r _ g (u .top) (u .bottom) in
-    let b = good-part _ _ c _ a (u .left) (u .right) in
-    rw (u .used) at b
 
 -- ---- the exponent: a cell of the grid is at most 4 from the middle
 
@@ -183,7 +151,7 @@ fall-in x y u v =
     let m : le (q ⊗ expScale) nil ≡ true = le-turned {b = true} z (of-fin {s = false} (no-sign refl)) ∙ k .low in
     rw (l, m)
 
--- ---- a used cell's sample
+-- ---- a cell's sample
 
 pub fair : (img : List Float) (t : Patch) (r c : ℕ) → gridAt t r c ≡ true → allGood (fourAt img (t .size .width) r c) ≡ true → Fair (sampleAt img t r c)
 unfolding sampleAt gridAt
@@ -196,11 +164,5 @@ fair img t r c g k =
       slopes = good-slope img (t .size .width) r c k;
     }
 
-samples : (img : List Float) (t : Patch) → allGood (readsOf img t) ≡ true → Each Fair (samplesOf img t)
-unfolding usedAt
-samples img t g =
-    each Fair img t
-    (λ r c u. fair img t r c (and-both (inRun (endsOf t r) (pos c -ℤ pos (t .px))) (gridAt t r c) (u .used) .1) (reads img t g r c u))
-
 pub patch-rule : PatchRule
-patch-rule = record { lies = lies; reads = reads; samples = samples }
+patch-rule = record { lies = lies; fair = fair }

@@ -1,4 +1,3 @@
 pub mod Patch
-pub mod Run
 pub mod Place
 pub mod Rules

@@ -1,27 +1,23 @@
--- The patch of a descriptor: its radius, the cells that are read, and what a cell gives (rules P2 to P9). Operation by operation as `compute_descriptor` of the source. Definitions only.
+-- The patch of a descriptor: its radius, how it lies, and what a cell gives (rules P2 to P4, P8 and P9). Operation by operation as `compute_descriptor` of the source. Definitions only.
 use Prim.Native.Nat.{ℕ, min}
-use mathlib.Core.Bool.{Bool, not, _&&_, cond}
-use mathlib.Core.List.{List, [], _∷_}
-use lib.IntN.{ℤ, pos, _+ℤ_, _-ℤ_}
-use lib.Signed.{leZ}
-use lib.Ieee.{Float, binary32, neg, ofInt, toUnsigned}
-use Rattle.ieee.specs.F32.{_⊕_, _⊖_, _⊗_, _⊘_, _<ᶠ_, f32, rootOf, floorOf, rounded, toI32, float, floatZ}
-use Rattle.ieee.specs.Numbers.{nought, half, one, minusOne, threeHalves, two, three, four, five, root2}
+use mathlib.Core.Bool.{Bool, _&&_}
+use mathlib.Core.List.{List}
+use lib.IntN.{ℤ, pos, _-ℤ_}
+use lib.Ieee.{Float, neg, toUnsigned}
+use Rattle.ieee.specs.F32.{_⊕_, _⊖_, _⊗_, _⊘_, _<ᶠ_, f32, rootOf, rounded, toI32, float, floatZ}
+use Rattle.ieee.specs.Numbers.{half, minusOne, two, three, four, five, root2}
 use Rattle.hal.specs.Turn.{sinOf, cosOf}
-use Rattle.lists.specs.Ranges.{joined}
-use Rattle.picture.specs.Picture.{slopeAt, fourAt, firstIn, pastIn}
+use Rattle.picture.specs.Picture.{slopeAt}
 use Rattle.picture.specs.declared.Size.{Size}
-use Rattle.bounds.specs.Bounds.{maxOf, minOf}
-use Rattle.descriptor_patch.specs.declared.Ends.{Ends}
 use Rattle.descriptor_patch.specs.declared.Patch.{Patch}
 use Rattle.descriptor_patch.specs.declared.Rots.{Rots}
 use Rattle.descriptor_patch.specs.declared.Sample.{Sample}
 
--- The source's D is 4: D / 2 - 0.5 is `threeHalves`, D / 2 `two`, D + 1 `five`; DESCR_SCL_FCTR is `three`, and -1 / (D * D * 0.5) is -0.125.
+-- The source's D is 4: D / 2 is `two`, D + 1 `five`; DESCR_SCL_FCTR is `three`, and -1 / (D * D * 0.5) is -0.125.
 abbrev pub expScale : Float
 expScale = neg (f32 0x3e00_0000)
 
--- ---- the patch
+-- ---- how it lies
 
 -- the cell of a position: rounded, ties to even, as a whole number (rule P2)
 abbrev pub cellOf : Float → ℤ
@@ -61,27 +57,7 @@ patchOf s px py scale angle =
       py = py;
     }
 
--- `clip_j` (rule P6): the ends of a row's run are drawn in to the j with -1 < j × coef + off < 4
-unfoldable pub clipJ : Float → Float → Ends → Ends
-clipJ coef off e =
-    cond (nought <ᶠ coef)
-    (record { lo = maxOf (e .lo) ((minusOne ⊖ off) ⊘ coef); hi = minOf (e .hi) ((four ⊖ off) ⊘ coef) })
-    (cond (coef <ᶠ nought)
-    (record { lo = maxOf (e .lo) ((four ⊖ off) ⊘ coef); hi = minOf (e .hi) ((minusOne ⊖ off) ⊘ coef) })
-    (cond ((minusOne <ᶠ off) && (off <ᶠ four)) e (record { lo = one; hi = nought })))
-
--- the ends of the run of row r, which lies i rows below the position
-unfoldable pub endsOf : Patch → ℕ → Ends
-endsOf t r =
-    let i = floatZ (pos r -ℤ pos (t .py)) in
-    clipJ (t .cos) (neg i ⊗ t .sin ⊕ threeHalves)
-    (clipJ (t .sin) (i ⊗ t .cos ⊕ threeHalves) (record { lo = neg (float (t .radius)); hi = float (t .radius) }))
-
--- j lies in the run, widened by one on each side (rule P7); no j lies in a run whose ends have crossed
-unfoldable pub inRun : Ends → ℤ → Bool
-inRun e j =
-    not (e .hi <ᶠ e .lo)
-    && (leZ (toI32 (floorOf (e .lo)) -ℤ pos 1) j && leZ j (toI32 (neg (floorOf (neg (e .hi)))) +ℤ pos 1))
+-- ---- a cell
 
 -- c_rot and r_rot of the cell (r, c), which lies i rows and j columns from the position
 unfoldable pub rotsOf : Patch → ℕ → ℕ → Rots
@@ -101,10 +77,6 @@ inGrid bin = (minusOne <ᶠ bin) && (bin <ᶠ four)
 unfoldable pub gridAt : Patch → ℕ → ℕ → Bool
 gridAt t r c = inGrid (binOf (rotsOf t r c .row)) && inGrid (binOf (rotsOf t r c .col))
 
--- the cell (r, c) is used: it lies in its row's run, and in the grid
-unfoldable pub usedAt : Patch → ℕ → ℕ → Bool
-usedAt t r c = inRun (endsOf t r) (pos c -ℤ pos (t .px)) && gridAt t r c
-
 -- the cell (r, c) as a sample (rule P9)
 unfoldable pub sampleAt : List Float → Patch → ℕ → ℕ → Sample
 sampleAt img t r c =
@@ -117,19 +89,3 @@ sampleAt img t r c =
       cbin = binOf (p .col);
       fall = (p .col ⊗ p .col ⊕ p .row ⊗ p .row) ⊗ expScale;
     }
-
--- ---- the cells within the radius of the position, but not on the picture's edge, row by row (rule P5)
-
--- what is said of each used cell, joined in reading order
-unfoldable pub overCells {ℓ} : {A : Type ℓ} → Patch → (ℕ → ℕ → List A) → List A
-overCells t part =
-    joined (firstIn (t .py) (t .radius)) (pastIn (t .py) (t .radius) (t .size .height))
-    (λ r. joined (firstIn (t .px) (t .radius)) (pastIn (t .px) (t .radius) (t .size .width)) (λ c. cond (usedAt t r c) (part r c) []))
-
--- the samples of the patch
-unfoldable pub samplesOf : List Float → Patch → List Sample
-samplesOf img t = overCells t (λ r c. sampleAt img t r c ∷ [])
-
--- the four neighbours of each used cell: what is read
-unfoldable pub readsOf : List Float → Patch → List Float
-readsOf img t = overCells t (fourAt img (t .size .width))

@@ -1,5 +1,5 @@
--- Law: what is proved of a patch's samples: proofs/Rules.antt proves each. Definitions only.
-use Prim.Native.Nat.{ℕ, _<_, _≤_}
+-- Law: what is proved of a patch and of a cell's sample: proofs/Rules.antt proves each. Definitions only.
+use Prim.Native.Nat.{ℕ, _<_}
 use mathlib.Core.Path.{_≡_}
 use mathlib.Core.Bool.{true}
 use mathlib.Core.List.{List}
@@ -8,10 +8,9 @@ use Rattle.params.specs.Limits.{scaleLow, scaleHigh}
 use Rattle.params.specs.Table.{within, allGood}
 use Rattle.hal.specs.Exp.{inDown}
 use Rattle.hal_angle.specs.Angle.{inAngle}
-use Rattle.lists.specs.Each.{Each}
-use Rattle.picture.specs.Picture.{fourAt, firstIn, pastIn}
+use Rattle.picture.specs.Picture.{fourAt}
 use Rattle.picture.specs.declared.Size.{Size}
-use Rattle.descriptor_patch.specs.Patch.{inGrid, usedAt, samplesOf, readsOf, patchOf}
+use Rattle.descriptor_patch.specs.Patch.{inGrid, gridAt, sampleAt, patchOf}
 use Rattle.descriptor_patch.specs.Place.{Sides, Lies}
 use Rattle.descriptor_patch.specs.declared.Sample.{Sample}
 use Rattle.descriptor_patch.specs.declared.Patch.{Patch}
@@ -25,18 +24,8 @@ pub record Fair (s : Sample) : Type 0 where
   -- each of the two slopes is at most 2^21 in magnitude
   pub slopes : inAngle (s .dx) (s .dy) ≡ true
 
--- (r, c) is a cell of the window, and used
-pub record Used (t : Patch) (r c : ℕ) : Type 0 where
-  pub top : firstIn (t .py) (t .radius) ≤ r
-  pub bottom : r < pastIn (t .py) (t .radius) (t .size .height)
-  pub left : firstIn (t .px) (t .radius) ≤ c
-  pub right : c < pastIn (t .px) (t .radius) (t .size .width)
-  pub used : usedAt t r c ≡ true
-
 pub record PatchRule : Type 0 where
   -- a patch about a cell of the picture lies as the code asks
   pub lies : (s : Size) (px py : ℕ) (scale angle : Float) → Sides s → px < s .width → py < s .height → within scaleLow scaleHigh scale ≡ true → Lies (patchOf s px py scale angle)
-  -- where all that is read is good, so are the neighbours of each used cell
-  pub reads : (img : List Float) (t : Patch) → allGood (readsOf img t) ≡ true → (r c : ℕ) → Used t r c → allGood (fourAt img (t .size .width) r c) ≡ true
-  -- and each sample is fair
-  pub samples : (img : List Float) (t : Patch) → allGood (readsOf img t) ≡ true → Each Fair (samplesOf img t)
+  -- the sample of a cell in the grid is fair where the four neighbours are good
+  pub fair : (img : List Float) (t : Patch) (r c : ℕ) → gridAt t r c ≡ true → allGood (fourAt img (t .size .width) r c) ≡ true → Fair (sampleAt img t r c)

@@ -15,17 +15,18 @@ use Rattle.params.specs.Table.{within, firstFault, sideWrong, shapeWrong, lengt
 use Rattle.params.proofs.Bools.{or-neither, in-range}
 use Rattle.picture.specs.declared.Size.{Size}
 use Rattle.detect_refine.specs.declared.RawKeypoint.{RawKeypoint}
-use Rattle.orient_tally.specs.Window.{cellsRead}
-use Rattle.orient_tally.specs.Sample.{windowGood}
+use Rattle.orient_window.specs.Window.{cellsRead}
+use Rattle.orient_window.specs.Good.{windowGood}
 use Rattle.orient_tally.specs.Tally.{gatheredOf}
 use Rattle.orient_tally.specs.declared.Gathered.{Gathered}
-use Rattle.orient_tally.specs.declared.Window.{Window}
+use Rattle.orient_window.specs.declared.Window.{Window}
 use Rattle.orient_peaks.specs.Peaks.{anglesOf}
 use Rattle.orient_peaks.specs.Found.{heldOf, Holds}
 use Rattle.orient_peaks.proofs.Rules.{peak-rule}
 use Rattle.orient_peaks.specs.declared.Angles.{Angles}
-use Rattle.orient_tally.specs.Place.{Fits, InRange}
-use Rattle.orient_tally.proofs.Spans.{window-fits}
+use Rattle.orient_window.specs.Place.{Fits}
+use Rattle.orient_tally.specs.Place.{InRange}
+use Rattle.orient_window.proofs.Spans.{window-fits}
 use Rattle.orient_tally.proofs.Rules.{tally-rule}
 use Rattle.orient.specs.Keypoint.{octaveIn, cellWrong, octaveWrong, floatsWrong, scaleOf, scaleWrong, keypointWrong}
 use Rattle.orient.specs.Entry.{windowAt, anglesAt, orientFault}

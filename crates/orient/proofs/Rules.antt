@@ -22,7 +22,7 @@ use Rattle.params.specs.declared.Settings.{Settings}
 use Rattle.picture.specs.declared.Size.{Size}
 use Rattle.detect_refine.specs.Sound.{Sound}
 use Rattle.detect_refine.specs.declared.RawKeypoint.{RawKeypoint}
-use Rattle.orient_tally.proofs.Cells.{read-is}
+use Rattle.orient_window.proofs.Cells.{read-is}
 use Rattle.lists.proofs.Every.{every-all}
 use Rattle.orient_peaks.specs.Rules.{maxPeaks}
 use Rattle.orient_peaks.proofs.Rules.{peak-rule}

@@ -11,10 +11,10 @@ use Rattle.params.specs.declared.Answer.{Answer}
 use Rattle.params.specs.declared.Answer.the-variants.{Done, Short, Refused}
 use Rattle.picture.specs.declared.Size.{Size}
 use Rattle.detect_refine.specs.declared.RawKeypoint.{RawKeypoint}
-use Rattle.orient_tally.specs.Window.{windowOf, cellsRead}
-use Rattle.orient_tally.specs.Sample.{windowGood}
+use Rattle.orient_window.specs.Window.{windowOf, cellsRead}
+use Rattle.orient_window.specs.Good.{windowGood}
 use Rattle.orient_tally.specs.Tally.{tallyOf}
-use Rattle.orient_tally.specs.declared.Window.{Window}
+use Rattle.orient_window.specs.declared.Window.{Window}
 use Rattle.orient_peaks.specs.Peaks.{anglesOf}
 use Rattle.orient.specs.Keypoint.{keypointWrong, scaleOf}
 use Rattle.orient.specs.declared.OrientedKeypoint.{OrientedKeypoint}
@@ -24,7 +24,7 @@ use Rattle.orient.specs.declared.OrientAnswer.{OrientAnswer}
 unfoldable pub windowAt : Size → RawKeypoint → Window
 windowAt s k = windowOf s (k .rr) (k .cc) (scaleOf k)
 
--- the checks in the order of rule A3: of the samples only the four neighbours of each cell that is read (rule A13; `tested` in orient_tally/specs/Rules.antt says that it is those)
+-- the checks in the order of rule A3: of the samples only the four neighbours of each cell that is read (rule A13; `tested` in orient_window/specs/Rules.antt says that it is those)
 unfoldable pub orientFault : List Float → Size → RawKeypoint → ℕ
 orientFault img s k =
     firstFault

@@ -7,7 +7,7 @@ use Rattle.params.specs.Answers.{answerOf, landed}
 use Rattle.params.specs.declared.Answer.{Answer}
 use Rattle.picture.specs.declared.Size.{Size}
 use Rattle.detect_refine.specs.declared.RawKeypoint.{RawKeypoint}
-use Rattle.orient_tally.specs.Window.{cellsRead}
+use Rattle.orient_window.specs.Window.{cellsRead}
 use Rattle.orient_peaks.specs.Found.{heldOf}
 use Rattle.orient.specs.Entry.{windowAt, anglesAt, orientedOf, orientedWords, words, answeredWith}
 use Rattle.orient.specs.declared.Directions.{Directions}

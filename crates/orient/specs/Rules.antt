@@ -10,7 +10,7 @@ use Rattle.params.specs.declared.Settings.{Settings}
 use Rattle.picture.specs.declared.Size.{Size}
 use Rattle.detect_refine.specs.Sound.{Sound}
 use Rattle.detect_refine.specs.declared.RawKeypoint.{RawKeypoint}
-use Rattle.orient_tally.specs.Window.{cellsRead}
+use Rattle.orient_window.specs.Window.{cellsRead}
 use Rattle.orient_peaks.specs.Rules.{maxPeaks}
 use Rattle.orient.specs.Keypoint.{keypointWrong}
 use Rattle.orient.specs.Entry.{windowAt, orientedOf, orientedList}

@@ -2,7 +2,7 @@
 
 use detect_refine::RawKeypoint;
 use orient_peaks::Angles;
-use orient_tally::Window;
+use orient_window::Window;
 use params::Answer;
 use picture::Size;
 ghost use mathlib.Core.Path.{_≡_};
@@ -93,7 +93,7 @@ fn window_at(s: Size, k: RawKeypoint) -> Window
     requires { ⌜ Aimed s k ⌝ }
     ensures { λ r. ⌜ r ≡ windowAt s k ⌝ }
 {
-    orient_tally::window_of(s, k.rr as usize, k.cc as usize, scale_of(k))
+    orient_window::window_of(s, k.rr as usize, k.cc as usize, scale_of(k))
 }
 
 // The first fault in the order of the table, 0 for none; room is tested later.
@@ -110,7 +110,7 @@ fn fault_of(img: &[f32], s: Size, k: RawKeypoint) -> u32
     if keypoint_wrong(s, k) {
         return 5;
     }
-    if orient_tally::window_good(img, window_at(s, k)) {
+    if orient_window::window_good(img, window_at(s, k)) {
         0
     } else {
         6

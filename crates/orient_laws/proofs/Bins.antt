@@ -20,11 +20,12 @@ use Rattle.ieee.proofs.Held.{fma-fits}
 use Rattle.lists.specs.Ranges.{joined}
 use Rattle.ieee.specs.Numbers.{one}
 use Rattle.orient_tally.specs.Tally.{sampleOf, shareOf, added, tallied, empty, tallyOf}
-use Rattle.orient_tally.specs.Place.{cellAt}
-use Rattle.orient_tally.specs.declared.Window.{Window}
+use Rattle.orient_window.specs.Place.{cellAt}
+use Rattle.orient_window.specs.declared.Window.{Window}
 use Rattle.orient_tally.specs.declared.Sample.{Sample}
 use Rattle.orient_tally.specs.declared.Tally.{Tally}
-use Rattle.orient_tally.proofs.Cells.{part-at, after, after-none, after-more, after-all}
+use Rattle.orient_window.proofs.Cells.{part-at}
+use Rattle.orient_tally.proofs.After.{after, after-none, after-more, after-all}
 use Rattle.orient_tally.specs.Sample.{bins}
 use Rattle.orient_peaks.specs.Peaks.{around, outer, inner, middle, smoothAt, smoothed}
 

@@ -32,13 +32,14 @@ use Rattle.picture.specs.Picture.{pixel, slopeAt}
 use Rattle.picture.specs.Place.{Around}
 use Rattle.picture.specs.declared.Size.{Size}
 use Rattle.picture.proofs.Index.{spot}
-use Rattle.orient_tally.specs.Window.{windowOf}
-use Rattle.orient_tally.specs.Sample.{bins, weightAt, windowGood}
+use Rattle.orient_window.specs.Window.{windowOf}
+use Rattle.orient_window.specs.Good.{windowGood}
+use Rattle.orient_tally.specs.Sample.{bins, weightAt}
 use Rattle.orient_tally.specs.Tally.{sampleOf, tallyOf}
-use Rattle.orient_tally.specs.Place.{Fits, cellAt}
-use Rattle.orient_tally.specs.declared.Window.{Window}
-use Rattle.orient_tally.proofs.Cells.{placed, at-cell}
-use Rattle.orient_tally.proofs.Cells as cells
+use Rattle.orient_window.specs.Place.{Fits, cellAt}
+use Rattle.orient_window.specs.declared.Window.{Window}
+use Rattle.orient_window.proofs.Cells.{cell-around, at-cell}
+use Rattle.orient_window.proofs.Cells as cells
 use Rattle.orient_tally.proofs.Rules.{tally-rule}
 use Rattle.orient_peaks.specs.Peaks.{around, isPeak, leastOf, peakAngle, peakOf, anglesIn, anglesOf, smoothed, wrapped, crestOf}
 use Rattle.orient.specs.Keypoint.{keypointWrong, scaleOf}
@@ -236,7 +237,7 @@ module _ (img : List Float) (s : Size) (k : RawKeypoint) (fine : orientFault img
 
     all-still : (i j : ℕ) → i < win .rows → j < win .cols → Still (slopeAt img (win .size .width) (win .top + i) (win .left + j))
     all-still i j a b =
-        level-slope (win .top + i) (win .left + j) (placed fits i j a b .around) (tally-rule .slopes img win i j (right .good) a b)
+        level-slope (win .top + i) (win .left + j) (cell-around fits i j a b) (tally-rule .slopes img win i j (right .good) a b)
 
     none-level : orientedList img s k ≡ []
     none-level = none-still all-still

@@ -1,8 +1,7 @@
-pub mod Cells
+pub mod After
 pub mod Runs
 pub mod Lifted
 pub mod Values
-pub mod Spans
 pub mod Squares
 pub mod Bins
 pub mod Rules

@@ -1,17 +1,16 @@
--- The laws of a window that specs/Rules.antt states. Assumes nothing.
-use Prim.Native.Nat.{ℕ, zero, suc, _+_, _-_, _*_, _/_, _%_, _<_, _≤_}
-use mathlib.Core.Path.{_≡_, refl, sym, ap, _∙_, subst}
+-- The laws of a window's samples that specs/Rules.antt states. Assumes nothing.
+use Prim.Native.Nat.{ℕ, zero, suc, _+_, _-_, _*_, _<_, _≤_}
+use mathlib.Core.Path.{_≡_, refl, _∙_}
 use mathlib.Core.Bool.{Bool, true, false, not, _&&_}
 use mathlib.Core.List.{List, [], _∷_}
 use mathlib.Core.Logic.{⊎-elim}
-use native.Mathlib.Nat.{mul-le-mul, mod-lt, div-lt-iff-lt-mul}
+use native.Mathlib.Nat.{mul-le-mul}
 use native.Mathlib.Omega.{arith}
 use lib.Dec.{T, lit<}
 use lib.ListN.{length, getD}
 use lib.IntN.{pos}
 use lib.Ieee.{Float, fin, binary32, ofBits, ofInt, neg, mul, div, lt, le, eq, toUnsigned, isNan}
 use lib.Ieee.Scale.{finite}
-use Rattle.lists.proofs.Naturals.{packed}
 use Rattle.lists.proofs.Bools.{and-both, or-true}
 use Rattle.ieee.specs.F32.{_⊗_, _⊘_, f32, rounded}
 use Rattle.ieee.specs.Whole.{roundEven}
@@ -30,46 +29,13 @@ use Rattle.picture.proofs.Slopes.{good-slope}
 use Rattle.hal.specs.Numbers.{minus32}
 use Rattle.hal.specs.Exp.{inDown}
 use Rattle.hal_angle.specs.Angle.{inAngle}
-use Rattle.lists.specs.Ranges.{every}
-use Rattle.orient_tally.specs.Window.{radiusFactor, radiusOf, sigmaOf, falloffOf, windowOf, Cell, cell, cellsRead}
-use Rattle.orient_tally.specs.Sample.{squareAt, apart, rowGood, windowGood}
-use Rattle.orient_tally.specs.Rules.{readAt, TallyRule}
-use Rattle.orient_tally.specs.declared.Window.{Window}
-use Rattle.orient_tally.proofs.Cells.{read-is, cell-at, cell-in, some-cols}
-use Rattle.orient_tally.proofs.Spans.{spans}
-use Rattle.lists.proofs.Every.{every-all, all-every}
-
--- ---- what is tested is what is read
-module _ (img : List Float) (win : Window) where
-  abbrev goodAbout : Cell → Bool
-  goodAbout c = allGood (fourAt img (win .size .width) (c .row) (c .col))
-
-  abbrev cellsTest : ℕ → Bool
-  cellsTest k = goodAbout (readAt win k)
-
-  read-good : windowGood img win ≡ true → every (cellsRead win) cellsTest ≡ true
-  unfolding windowGood rowGood
-  read-good g = all-every (cellsRead win) cellsTest (λ k h. each k (subst (λ (n : ℕ). k < n) (read-is win) h))
-    where
-      each : (k : ℕ) → k < win .rows * win .cols → cellsTest k ≡ true
-      each k h =
-          let c = some-cols (win .rows) (win .cols) k h in
-          let r = every-all (win .rows) (λ i. rowGood img win (win .top + i)) g (k / win .cols) (div-lt-iff-lt-mul c .1 h) in
-          ap goodAbout (cell-at win k (cell 0 0) h) ∙ every-all (win .cols) (λ j. goodAbout (cell (win .top + k / win .cols) (win .left + j))) r (k % win .cols) (mod-lt k c)
-
-  good-read : every (cellsRead win) cellsTest ≡ true → windowGood img win ≡ true
-  unfolding windowGood rowGood
-  good-read g = all-every (win .rows) _ (λ i a. all-every (win .cols) _ (λ j b. each i j a b))
-    where
-      each : (i j : ℕ) → i < win .rows → j < win .cols → goodAbout (cell (win .top + i) (win .left + j)) ≡ true
-      each i j a b =
-          let h : i * win .cols + j < cellsRead win = subst (λ (n : ℕ). i * win .cols + j < n) (sym (read-is win)) (packed a b) in
-          ap goodAbout (sym (cell-in win i j (cell 0 0) a b)) ∙ every-all (cellsRead win) cellsTest g (i * win .cols + j) h
-
-same-test : (a b : Bool) → (a ≡ true → b ≡ true) → (b ≡ true → a ≡ true) → a ≡ b
-same-test true b f g = sym (f refl)
-same-test false true f g = g refl
-same-test false false f g = refl
+use Rattle.orient_window.specs.Window.{radiusFactor, radiusOf, sigmaOf, falloffOf, windowOf, cell}
+use Rattle.orient_window.specs.Good.{rowGood, windowGood}
+use Rattle.orient_window.specs.declared.Window.{Window}
+use Rattle.orient_window.proofs.Spans.{spans}
+use Rattle.orient_tally.specs.Sample.{squareAt, apart}
+use Rattle.orient_tally.specs.Rules.{TallyRule}
+use Rattle.lists.proofs.Every.{every-all}
 
 slopes : (img : List Float) (win : Window) (i j : ℕ) → windowGood img win ≡ true → i < win .rows → j < win .cols
     → inAngle (slopeAt img (win .size .width) (win .top + i) (win .left + j) .dx) (slopeAt img (win .size .width) (win .top + i) (win .left + j) .dy) ≡ true
@@ -260,4 +226,4 @@ exponents s row col scale i j r c w a b =
     down-in scale (dy * dy + dx * dx) w n
 
 pub tally-rule : TallyRule
-tally-rule = record { read = read-is; tested = λ img win. same-test _ _ (read-good img win) (good-read img win); slopes = slopes; exponents = exponents }
+tally-rule = record { slopes = slopes; exponents = exponents }

@@ -1,32 +1,25 @@
--- Laws of runs of cells and of strips of samples, by which the code goes over a window. Assumes nothing.
+-- Laws of runs of cells, by which the code goes over a window. Assumes nothing.
 use Prim.Native.Nat.{ℕ, _+_, _-_, _*_, _/_, _%_, _<_, _≤_, min}
 use mathlib.Core.Path.{_≡_, refl, sym, ap, _∙_, subst}
-use mathlib.Core.Bool.{true}
 use mathlib.Core.List.{List}
 use mathlib.Core.Logic.{⊎-elim}
-use native.Mathlib.Nat.{mul-le-mul, div-add-mod', add-mul-div-right, mul-add-mod-self-right, mod-eq-of-lt, div-eq-of-lt, suc-mul, mul-le-mul-right}
+use native.Mathlib.Nat.{div-add-mod', add-mul-div-right, mul-add-mod-self-right, mod-eq-of-lt, div-eq-of-lt, suc-mul, mul-le-mul-right}
 use native.Mathlib.Omega.{arith}
 use borrow.Author.Tests.{le-leb, lt-leb}
 use lib.Dec.{leb}
-use lib.ListN.{length}
 use lib.Ieee.{Float}
 use Rattle.lists.proofs.Naturals.{le-or-lt}
-use Rattle.lists.proofs.Every.{every-all, all-every}
-use Rattle.params.specs.Limits.{maxSide}
-use Rattle.params.specs.Table.{allGood}
-use Rattle.picture.specs.Picture.{fourAt}
-use Rattle.picture.specs.Samples.{goodFrom}
-use Rattle.picture.proofs.Runs.{good-cross}
-use Rattle.orient_tally.specs.Window.{cell}
-use Rattle.orient_tally.specs.Sample.{rowGood, windowGood}
+use Rattle.orient_window.specs.Window.{cell}
+use Rattle.orient_window.specs.Place.{Fits, cellAt}
+use Rattle.orient_window.specs.declared.Window.{Window}
+use Rattle.orient_window.proofs.Cells.{at-cell, cell-around}
 use Rattle.orient_tally.specs.Tally.{early, sampleOf, tallied}
-use Rattle.orient_tally.specs.Place.{Fits, Asked, InRange, cellAt}
-use Rattle.orient_tally.specs.Runs.{runOf, runLength, sampleIn, stripGood, stripsGood}
-use Rattle.orient_tally.specs.declared.Window.{Window}
+use Rattle.orient_tally.specs.Place.{Placed, Asked, InRange}
+use Rattle.orient_tally.specs.Runs.{runOf, runLength, sampleIn}
 use Rattle.orient_tally.specs.declared.Sample.{Sample}
 use Rattle.orient_tally.specs.declared.Run.{Run}
 use Rattle.orient_tally.specs.declared.Tally.{Tally}
-use Rattle.orient_tally.proofs.Cells.{at-cell, placed, after, after-more}
+use Rattle.orient_tally.proofs.After.{after, after-more}
 use Rattle.orient_tally.proofs.Rules.{tally-rule}
 
 -- ---- how long a run is
@@ -113,7 +106,11 @@ after-run img win n k i m r s t a g b p e =
     let f : s ≡ sampleOf img win n (k + i) (cellAt win (k + i)) = p ∙ sample-as img win n (k + i) i r (g .of) (g .alike i b) ∙ ap (sampleOf img win n (k + i)) (sym (g .place i b)) in
     after-more img win n (k + i) s t a (omega (arith, g .most)) f e ∙ ap (after img win) y
 
--- a cell of the window is asked inside the routines' ranges
+-- a cell of the window lies in the picture with its neighbours, and near the window's middle
+placed : {len : ℕ} {win : Window} → Fits len win → (i j : ℕ) → i < win .rows → j < win .cols → Placed len win (win .top + i) (win .left + j)
+placed f i j a b = record { around = cell-around f i j a b; near = record { high = omega arith; wide = omega arith; rows = omega arith; cols = omega arith } }
+
+-- and is asked inside the routines' ranges
 asked : (img : List Float) (win : Window) → InRange img win → (i j : ℕ) → i < win .rows → j < win .cols → Asked img win (win .top + i) (win .left + j)
 asked img win a i j p q = record { place = placed (a .fits) i j p q; slope = tally-rule .slopes img win i j (a .good) p q; down = a .down i j p q }
 
@@ -121,34 +118,3 @@ pub asked-in : (img : List Float) (win : Window) (n k i m : ℕ) (r : Run) → I
 asked-in img win n k i m r a g l =
     let z : win .left + (k % win .cols + i) ≡ win .left + k % win .cols + i = omega arith in
     rw (g .of, g .row, g .col) (subst (λ (v : ℕ). Asked img win (win .top + k / win .cols) v) z (asked img win a (k / win .cols) (k % win .cols + i) (g .above) (omega (arith, g .inside))))
-
--- ---- strips
-
--- a strip lies in the picture
-pub record Strip (len w y left cols : ℕ) : Type 0 where
-  pub room : y * w + left + cols + 1 ≤ len
-  pub small : len ≤ maxSide * maxSide
-  pub starts : y * w + left - 1 ≡ y * w + (left - 1)
-  pub ends : y * w + left + cols + 1 ≡ y * w + (left + cols + 1)
-
-pub strip : {len : ℕ} {win : Window} {y : ℕ} → Fits len win → 0 < win .cols → y < win .size .height → Strip len (win .size .width) y (win .left) (win .cols)
-strip {len} {win} {y} f c h =
-    let w = win .size .width in
-    record {
-      room = omega (arith, f, mul-le-mul-right w h, suc-mul y w);
-      small = omega (arith, f, mul-le-mul {n₁ = win .size .height} {m₁ = w} {n₂ = maxSide} {m₂ = maxSide} (f .high) (f .wide));
-      starts = omega (arith, f);
-      ends = omega arith;
-    }
-
-strip-cell : (img : List Float) (win : Window) (i j : ℕ) → Fits (length img) win → stripsGood img win ≡ true → i < win .rows → j < win .cols → allGood (fourAt img (win .size .width) (win .top + i) (win .left + j)) ≡ true
-unfolding stripsGood stripGood
-strip-cell img win i j f g a b =
-    let w = win .size .width in
-    let each : (y k : ℕ) → win .top - 1 + k ≡ y → k < win .rows + 2 → goodFrom (y * w + (win .left - 1)) (y * w + (win .left + win .cols + 1)) img ≡ true = λ y k z l. rw (← z) (every-all (win .rows + 2) (λ i. stripGood img win (win .top - 1 + i)) g k l) in
-    good-cross img (win .size) (win .left - 1) (win .left + win .cols + 1) (win .top + i) (win .left + j) (placed f i j a b .around) (omega (arith, f)) (omega (arith, f)) (omega arith)
-    (each (win .top + i - 1) i (omega (arith, f)) (omega arith)) (each (win .top + i) (i + 1) (omega (arith, f)) (omega arith)) (each (win .top + i + 1) (i + 2) (omega (arith, f)) (omega arith))
-
-pub strips-window : (img : List Float) (win : Window) → Fits (length img) win → stripsGood img win ≡ true → windowGood img win ≡ true
-unfolding windowGood rowGood
-strips-window img win f g = all-every (win .rows) _ (λ i a. all-every (win .cols) _ (λ j b. strip-cell img win i j f g a b))

@@ -1,29 +1,23 @@
 -- The square of a distance, worked out with signs. Assumes nothing.
-use Prim.Native.Nat.{ℕ, zero, suc, _+_, _-_, _*_, _^_, _<_, _≤_}
-use mathlib.Core.Path.{_≡_, refl, sym, ap, _∙_}
+use Prim.Native.Nat.{ℕ, suc, _+_, _-_, _*_, _^_, _<_, _≤_}
+use mathlib.Core.Path.{_≡_, _∙_}
 use mathlib.Core.Logic.{⊎-elim}
+use native.Mathlib.Nat.{mul-le-mul}
 use native.Mathlib.Omega.{arith}
-use borrow.Author.Tests.{lt-ltb, le-ltb}
 use lib.Dec.{T, le→leb}
-use lib.IntN.{ℤ, pos, negsuc, _+ℤ_, _-ℤ_, _*ℤ_, pos-+ℤ-pos, pos-*ℤ-pos, negsuc-*ℤ-negsuc}
-use lib.Signed.{mag}
+use lib.IntN.{ℤ, pos, _+ℤ_, _-ℤ_, _*ℤ_, pos-+ℤ-pos, pos-*ℤ-pos, negsuc-*ℤ-negsuc}
 use lib.Ieee.{binary32, inFloat}
 use mir.Syntax.{w32}
 use mir.Val.{SFits, toZ, ofZ}
 use mir.ValLaws.{toZ-pos, toZ-ofZ}
 use Rattle.lists.proofs.Naturals.{le-or-lt}
 use Rattle.params.specs.Limits.{maxSide}
+use Rattle.picture.proofs.Apart.{diff-up, diff-down, mag-diff}
+use Rattle.orient_window.specs.Place.{maxReach}
 use Rattle.orient_tally.specs.Sample.{apart}
-use Rattle.orient_tally.specs.Place.{maxReach}
-use Rattle.orient_tally.proofs.Spans.{square-small}
 
-diff-up : (a b : ℕ) → b ≤ a → pos a -ℤ pos b ≡ pos (a - b)
-diff-up a zero h = ap pos (omega arith)
-diff-up a (suc b) h = rw (le-ltb a (suc b) h)
-
-diff-down : (a b : ℕ) → a < b → pos a -ℤ pos b ≡ negsuc (b - suc a)
-diff-down a zero h = absurd (omega arith)
-diff-down a (suc b) h = rw (lt-ltb a (suc b) h)
+square-small : {i : ℕ} → i ≤ maxReach → i * i ≤ maxReach * maxReach
+square-small {i} h = mul-le-mul {n₁ = i} {m₁ = i} {n₂ = maxReach} {m₂ = maxReach} h h
 
 square-is : (a b : ℕ) → (pos a -ℤ pos b) *ℤ (pos a -ℤ pos b) ≡ pos (apart a b * apart a b)
 square-is a b =
@@ -34,11 +28,7 @@ square-is a b =
 
 module _ (a b : ℕ) (h : a ≤ maxSide) (l : apart a b ≤ maxReach) where
   diff-fits : SFits w32 (pos a -ℤ pos b)
-  diff-fits =
-      ⊎-elim
-      (λ k. rw (diff-up a b k) (record { sfits = omega arith }))
-      (λ k. rw (diff-down a b k) (record { sfits = omega arith }))
-      (le-or-lt b a)
+  diff-fits = record { sfits = mag-diff a b (2 ^ 31) (omega arith) (omega arith) }
 
   -- what the code computes with
   code-diff : toZ w32 a -ℤ toZ w32 b ≡ pos a -ℤ pos b

@@ -1,4 +1,4 @@
--- Bounds of the radius and of a bin. Assumes nothing.
+-- Bounds of a bin. Assumes nothing.
 use Prim.Native.Nat.{ℕ, _+_, _-_, _%_, _≤_, _<_}
 use mathlib.Core.Path.{_≡_, refl, ap}
 use mathlib.Core.Bool.{Bool, true, false, not, _&&_}
@@ -12,49 +12,18 @@ use Rattle.lists.proofs.Every.{every-all}
 use Rattle.lists.proofs.Bools.{and-both, is-T}
 use Rattle.ieee.specs.F32.{_⊕_, _⊗_, rounded}
 use Rattle.ieee.specs.Whole.{roundEven}
-use Rattle.ieee_laws.proofs.Order.{lt-le-trans, le-lt-trans, lt-le}
-use Rattle.ieee_laws.proofs.Monotone.{toUnsigned-le}
+use Rattle.ieee_laws.proofs.Order.{le-lt-trans, lt-le}
 use Rattle.ieee_laws.proofs.Bounds.{Bounds, bounds-point, mul-bounds, roundEven-bounds}
 use Rattle.hal_angle.specs.Angle.{angleOf, inAngle}
 use Rattle.hal_angle.proofs.Rules.{angle-rule}
-use Rattle.params.specs.Limits.{scaleLow, scaleHigh}
-use Rattle.params.specs.Table.{within}
-use Rattle.orient_tally.specs.Window.{radiusFactor}
+use Rattle.orient_window.proofs.Radius.{Cuts, cuts}
 use Rattle.orient_tally.specs.Sample.{bins, tenth, binOf}
-use Rattle.orient_tally.specs.Place.{maxReach}
 use Rattle.orient_tally.proofs.Lifted.{significand, place, lifts, amount, lift, lifted}
 
 of-T : (b : Bool) → T b → b ≡ true
 of-T true h = refl
 of-T false h = absurd h
 
--- a float that can be cut to a u64
-pub record Cuts (top : ℕ) (x : Float) : Type 0 where
-  pub above : T (lt (fin true 1 (pos 0)) x)
-  pub below : T (lt x (fin false 1 (pos 64)))
-  pub size : toUnsigned 64 x ≤ top
-
-pub cuts : {lo hi x : Float} (top : ℕ) → lt (fin true 1 (pos 0)) lo ≡ true → lt hi (fin false 1 (pos 64)) ≡ true → toUnsigned 64 hi ≤ top → Bounds lo hi x → Cuts top x
-cuts {lo} {hi} {x} top a b s u =
-    record {
-      above = is-T _ (lt-le-trans (fin true 1 (pos 0)) lo x a (u .low));
-      below = is-T _ (le-lt-trans x hi (fin false 1 (pos 64)) (u .high) b);
-      size = omega (arith, toUnsigned-le 64 x hi (u .high));
-    }
-
-pub scale-bounds : (s : Float) → within scaleLow scaleHigh s ≡ true → Bounds scaleLow scaleHigh s
-unfolding ofBits
-scale-bounds s h = let p = and-both (le scaleLow s) (le s scaleHigh) h in record { from = refl; to = refl; low = p .0; high = p .1 }
-
-pub radius-bounds : (s : Float) → within scaleLow scaleHigh s ≡ true → Bounds (rounded (radiusFactor ⊗ scaleLow)) (rounded (radiusFactor ⊗ scaleHigh)) (rounded (radiusFactor ⊗ s))
-unfolding ofBits mul le roundEven
-radius-bounds s h = roundEven-bounds binary32 refl refl (mul-bounds binary32 refl refl refl refl (bounds-point radiusFactor refl) (scale-bounds s h))
-
-pub radius-cuts : (s : Float) → within scaleLow scaleHigh s ≡ true → Cuts maxReach (rounded (radiusFactor ⊗ s))
-unfolding ofBits mul lt roundEven toUnsigned
-radius-cuts s h = cuts maxReach refl refl (omega arith) (radius-bounds s h)
-
--- ---- the bin of an angle
 abbrev pub turn : Float
 turn = fin false 45 (pos 3)
 

@@ -1,4 +1,3 @@
-pub mod Window
 pub mod Sample
 pub mod Tally
 pub mod Place

@@ -1,32 +1,23 @@
--- Law: what is proved of a window's cells and samples: proofs/Rules.antt proves each. Definitions only.
-use Prim.Native.Nat.{ℕ, _+_, _*_, _<_}
+-- Law: what is proved of a window's samples: proofs/Rules.antt proves each. Definitions only.
+use Prim.Native.Nat.{ℕ, _+_, _<_}
 use mathlib.Core.Path.{_≡_}
 use mathlib.Core.Bool.{true}
 use mathlib.Core.List.{List}
-use lib.ListN.{getD}
 use lib.IntN.{pos}
 use lib.Ieee.{Float, binary32, ofInt}
 use Rattle.ieee.specs.F32.{_⊗_}
 use Rattle.params.specs.Limits.{scaleLow, scaleHigh}
-use Rattle.params.specs.Table.{within, allGood}
-use Rattle.picture.specs.Picture.{slopeAt, fourAt}
+use Rattle.params.specs.Table.{within}
+use Rattle.picture.specs.Picture.{slopeAt}
 use Rattle.picture.specs.declared.Size.{Size}
 use Rattle.hal.specs.Exp.{inDown}
 use Rattle.hal_angle.specs.Angle.{inAngle}
-use Rattle.lists.specs.Ranges.{every}
-use Rattle.orient_tally.specs.Window.{Cell, cell, windowOf, cellsOf, cellsRead}
-use Rattle.orient_tally.specs.Sample.{squareAt, windowGood}
-use Rattle.orient_tally.specs.declared.Window.{Window}
-
--- the place of the cell that is read after k others
-abbrev pub readAt : Window → ℕ → Cell
-readAt win k = getD (cellsOf win) k (cell 0 0)
+use Rattle.orient_window.specs.Window.{cell, windowOf}
+use Rattle.orient_window.specs.Good.{windowGood}
+use Rattle.orient_window.specs.declared.Window.{Window}
+use Rattle.orient_tally.specs.Sample.{squareAt}
 
 pub record TallyRule : Type 0 where
-  -- n, the number of cells read, is rows × columns
-  pub read : (win : Window) → cellsRead win ≡ win .rows * win .cols
-  -- the samples that are tested are the four neighbours of each cell that is read, and no others
-  pub tested : (img : List Float) (win : Window) → windowGood img win ≡ every (cellsRead win) (λ k. allGood (fourAt img (win .size .width) (readAt win k .row) (readAt win k .col)))
   -- of good samples the angle and the magnitude are asked inside their range
   pub slopes : (img : List Float) (win : Window) (i j : ℕ) → windowGood img win ≡ true → i < win .rows → j < win .cols
       → inAngle (slopeAt img (win .size .width) (win .top + i) (win .left + j) .dx) (slopeAt img (win .size .width) (win .top + i) (win .left + j) .dy) ≡ true

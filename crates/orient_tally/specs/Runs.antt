@@ -1,18 +1,16 @@
--- Inner: how the code goes over a window: runs of cells, and strips of samples. Definitions only.
-use Prim.Native.Nat.{ℕ, _+_, _-_, _*_, _/_, _%_, min}
-use mathlib.Core.Bool.{Bool, cond}
+-- Inner: how the code goes over a window: runs of cells. Definitions only.
+use Prim.Native.Nat.{ℕ, _+_, _-_, _/_, _%_, min}
+use mathlib.Core.Bool.{cond}
 use mathlib.Core.List.{List}
 use lib.Dec.{leb}
 use lib.Ieee.{Float}
-use Rattle.lists.specs.Ranges.{every}
 use Rattle.hal_angle.specs.Angle.{angleOf}
 use Rattle.hal_angle.specs.Magnitude.{magnitudeOf}
 use Rattle.picture.specs.Picture.{slopeAt}
-use Rattle.picture.specs.Samples.{goodFrom}
-use Rattle.orient_tally.specs.Window.{cell}
+use Rattle.orient_window.specs.Window.{cell}
 use Rattle.orient_tally.specs.Sample.{weightAt, binOf}
 use Rattle.orient_tally.specs.Tally.{early}
-use Rattle.orient_tally.specs.declared.Window.{Window}
+use Rattle.orient_window.specs.declared.Window.{Window}
 use Rattle.orient_tally.specs.declared.Sample.{Sample}
 use Rattle.orient_tally.specs.declared.Run.{Run}
 
@@ -34,11 +32,3 @@ sampleIn img run i =
       magnitude = magnitudeOf (s .dx) (s .dy);
       late = run .late;
     }
-
--- the samples of row y from the column before the window to the one after it are good
-unfoldable pub stripGood : List Float → Window → ℕ → Bool
-stripGood img win y = goodFrom (y * win .size .width + (win .left - 1)) (y * win .size .width + (win .left + win .cols + 1)) img
-
--- so are those of each row of the window, of the row above and of the one below
-unfoldable pub stripsGood : List Float → Window → Bool
-stripsGood img win = every (win .rows + 2) (λ i. stripGood img win (win .top - 1 + i))

@@ -1,17 +1,13 @@
 -- What one cell of a window gives: a direction's bin, a weight and a magnitude (rules O3 and O4). Definitions only.
 use Prim.Native.Nat.{ℕ, _+_, _-_, _*_}
-use mathlib.Core.Bool.{Bool, cond}
-use mathlib.Core.List.{List}
+use mathlib.Core.Bool.{cond}
 use lib.Dec.{leb}
 use lib.IntN.{pos}
 use lib.Ieee.{Float, binary32, ofInt, toUnsigned}
 use Rattle.ieee.specs.F32.{_⊗_, f32, rounded}
-use Rattle.lists.specs.Ranges.{every}
-use Rattle.params.specs.Table.{allGood}
-use Rattle.picture.specs.Picture.{fourAt}
 use Rattle.hal.specs.Exp.{expOf}
-use Rattle.orient_tally.specs.Window.{Cell}
-use Rattle.orient_tally.specs.declared.Window.{Window}
+use Rattle.orient_window.specs.Window.{Cell}
+use Rattle.orient_window.specs.declared.Window.{Window}
 
 -- the number of bins, one for each 10 degrees
 abbrev pub bins : ℕ
@@ -38,11 +34,3 @@ unfoldable pub binOf : Float → ℕ
 binOf angle =
     let b = toUnsigned 64 (rounded (tenth ⊗ angle)) in
     cond (leb bins b) (b - bins) b
-
--- number 6 (rule A13): the four neighbours of each cell of row y are good samples
-unfoldable pub rowGood : List Float → Window → ℕ → Bool
-rowGood img win y = every (win .cols) (λ j. allGood (fourAt img (win .size .width) y (win .left + j)))
-
--- so are those of each cell of the window
-unfoldable pub windowGood : List Float → Window → Bool
-windowGood img win = every (win .rows) (λ i. rowGood img win (win .top + i))

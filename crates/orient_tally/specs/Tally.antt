@@ -9,9 +9,9 @@ use Rattle.ieee.specs.F32.{_⊕_, _⊗_, f32, fused}
 use Rattle.hal_angle.specs.Angle.{angleOf}
 use Rattle.hal_angle.specs.Magnitude.{magnitudeOf}
 use Rattle.picture.specs.Picture.{slopeAt}
-use Rattle.orient_tally.specs.Window.{Cell, cellsOf, cellsRead}
+use Rattle.orient_window.specs.Window.{Cell, cellsOf, cellsRead}
 use Rattle.orient_tally.specs.Sample.{bins, weightAt, binOf}
-use Rattle.orient_tally.specs.declared.Window.{Window}
+use Rattle.orient_window.specs.declared.Window.{Window}
 use Rattle.orient_tally.specs.declared.Sample.{Sample}
 use Rattle.orient_tally.specs.declared.Tally.{Tally}
 use Rattle.orient_tally.specs.declared.Gathered.{Gathered}

@@ -1,23 +1,22 @@
-// The tally of 36 bins about a keypoint: the window of cells, a sample of each, and the tally that is lent from sample to sample.
+// The tally of 36 bins about a keypoint: a sample of each cell of a window, and the tally that is lent from sample to sample.
 
-use picture::Size;
+use orient_window::Window;
 ghost use mathlib.Core.Path.{_≡_};
 ghost use mathlib.Core.Bool.{true};
-ghost use Prim.Native.Nat.{_+_, _-_, _*_, _<_, _≤_};
-ghost use lib.ListN.{length};
+ghost use Prim.Native.Nat.{_+_, _*_, _<_, _≤_};
 ghost use lib.IntN.{pos};
-ghost use Rattle.params.specs.Limits.{maxSide, scaleLow, scaleHigh};
-ghost use Rattle.params.specs.Table.{within};
+ghost use Rattle.params.specs.Limits.{maxSide};
 ghost use Rattle.hal.specs.Powers.{pairs as pairTable};
 ghost use Rattle.hal_angle.specs.Cubics.{cubics as cubicTable};
 ghost use Rattle.hal_angle.specs.Turns.{turns as turnTable};
 ghost use Rattle.hal.specs.Exp.{inDown};
 ghost use Rattle.hal_angle.specs.Angle.{angleOf, inAngle};
-ghost use Rattle.orient_tally.specs.Window.{radiusOf, falloffOf, windowOf, cell};
-ghost use Rattle.orient_tally.specs.Sample.{bins, apart, weightAt, binOf, rowGood, windowGood};
+ghost use Rattle.orient_window.specs.Window.{cell};
+ghost use Rattle.orient_window.specs.Place.{maxReach};
+ghost use Rattle.orient_tally.specs.Sample.{bins, apart, weightAt, binOf};
 ghost use Rattle.orient_tally.specs.Tally.{early, shareOf, added, tallied, empty, tallyOf, gatheredOf};
-ghost use Rattle.orient_tally.specs.Place.{maxReach, Fits, Near, exponentAt, Asked, InRange};
-ghost use Rattle.orient_tally.specs.Runs.{runOf, runLength, sampleIn, stripGood, stripsGood};
+ghost use Rattle.orient_tally.specs.Place.{Near, exponentAt, Asked, InRange};
+ghost use Rattle.orient_tally.specs.Runs.{runOf, runLength, sampleIn};
 
 // The tally: a sum of weighted magnitudes for each 10 degrees of direction.
 pub struct Tally {
@@ -32,18 +31,6 @@ pub struct Sample {
     pub late: bool,
 }
 
-// The cells about the cell (row, col) of a picture that are read: so many rows from the top one, so many columns from the left one.
-pub struct Window {
-    pub size: Size,
-    pub row: usize,
-    pub col: usize,
-    pub top: usize,
-    pub left: usize,
-    pub rows: usize,
-    pub cols: usize,
-    pub falloff: f32,
-}
-
 // Cells of row y, one after the other from a column on, that are all early or all late.
 struct Run {
     win: Window,
@@ -56,49 +43,6 @@ struct Run {
 pub struct Gathered {
     pub tally: Tally,
     pub read: usize,
-}
-
-// ---- the window
-
-fn radius_of(scale: f32) -> usize
-    requires { ⌜ within scaleLow scaleHigh scale ≡ true ⌝ }
-    ensures { λ r. ⌜ (r ≡ radiusOf scale) × (r ≤ maxReach) ⌝ }
-{
-    std::num::truncating_f32_to_u64(ieee_whole::round_ties_even(4.5 * scale)) as usize
-}
-
-fn falloff(scale: f32) -> f32
-    ensures { λ r. ⌜ r ≡ falloffOf scale ⌝ }
-{
-    let sigma = 1.5 * scale;
-    -1.0 / (2.0 * sigma * sigma)
-}
-
-// How many places there are from one to below another.
-fn count(from: usize, past: usize) -> usize
-    ensures { λ n. ⌜ n ≡ past - from ⌝ }
-{
-    if from < past { past - from } else { 0 }
-}
-
-// The window about a cell.
-pub fn window_of(s: Size, row: usize, col: usize, scale: f32) -> Window
-    requires { ⌜ (row < s .height) × ((col < s .width) × ((s .height ≤ maxSide) × ((s .width ≤ maxSide) × (within scaleLow scaleHigh scale ≡ true)))) ⌝ }
-    ensures { λ r. ⌜ r ≡ windowOf s row col scale ⌝ }
-{
-    let radius = radius_of(scale);
-    let top = picture::first_in(row, radius);
-    let left = picture::first_in(col, radius);
-    Window {
-        size: s,
-        row: row,
-        col: col,
-        top: top,
-        left: left,
-        rows: count(top, picture::past_in(row, radius, s.height)),
-        cols: count(left, picture::past_in(col, radius, s.width)),
-        falloff: falloff(scale),
-    }
 }
 
 // ---- a sample
@@ -267,72 +211,4 @@ pub fn tally_of(img: &[f32], win: Window) -> Gathered
     let n = win.rows * win.cols;
     let t = gather(img, &pairs, &cubics, &turns, win, n);
     Gathered { tally: t, read: n }
-}
-
-// ---- the samples' neighbours
-
-// Row i of the window.
-fn row_good(img: &[f32], win: Window, i: usize) -> bool
-    requires { ⌜ Fits (length (now img)) win × (i < win .rows) ⌝ }
-    ensures { λ r. ⌜ r ≡ rowGood (now (img .entry)) win (win .top + i) ⌝ }
-{
-    let y = win.top + i;
-    let mut ok = true;
-    let mut j: usize = 0;
-    while j < win.cols {
-        ok = ok & picture::four_good(img, win.size, y, win.left + j);
-        j += 1;
-    }
-    ok
-}
-
-// Row by row.
-fn cells_good(img: &[f32], win: Window) -> bool
-    requires { ⌜ Fits (length (now img)) win ⌝ }
-    ensures { λ r. ⌜ r ≡ windowGood (now (img .entry)) win ⌝ }
-{
-    let mut i: usize = 0;
-    while i < win.rows {
-        if !row_good(img, win, i) {
-            return false;
-        }
-        i += 1;
-    }
-    true
-}
-
-// Row y of the picture, from the column before the window to the one after it.
-fn strip_good(img: &[f32], win: Window, y: usize) -> bool
-    requires { ⌜ Fits (length (now img)) win × ((0 < win .cols) × (y < win .size .height)) ⌝ }
-    ensures { λ r. ⌜ r ≡ stripGood (now (img .entry)) win y ⌝ }
-{
-    let at = y * win.size.width + win.left;
-    picture::block_good(img, at - 1, at + win.cols + 1)
-}
-
-// The same of each row of the window, of the row above and of the one below.
-fn strips_good(img: &[f32], win: Window) -> bool
-    requires { ⌜ Fits (length (now img)) win × ((0 < win .rows) × (0 < win .cols)) ⌝ }
-    ensures { λ r. ⌜ r ≡ stripsGood (now (img .entry)) win ⌝ }
-{
-    let mut ok = true;
-    let mut i: usize = 0;
-    while i < win.rows + 2 {
-        ok = ok & strip_good(img, win, win.top - 1 + i);
-        i += 1;
-    }
-    ok
-}
-
-// Whether the four neighbours of each cell are in range. Whole strips hold them all, and the strips' corners beside: where these are good nothing else is asked.
-pub fn window_good(img: &[f32], win: Window) -> bool
-    requires { ⌜ Fits (length (now img)) win ⌝ }
-    ensures { λ r. ⌜ r ≡ windowGood (now (img .entry)) win ⌝ }
-{
-    if (win.rows > 0) & (win.cols > 0) {
-        if strips_good(img, win) {
-            return true;
-        }
-    }
-    cells_good(img, win)
 }

@@ -10,6 +10,7 @@ ghost use Rattle.picture.specs.Picture.{pixel, slopeAt, fourAt, firstIn,
 ghost use Rattle.picture.specs.Stack.{sample};
 ghost use Rattle.picture.specs.Place.{Inside, Within, Around};
 ghost use Rattle.picture.specs.Samples.{block, goodFrom};
+ghost use Rattle.picture.specs.Area.{Inset, areaGood};
 
 // The largest magnitude of a sample, 2^20.
 const LIMIT: f32 = 1048576.0;
@@ -29,6 +30,14 @@ pub struct Shape {
 pub struct Size {
     pub width: usize,
     pub height: usize,
+}
+
+// The cells from row `top` to before row `bottom` and from column `left` to before column `right`.
+pub struct Area {
+    pub top: usize,
+    pub bottom: usize,
+    pub left: usize,
+    pub right: usize,
 }
 
 // The differences across a cell.
@@ -109,6 +118,25 @@ pub fn block_good(d: &[f32], from: usize, to: usize) -> bool
     while i < to {
         ok = ok & good_sample(d[i]);
         i += 1;
+    }
+    ok
+}
+
+// Whether the samples of an area and of the cells round it are good: more than the four neighbours of its cells, so that a yes is enough, and whole runs of samples,
+// which the machine tests quickly.
+pub fn area_good(img: &[f32], s: Size, a: Area) -> bool
+    requires { ⌜ Inset (length (now img)) s a ⌝ }
+    ensures { λ b. ⌜ b ≡ areaGood (now (img .entry)) (s .width) a ⌝ }
+{
+    let left = a.left - 1;
+    let right = a.right + 1;
+    let end = a.bottom + 1;
+    let mut ok = true;
+    let mut r = a.top - 1;
+    while r < end {
+        let from = r * s.width;
+        ok = ok & block_good(img, from + left, from + right);
+        r += 1;
     }
     ok
 }

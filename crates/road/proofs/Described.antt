@@ -34,7 +34,8 @@ use Rattle.descriptor_inputs.specs.Inputs.{shrinkOf, givenOf, inputsOf}
 use Rattle.descriptor_inputs.specs.Rules.{Taken}
 use Rattle.descriptor_inputs.specs.declared.Inputs.{Inputs}
 use Rattle.descriptor_inputs.proofs.Rules.{input-rule}
-use Rattle.descriptor_patch.specs.Patch.{cellOf, usedAt, overCells, readsOf}
+use Rattle.descriptor_patch.specs.Patch.{cellOf}
+use Rattle.descriptor_run.specs.Cells.{usedAt, overCells, readsOf}
 use Rattle.descriptor_patch.specs.declared.Patch.{Patch}
 use Rattle.descriptor.specs.Place.{onSide, spotWrong, turnWrong, turnAt}
 use Rattle.descriptor.specs.declared.Spot.{Spot}

@@ -17,10 +17,10 @@ use Rattle.picture.proofs.Runs.{good-four}
 use Rattle.params.specs.declared.Settings.{Settings}
 use Rattle.detect_refine.specs.Sound.{Sound}
 use Rattle.detect_refine.specs.declared.RawKeypoint.{RawKeypoint}
-use Rattle.orient_tally.specs.Sample.{rowGood, windowGood}
-use Rattle.orient_tally.specs.Place.{Fits}
-use Rattle.orient_tally.specs.declared.Window.{Window}
-use Rattle.orient_tally.proofs.Cells.{placed}
+use Rattle.orient_window.specs.Good.{rowGood, windowGood}
+use Rattle.orient_window.specs.Place.{Fits}
+use Rattle.orient_window.specs.declared.Window.{Window}
+use Rattle.orient_window.proofs.Cells.{cell-around}
 use Rattle.orient.specs.Keypoint.{keypointWrong}
 use Rattle.orient.specs.Entry.{windowAt, orientFault}
 use Rattle.orient.proofs.Checks.{aimed, aimed-fits, fault-sample, fault-none}
@@ -47,7 +47,7 @@ module _ (img : List Float) (s : Size) (whole : length img ≡ s .height * s .wi
     window-right : (win : Window) → Fits (length img) win → windowGood img win ≡ true
     unfolding windowGood rowGood
     window-right win f =
-        all-every (win .rows) _ (λ i a. all-every (win .cols) _ (λ j b. good-four img (win .size) (win .top + i) (win .left + j) good (placed f i j a b .around)))
+        all-every (win .rows) _ (λ i a. all-every (win .cols) _ (λ j b. good-four img (win .size) (win .top + i) (win .left + j) good (cell-around f i j a b)))
 
     -- so the window about a keypoint that passes number 5
     pub window-good : (k : RawKeypoint) → shapeWrong (s .width) (s .height) ≡ false → keypointWrong s k ≡ false → windowGood img (windowAt s k) ≡ true

@@ -15,7 +15,7 @@ use Rattle.detect_refine.specs.Search.{searchOf}
 use Rattle.detect_refine.specs.Place.{Searched}
 use Rattle.orient.specs.declared.OrientedKeypoint.{OrientedKeypoint}
 use Rattle.orient_laws.specs.Rules.{Turn}
-use Rattle.descriptor_patch.specs.Patch.{samplesOf}
+use Rattle.descriptor_run.specs.Cells.{samplesOf}
 use Rattle.descriptor_grid.specs.Grid.{gathered}
 use Rattle.descriptor_laws.proofs.ValuesRules.{value-rule}
 use Rattle.descriptor.specs.Place.{turnAt}

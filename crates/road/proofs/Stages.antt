@@ -13,7 +13,7 @@ use Rattle.detect_refine.specs.Search.{searchOf}
 use Rattle.detect_refine.specs.Place.{Searched}
 use Rattle.detect.proofs.Faults as DetectFaults
 use Rattle.detect.proofs.Rules.{detect-rule}
-use Rattle.orient_tally.specs.Sample.{windowGood}
+use Rattle.orient_window.specs.Good.{windowGood}
 use Rattle.orient.specs.Keypoint.{keypointWrong}
 use Rattle.orient.specs.Entry.{windowAt, orientedOf}
 use Rattle.orient.specs.declared.OrientedKeypoint.{OrientedKeypoint}

@@ -17,7 +17,7 @@ use Rattle.orient.specs.Entry.{orientFault, orientedList}
 use Rattle.orient.specs.declared.OrientedKeypoint.{OrientedKeypoint}
 use Rattle.descriptor_inputs.specs.Inputs.{inputsOf}
 use Rattle.descriptor_inputs.specs.declared.Inputs.{Inputs}
-use Rattle.descriptor_patch.specs.Patch.{readsOf}
+use Rattle.descriptor_run.specs.Cells.{readsOf}
 use Rattle.descriptor.specs.Place.{turnAt}
 use Rattle.descriptor.specs.declared.Spot.{Spot}
 use Rattle.descriptor.specs.Rules.{spotOf}

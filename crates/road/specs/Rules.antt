@@ -12,7 +12,7 @@ use Rattle.detect_refine.specs.Sound.{Sound}
 use Rattle.detect_refine.specs.declared.RawKeypoint.{RawKeypoint}
 use Rattle.detect_extrema.specs.Scan as Raw
 use Rattle.detect_extrema.specs.Scan.{keypointWords}
-use Rattle.orient_tally.specs.Sample.{windowGood}
+use Rattle.orient_window.specs.Good.{windowGood}
 use Rattle.orient.specs.Entry as Oriented
 use Rattle.orient.specs.Entry.{windowAt, orientedWords}
 use Rattle.orient.specs.declared.OrientedKeypoint.{OrientedKeypoint}

@@ -12,7 +12,7 @@ use Rattle.descriptor.proofs.spot_wrong.Reads as spot-wrong-reads
 use Rattle.descriptor.proofs.turn_at.Reads as turn-at-reads
 use Rattle.descriptor.proofs.turn_wrong.Reads as turn-wrong-reads
 use Rattle.params.proofs.shape_wrong.Reads as shape-wrong-reads
-use Rattle.descriptor_patch.proofs.patch_good.Reads as patch-good-reads
+use Rattle.descriptor_reads.proofs.patch_good.Reads as patch-good-reads
 
 shape-wrong-requires : tie.Need-shape-wrong-requires
 shape-wrong-requires c κs = search needs

@@ -1,6 +1,7 @@
 use mathlib.Core.Path.{ap, _∙_}
 use lib.ListN.{length}
-use Rattle.descriptor_patch.specs.Patch.{patchOf, samplesOf}
+use Rattle.descriptor_patch.specs.Patch.{patchOf}
+use Rattle.descriptor_run.specs.Cells.{samplesOf}
 use Rattle.descriptor.specs.Place.{turnAt}
 use Rattle.descriptor_laws.proofs.ValuesRules.{value-rule}
 use Rattle.descriptor.proofs.Checks.{in-turn}

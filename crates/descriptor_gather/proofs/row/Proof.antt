@@ -6,9 +6,9 @@ use native.Mathlib.Omega.{arith}
 use lib.ListN.{length}
 use Rattle.lists.specs.Ranges.{joined}
 use Rattle.descriptor_patch.specs.Patch.{gridAt, sampleAt}
-use Rattle.descriptor_patch.specs.Run.{overRun}
-use Rattle.descriptor_patch.proofs.Runs.{joined-done, fewer, further}
-use Rattle.descriptor_patch.proofs.Rules.{good-part}
+use Rattle.descriptor_run.specs.Run.{overRun}
+use Rattle.descriptor_run.proofs.Runs.{joined-done, fewer, further}
+use Rattle.descriptor_run.proofs.Rules.{good-part}
 use Rattle.descriptor_grid.specs.Grid.{gatheredIn}
 use Rattle.descriptor_gather.specs.Gather.{sampleIn}
 use Rattle.descriptor_gather.proofs.Adds.{Holds, holds-none, holds-more, one-most}

@@ -5,9 +5,9 @@ use borrow.Author.Needs.{needs}
 use lib.ListN.{length}
 use Rattle.lists.specs.Ranges.{joined}
 use Rattle.params.specs.Limits.{maxSide}
-use Rattle.descriptor_patch.specs.Patch.{samplesOf}
-use Rattle.descriptor_patch.specs.Run.{runOf, rowOf}
-use Rattle.descriptor_patch.proofs.Runs.{joined-done, over-cells, run-within, inner, fewer, further}
+use Rattle.descriptor_run.specs.Cells.{samplesOf}
+use Rattle.descriptor_run.specs.Run.{runOf, rowOf}
+use Rattle.descriptor_run.proofs.Runs.{joined-done, over-cells, run-within, inner, fewer, further}
 use Rattle.descriptor_grid.specs.Grid.{gatheredIn}
 use Rattle.descriptor_gather.specs.Gather.{sampleIn}
 use Rattle.descriptor_gather.proofs.Adds.{Holds, holds-none, holds-more, run-most, more-rows, below-side, row-good}
@@ -18,7 +18,7 @@ use Rattle.descriptor_gather.proofs.rows.Lts as lts
 use Rattle.descriptor_gather.proofs.row.Reads as row-reads
 use Rattle.picture.proofs.first_in.Reads as first-in-reads
 use Rattle.picture.proofs.past_in.Reads as past-in-reads
-use Rattle.descriptor_patch.proofs.run_of.Reads as run-of-reads
+use Rattle.descriptor_run.proofs.run_of.Reads as run-of-reads
 
 abbrev Inv-loop : tie.InvT-loop
 Inv-loop img pairs cubics turns hist₀ t end n₀ r₀ hist n r = (r₀ ≤ r) × ((r ≤ max r₀ end) × ((n ≤ maxSide * r) × Holds (t .angle) hist₀ (joined r₀ r (rowOf t (sampleIn img t))) hist n))

@@ -1,12 +1,15 @@
 use mathlib.Core.Path.{_≡_, ap, _∙_}
-use Prim.Native.Nat.{ℕ, _^_, _<_, _≤_}
+use Prim.Native.Nat.{ℕ, suc, _-_, _^_, _<_, _≤_}
+use mathlib.Core.Logic.{⊎-elim}
 use native.Mathlib.Omega.{arith}
+use lib.Dec.{T, le→leb, lt→ltb}
 use lib.IntN.{ℤ, pos, _-ℤ_}
-use lib.Ieee.{binary32, ofInt}
+use lib.Ieee.{binary32, ofInt, inFloat}
 use mir.Syntax.{w32}
 use mir.Val.{SFits, toZ, ofZ}
 use mir.ValLaws.{toZ-pos, toZ-ofZ}
-use Rattle.descriptor_patch.proofs.Whole.{mag-diff, held-diff}
+use Rattle.lists.proofs.Naturals.{le-or-lt}
+use Rattle.picture.proofs.Apart.{diff-up, diff-down, mag-diff}
 use borrow.Author.Needs.{needs}
 use Rattle.params.specs.Limits.{maxSide}
 use Rattle.descriptor_patch.proofs.apart.Statement.{statement}
@@ -16,6 +19,14 @@ use Rattle.descriptor_patch.proofs.apart.Lts as lts
 
 small : (a b : ℕ) → a ≤ maxSide → b ≤ maxSide → SFits w32 (pos a -ℤ pos b)
 small a b h k = record { sfits = mag-diff a b (2 ^ 31) (omega arith) (omega arith) }
+
+held-diff : (a b : ℕ) → a ≤ maxSide → b ≤ maxSide → T (inFloat binary32 (pos a -ℤ pos b))
+unfolding inFloat
+held-diff a b h k =
+    ⊎-elim
+    (λ l. rw (diff-up a b l) (le→leb (a - b) (2 ^ 24) (omega arith)))
+    (λ l. rw (diff-down a b l) (lt→ltb (b - suc a) (2 ^ 24) (omega arith)))
+    (le-or-lt b a)
 
 -- what the code computes with
 is : (a b : ℕ) → a ≤ maxSide → b ≤ maxSide → toZ w32 (ofZ w32 (toZ w32 a -ℤ toZ w32 b)) ≡ pos a -ℤ pos b

@@ -1,7 +1,7 @@
 use mathlib.Core.Path.{_≡_, sym, _∙_}
 use mathlib.Core.Bool.{true}
 use native.Mathlib.Omega.{arith}
-use Rattle.orient_tally.specs.Sample.{windowGood}
+use Rattle.orient_window.specs.Good.{windowGood}
 use Rattle.orient.specs.Entry.{windowAt}
 use Rattle.orient.proofs.Checks.{fault-shape, fault-length, fault-keypoint, fault-sample, fault-none, size-small, aimed, aimed-fits, ready}
 use borrow.Author.Needs.{needs}
@@ -12,7 +12,7 @@ use Rattle.orient.proofs.fault_of.Lts as lts
 use Rattle.orient.proofs.keypoint_wrong.Reads as keypoint-wrong-reads
 use Rattle.orient.proofs.window_at.Reads as window-at-reads
 use Rattle.params.proofs.shape_wrong.Reads as shape-wrong-reads
-use Rattle.orient_tally.proofs.window_good.Reads as window-good-reads
+use Rattle.orient_window.proofs.window_good.Reads as window-good-reads
 
 shape-wrong-requires : tie.Need-shape-wrong-requires
 shape-wrong-requires c κs = search needs

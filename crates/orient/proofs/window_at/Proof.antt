@@ -5,7 +5,7 @@ use Rattle.orient.proofs.window_at.Tie as tie
 use Rattle.orient.proofs.window_at.Reads as reads
 use Rattle.orient.proofs.window_at.Lts as lts
 use Rattle.orient.proofs.scale_of.Reads as scale-of-reads
-use Rattle.orient_tally.proofs.window_of.Reads as window-of-reads
+use Rattle.orient_window.proofs.window_of.Reads as window-of-reads
 
 cast-window-of : tie.Need-cast-window-of
 cast-window-of c = search needs

@@ -1,6 +1,6 @@
 use mathlib.Core.Path.{refl}
 use native.Mathlib.Omega.{arith}
-use Rattle.orient_tally.proofs.Cells.{at-cell}
+use Rattle.orient_window.proofs.Cells.{at-cell}
 use Rattle.orient_tally.proofs.Runs.{length-late, length-early}
 use borrow.Author.Needs.{needs}
 use Rattle.orient_tally.proofs.cells_at.Statement.{statement}

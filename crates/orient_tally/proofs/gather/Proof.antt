@@ -59,18 +59,18 @@ use Rattle.orient_tally.specs.Sample.{bins}
 use Rattle.orient_tally.specs.Tally.{tallied, tallyOf, empty}
 use Rattle.orient_tally.specs.Place.{InRange}
 use Rattle.orient_tally.specs.Runs.{runOf, runLength, sampleIn}
-use Rattle.orient_tally.proofs.Cells.{after, after-none, after-all}
+use Rattle.orient_tally.proofs.After.{after, after-none, after-all}
 use Rattle.orient_tally.proofs.Runs.{Goes, goes, after-run, asked-in}
 use Rattle.orient_tally.specs.declared.Tally.{Tally}
 use Rattle.orient_tally.specs.declared.Sample.{Sample}
-use Rattle.orient_tally.specs.declared.Window.{Window}
+use Rattle.orient_window.specs.declared.Window.{Window}
 use Rattle.orient_tally.specs.declared.Run.{Run}
 use Rattle.orient_tally.proofs.Tally as T
 use Rattle.orient_tally.proofs.Tally.Laws as T′
 use Rattle.orient_tally.proofs.Sample as S
 use Rattle.orient_tally.proofs.Sample.Laws as S′
-use Rattle.orient_tally.proofs.Window as N
-use Rattle.orient_tally.proofs.Window.Laws as N′
+use Rattle.orient_window.proofs.Window as N
+use Rattle.orient_window.proofs.Window.Laws as N′
 use Rattle.orient_tally.proofs.Run as U
 use Rattle.orient_tally.proofs.Run.Laws as U′
 use Rattle.orient_tally.proofs.fresh as fresh

@@ -1,6 +1,6 @@
 use native.Mathlib.Omega.{arith}
 use Rattle.orient_tally.specs.Runs.{runOf}
-use Rattle.orient_tally.proofs.Cells.{at-cell}
+use Rattle.orient_window.proofs.Cells.{at-cell}
 use borrow.Author.Needs.{needs}
 use Rattle.orient_tally.proofs.run_at.Statement.{statement}
 use Rattle.orient_tally.proofs.run_at.Tie as tie

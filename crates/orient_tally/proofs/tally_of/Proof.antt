@@ -2,7 +2,7 @@ use native.Mathlib.Nat.{mul-le-mul}
 use native.Mathlib.Omega.{arith}
 use Rattle.params.specs.Limits.{maxSide}
 use Rattle.orient_tally.specs.Tally.{gatheredOf}
-use Rattle.orient_tally.proofs.Cells.{read-is}
+use Rattle.orient_window.proofs.Cells.{read-is}
 use borrow.Author.Needs.{needs}
 use Rattle.orient_tally.proofs.tally_of.Statement.{statement}
 use Rattle.orient_tally.proofs.tally_of.Tie as tie

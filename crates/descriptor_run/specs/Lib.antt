@@ -1,0 +1,4 @@
+pub mod Cells
+pub mod Run
+pub mod Place
+pub mod Rules

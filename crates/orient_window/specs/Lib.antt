@@ -1,0 +1,4 @@
+pub mod Window
+pub mod Good
+pub mod Place
+pub mod Rules

@@ -1,12 +1,14 @@
 -- Which answer holds, by the fault, the count and the room, and what is then in the lent words. Assumes nothing.
 use Prim.Native.Nat.{ℕ, zero, suc, _*_, _/_, _<_, _≤_}
 use mathlib.Core.Path.{_≡_, refl, sym, ap, _∙_}
+use mathlib.Core.Bool.{Bool, true, false, cond}
 use mathlib.Core.List.{List, []}
 use native.Mathlib.Omega.{arith}
 use borrow.Author.Tests.{le-leb, lt-leb}
 use lib.ListN.{length}
 use lib.Seq.{sets}
 use lib.Ieee.{Float}
+use Rattle.params.specs.Table.{firstFault, allGood}
 use Rattle.params.specs.Answers.{onFault, answerOf, landed}
 use Rattle.params.specs.declared.Settings.{Settings}
 use Rattle.params.specs.declared.Answer.{Answer}
@@ -15,7 +17,8 @@ use Rattle.picture.specs.declared.Shape.{Shape}
 use Rattle.detect_refine.specs.declared.RawKeypoint.{RawKeypoint}
 use Rattle.detect_extrema.specs.Scan.{keypointWords, words}
 use Rattle.detect.specs.Entry.{faultOf, listOf, extremaAnswer, extremaOut}
-use Rattle.detect.specs.Room.{roomAnswer}
+use Rattle.detect.specs.Room.{formFault, sampleFault, roomAnswer, sampleAnswer}
+use Rattle.detect.proofs.Faults.{fault-in-turn}
 use Rattle.detect_rows.proofs.Words.{length-words, words-none, sets-pasted}
 
 module _ (k room : ℕ) where
@@ -42,22 +45,42 @@ module _ (ks : List RawKeypoint) (out : List ℕ) where
         let s = e ∙ sets-pasted out (words ks) (omega (arith, length-words ks)) in
         rw (← count, ← done k (length out) fits) s
 
-  -- where there is room for all, and the words were counted as they were written
-  pub all : (n : ℕ) (after : List ℕ) → n ≡ length (words ks) → keypointWords * length ks ≤ length out → after ≡ sets out 0 (words ks) → Given (Done (n / keypointWords)) after
-  all n after count fits e =
-      let k : n / keypointWords ≡ length ks = omega (arith, length-words ks) in
-      record { answer = rw k (done (length ks) (length out) fits); left = written (length ks) refl after fits e }
+  -- so many keypoints: written where their words fit, and else nothing
+  pub gave : (k : ℕ) (after : List ℕ) → k ≡ length ks → keypointWords * k ≤ length out → after ≡ sets out 0 (words ks) → Given (Done k) after
+  gave k after count fits e = record { answer = rw (← count) (done k (length out) fits); left = written k count after fits e }
 
-  pub none : ks ≡ [] → Given (Done 0) out
-  none e =
-      let n : 0 ≡ length ks = sym (ap length e) in
-      record { answer = rw (← n) (done 0 (length out) (omega arith)); left = written 0 n out (omega arith) (rw (e, words-none)) }
+  pub lacked : (k : ℕ) → k ≡ length ks → length out < keypointWords * k → Given (Short k) out
+  lacked k count less = record { answer = rw (← count) (short k (length out) less); left = untouched k count less }
+
+module _ (d : List Float) (ks : List RawKeypoint) (out : List ℕ) where
+  -- the answer by the samples and the room, and the words left by it
+  pub record Tested (a : Answer) (after : List ℕ) : Type 0 where
+    pub answer : a ≡ sampleAnswer d ks (length out)
+    pub left : after ≡ landed (sampleAnswer d ks (length out)) (words ks) out
+
+  pub bad : allGood d ≡ false → Tested (Refused 6) out
+  unfolding sampleFault firstFault answerOf
+  bad e = record { answer = rw e; left = rw e }
+
+  pub good : allGood d ≡ true → (a : Answer) (after : List ℕ) → Given ks out a after → Tested a after
+  unfolding sampleFault firstFault
+  good e a after g = record { answer = rw e (g .answer); left = rw e (g .left) }
+
+  -- where there is no cell to search
+  pub none : ks ≡ [] → (a : Answer) → a ≡ cond (allGood d) (Done 0) (Refused 6) → Tested a out
+  none e a is = go (allGood d) refl
+    where
+      go : (b : Bool) → allGood d ≡ b → Tested a out
+      go true g =
+          let n : 0 ≡ length ks = sym (ap length e) in
+          good g a out (record { answer = is ∙ rw (g, ← n) (done 0 (length out) (omega arith)); left = written ks out 0 n out (omega arith) (rw (e, words-none)) })
+      go false g = let b = bad g in record { answer = is ∙ rw g (b .answer); left = b .left }
 
 other-fault : {A : Type 0} (n : ℕ) (a b : A) → (n ≡ 0 → ⊥) → onFault n a b ≡ b
 other-fault zero a b h = absurd (h refl)
 other-fault (suc n) a b h = refl
 
-module _ (d : List Float) (t : Shape) (layer octave : ℕ) (s : Settings) (out : List ℕ) (f : ℕ) (is : f ≡ faultOf d t layer octave s) where
+module _ (d : List Float) (t : Shape) (layer octave : ℕ) (s : Settings) (out : List ℕ) (f : ℕ) (is : f ≡ formFault (length d) t layer octave s) where
   abbrev answer : Answer
   answer = extremaAnswer d t layer octave s (length out)
 
@@ -66,8 +89,12 @@ module _ (d : List Float) (t : Shape) (layer octave : ℕ) (s : Settings) (out :
 
   pub refused : (f ≡ 0 → ⊥) → (Refused f ≡ answer) × (out ≡ after)
   unfolding extremaAnswer extremaOut answerOf
-  refused other = rw (← is) (sym (other-fault f _ _ other), rw (other-fault f _ _ other))
+  refused other =
+      let e : faultOf d t layer octave s ≡ f = fault-in-turn d t layer octave s ∙ rw (← is) (other-fault f _ _ other) in
+      rw e (sym (other-fault f _ _ other), rw (other-fault f _ _ other))
 
-  pub accepted : f ≡ 0 → (a : Answer) (l : List ℕ) → Given (listOf d t layer octave s) out a l → (a ≡ answer) × (l ≡ after)
+  pub accepted : f ≡ 0 → (a : Answer) (l : List ℕ) → Tested d (listOf d t layer octave s) out a l → (a ≡ answer) × (l ≡ after)
   unfolding extremaAnswer extremaOut
-  accepted ok a l g = let z : faultOf d t layer octave s ≡ 0 = sym is ∙ ok in rw z (g .answer, g .left)
+  accepted ok a l g =
+      let e : faultOf d t layer octave s ≡ sampleFault d = fault-in-turn d t layer octave s ∙ rw (← is, ok) in
+      rw e (g .answer, g .left)

@@ -2,7 +2,7 @@
 use Prim.Native.Nat.{ℕ, zero, suc, _+_, _-_, _*_, _<_, _≤_}
 use mathlib.Core.Path.{_≡_, refl, sym}
 use mathlib.Core.Bool.{Bool, true, false, _&&_, _||_, not, true≢false}
-use mathlib.Core.List.{List, _∷_}
+use mathlib.Core.List.{List, [], _∷_}
 use native.Mathlib.Nat.{mul-le-mul}
 use native.Mathlib.Omega.{arith}
 use borrow.Author.Tests.{eqb-true, eq-eqb, ne-eqb, ltb-false, leb-true}
@@ -15,7 +15,9 @@ use Rattle.params.specs.Table.{Line, line, firstFault, sideWrong, shapeWrong, l
 use Rattle.params.specs.declared.Settings.{Settings}
 use Rattle.params.proofs.Bools.{or-neither, in-range}
 use Rattle.params.proofs.Accepted.{accepted}
+use Rattle.params.specs.Answers.{onFault}
 use Rattle.detect.specs.Entry.{faultOf}
+use Rattle.detect.specs.Room.{formFault, sampleFault}
 use Rattle.picture.specs.declared.Shape.{Shape}
 use Rattle.detect_refine.specs.Place.{Searched}
 use Rattle.detect_refine.specs.Search.{searchOf}
@@ -58,34 +60,34 @@ products n h w a b c =
     let p : n * h ≤ maxPlanes * maxSide = mul-le-mul {n₁ = n} {m₁ = h} {n₂ = maxPlanes} {m₂ = maxSide} a b in
     (p, mul-le-mul {n₁ = n * h} {m₁ = w} {n₂ = maxPlanes * maxSide} {m₂ = maxSide} p c)
 
-module _ (d : List Float) (t : Shape) (layer octave : ℕ) (s : Settings) where
+module _ (len : ℕ) (t : Shape) (layer octave : ℕ) (s : Settings) where
   abbrev fault : ℕ
-  fault = faultOf d t layer octave s
+  fault = formFault len t layer octave s
 
   pub fault-shape : shapeWrong (t .width) (t .height) ≡ true → 1 ≡ fault
-  unfolding faultOf firstFault
+  unfolding formFault firstFault
   fault-shape a = rw a
 
   module _ (shape : shapeWrong (t .width) (t .height) ≡ false) where
     pub fault-layers : layersWrong (t .planes) layer (s .layers) ≡ true → 2 ≡ fault
-    unfolding faultOf firstFault
+    unfolding formFault firstFault
     fault-layers a = rw (shape, a)
 
     module _ (layers : layersWrong (t .planes) layer (s .layers) ≡ false) where
       pub fits : (t .planes * t .height ≤ maxPlanes * maxSide) × (t .planes * t .height * t .width ≤ maxPlanes * maxSide * maxSide)
       fits = let a = shape-right (t .width) (t .height) shape in products (t .planes) (t .height) (t .width) (layers-right (t .planes) layer (s .layers) layers .most) (a .1) (a .0)
 
-      pub fault-length : (length d ≡ t .planes * t .height * t .width → ⊥) → 3 ≡ fault
-      unfolding faultOf firstFault lengthWrong
-      fault-length a = rw (shape, layers, ne-eqb (length d) (t .planes * t .height * t .width) a)
+      pub fault-length : (len ≡ t .planes * t .height * t .width → ⊥) → 3 ≡ fault
+      unfolding formFault firstFault lengthWrong
+      fault-length a = rw (shape, layers, ne-eqb len (t .planes * t .height * t .width) a)
 
-      module _ (whole : length d ≡ t .planes * t .height * t .width) where
+      module _ (whole : len ≡ t .planes * t .height * t .width) where
         pub fault-settings : settingsWrong s octave ≡ true → 4 ≡ fault
-        unfolding faultOf firstFault lengthWrong
-        fault-settings a = rw (shape, layers, eq-eqb (length d) (t .planes * t .height * t .width) whole, a)
+        unfolding formFault firstFault lengthWrong
+        fault-settings a = rw (shape, layers, eq-eqb len (t .planes * t .height * t .width) whole, a)
 
         module _ (settings : settingsWrong s octave ≡ false) where
-          pub searched : Searched (length d) t (searchOf layer octave s)
+          pub searched : Searched len t (searchOf layer octave s)
           searched =
               let a = shape-right (t .width) (t .height) shape in
               let b = layers-right (t .planes) layer (s .layers) layers in
@@ -95,13 +97,23 @@ module _ (d : List Float) (t : Shape) (layer octave : ℕ) (s : Settings) where
           unfolding settingsWrong
           contrast-right = or-neither (contrastWrong (s .contrast)) _ settings .0
 
-          pub fault-sample : allGood d ≡ false → 6 ≡ fault
-          unfolding faultOf firstFault lengthWrong
-          fault-sample a = rw (shape, layers, eq-eqb (length d) (t .planes * t .height * t .width) whole, settings, a)
+          pub fault-none : 0 ≡ fault
+          unfolding formFault firstFault lengthWrong
+          fault-none = rw (shape, layers, eq-eqb len (t .planes * t .height * t .width) whole, settings)
 
-          pub fault-none : allGood d ≡ true → 0 ≡ fault
-          unfolding faultOf firstFault lengthWrong
-          fault-none a = rw (shape, layers, eq-eqb (length d) (t .planes * t .height * t .width) whole, settings, a)
+-- ---- the checks of the form come before that of the samples
+in-turn : (a b c e g : Bool) → let f = firstFault (line 1 a ∷ line 2 b ∷ line 3 c ∷ line 4 e ∷ []) in
+    firstFault (line 1 a ∷ line 2 b ∷ line 3 c ∷ line 4 e ∷ line 6 g ∷ []) ≡ onFault f (firstFault (line 6 g ∷ [])) f
+unfolding firstFault
+in-turn true b c e g = refl
+in-turn false true c e g = refl
+in-turn false false true e g = refl
+in-turn false false false true g = refl
+in-turn false false false false g = refl
+
+pub fault-in-turn : (d : List Float) (t : Shape) (layer octave : ℕ) (s : Settings) → let f = formFault (length d) t layer octave s in faultOf d t layer octave s ≡ onFault f (sampleFault d) f
+unfolding faultOf formFault sampleFault
+fault-in-turn d t layer octave s = in-turn _ _ _ _ _
 
 -- ---- what is known of a stack that no check refuses
 
@@ -126,8 +138,8 @@ right d t layer octave s z =
     let g = first-none 5 (not (allGood d)) _ (e .1) in
     let whole : length d ≡ t .planes * t .height * t .width = eqb-true (length d) (t .planes * t .height * t .width) (not-is _ (c .0)) in
     record {
-      searched = searched d t layer octave s (a .0) (b .0) whole (e .0);
+      searched = searched (length d) t layer octave s (a .0) (b .0) whole (e .0);
       settings = e .0;
-      contrast = contrast-right d t layer octave s (a .0) (b .0) whole (e .0);
+      contrast = contrast-right (length d) t layer octave s (a .0) (b .0) whole (e .0);
       good = not-is _ (g .0);
     }

@@ -1,4 +1,5 @@
 pub mod Entry
 pub mod Room
+pub mod Front
 pub mod SignLaw
 pub mod Rules

@@ -1,20 +1,24 @@
 // Detection: the keypoints of one layer of a stack of difference planes, counted and written as words.
 
 ghost use mathlib.Core.Path.{_≡_};
-ghost use mathlib.Core.Bool.{true, false};
-ghost use Prim.Native.Nat.{_*_, _<_, _≤_};
-ghost use lib.ListN.{length, take};
+ghost use mathlib.Core.Bool.{true, false, cond};
+ghost use Prim.Native.Nat.{_-_, _*_, _^_, _<_, _≤_};
+ghost use lib.ListN.{length};
 ghost use lib.Seq.{sets};
-ghost use Rattle.params.specs.Limits.{border, maxSide, maxLayers};
-ghost use Rattle.params.specs.Table.{contrastWrong};
-ghost use Rattle.params.specs.Answers.{answerOf, landed};
+ghost use Rattle.params.specs.Limits.{border, maxLayers};
+ghost use Rattle.params.specs.Table.{contrastWrong, allGood};
+ghost use Rattle.picture.specs.Samples.{rowsGood};
+ghost use Rattle.params.specs.Answers.{landed};
+ghost use Rattle.params.specs.declared.Answer.the-variants.{Done, Refused};
 ghost use Rattle.detect_refine.specs.Search.{searchOf};
 ghost use Rattle.detect_refine.specs.Place.{Searched};
 ghost use Rattle.detect_extrema.specs.Neighbours.{tied};
-ghost use Rattle.detect_extrema.specs.Scan.{keypoints, keypointWords, words};
-ghost use Rattle.detect_rows.specs.Forms.{layerLeaves};
-ghost use Rattle.detect.specs.Entry.{faultOf, extremaAnswer, extremaOut};
-ghost use Rattle.detect.specs.Room.{roomAnswer};
+ghost use Rattle.detect_extrema.specs.Scan.{keypoints, words};
+ghost use Rattle.detect_rows.specs.Forms.{rowsLeave};
+ghost use Rattle.detect.specs.Entry.{extremaAnswer, extremaOut};
+ghost use Rattle.detect.specs.Room.{formFault, roomAnswer, sampleAnswer};
+ghost use Rattle.detect.specs.Front.{Held, rowsHinted};
+use detect_extrema::Run;
 use detect_refine::BORDER;
 use detect_refine::Search;
 use detect_rows::Place;
@@ -24,89 +28,238 @@ use params::Settings;
 use picture::Shape;
 
 // The cells of so many keypoints are held until it is known that the words of all fit in what is lent: 8 KB on the stack, and more than most layers of a frame have.
-// Where there are more, the layer is searched twice: once to count them, and once to write them. Any number would do.
+// Any number would do.
 const HELD: usize = 2048;
 
 // A picture with a side no longer than its two borders has no cell to search.
 const BORDERS: usize = 2 * BORDER;
 
-// Finds the layer's keypoints, writes the words of their cells, or else their words, as far as there is room, and counts what it writes.
-fn layer_words(dog: &[f32], t: Shape, s: Search, cells: bool, out: &mut [u32]) -> usize
+// What the rows above `row` gave, as far as the cells of their keypoints could be held: so many. Whether all samples of the stack are good.
+struct Front {
+    row: usize,
+    count: usize,
+    good: bool,
+}
+
+// Finds the keypoints of the rows from `from` on, writes the words of their cells, or else their words, as far as there is room, and counts what it writes.
+fn rest_words(dog: &[f32], t: Shape, s: Search, from: usize, p: Place, out: &mut [u32]) -> usize
     requires { ⌜ Searched (length (now dog)) t s ⌝ }
-    requires { ⌜ (2 * border < t .width) × (2 * border < t .height) ⌝ }
-    ensures { λ n. ⌜ n ≡ length (layerLeaves cells (now (dog .entry)) t s) ⌝ }
-    ensures { λ n. ⌜ now (out .exit) ≡ sets (now (out .entry)) 0 (layerLeaves cells (now (dog .entry)) t s) ⌝ }
+    requires { ⌜ (2 * border < t .width) × (border ≤ from) × (from ≤ t .height - border) ⌝ }
+    requires { ⌜ p .from < 2 ^ 38 ⌝ }
+    ensures { λ n. ⌜ n ≡ length (rowsLeave (p .cells) (now (dog .entry)) t s from (t .height - border)) ⌝ }
+    ensures { λ n. ⌜ now (out .exit) ≡ sets (now (out .entry)) (p .from) (rowsLeave (p .cells) (now (dog .entry)) t s from (t .height - border)) ⌝ }
 {
     let mut n: usize = 0;
-    for r in BORDER..t.height - BORDER {
-        n += detect_rows::row_words(
+    for r in from..t.height - BORDER {
+        let w = detect_rows::row_words(
+            dog,
+            t,
+            s,
+            r,
+            Place {
+                from: p.from + n,
+                cells: p.cells,
+            },
+            out,
+        );
+        n += w.words;
+    }
+    n
+}
+
+// How many cells of the rows from `from` on have a hint: a first look at them, and no search.
+fn rest_hints(dog: &[f32], t: Shape, s: Search, from: usize) -> usize
+    requires { ⌜ Searched (length (now dog)) t s ⌝ }
+    requires { ⌜ (2 * border < t .width) × (border ≤ from) × (from ≤ t .height - border) ⌝ }
+    ensures { λ n. ⌜ n ≡ length (rowsHinted (now (dog .entry)) t s from (t .height - border)) ⌝ }
+{
+    let mut n: usize = 0;
+    for r in from..t.height - BORDER {
+        n += detect_extrema::hint_count(
+            dog,
+            t,
+            s,
+            Run {
+                row: r,
+                lo: BORDER,
+                hi: t.width - BORDER,
+            },
+        );
+    }
+    n
+}
+
+// Searches rows and tests their samples, and holds the cells of the keypoints, until all rows are searched, those of a row can't all be held, or a sample is bad.
+fn held_rows(dog: &[f32], t: Shape, s: Search, hold: &mut [u32]) -> Front
+    requires { ⌜ Searched (length (now dog)) t s ⌝ }
+    requires { ⌜ (2 * border < t .width) × (2 * border < t .height) ⌝ }
+    requires { ⌜ length (now hold) < 2 ^ 38 ⌝ }
+    ensures { λ f. ⌜ Held (now (dog .entry)) t s (f .row) (f .count) (now (hold .exit)) ⌝ }
+    ensures { λ f. ⌜ (f .good ≡ true → rowsGood t border (f .row) (now (dog .entry)) ≡ true) ⌝ }
+    ensures { λ f. ⌜ (f .good ≡ false → allGood (now (dog .entry)) ≡ false) ⌝ }
+{
+    let end = t.height - BORDER;
+    let mut n: usize = 0;
+    let mut r = BORDER;
+    while r < end {
+        let w = detect_rows::row_words(
             dog,
             t,
             s,
             r,
             Place {
                 from: n,
-                cells: cells,
+                cells: true,
             },
-            out,
+            hold,
         );
+        if !w.good {
+            return Front {
+                row: r,
+                count: n,
+                good: false,
+            };
+        }
+        if w.words > hold.len() - n {
+            return Front {
+                row: r,
+                count: n,
+                good: true,
+            };
+        }
+        n += w.words;
+        r += 1;
     }
-    n
+    Front {
+        row: r,
+        count: n,
+        good: true,
+    }
 }
 
-// Writes the words of the layer's k keypoints where all of them fit, and else nothing. Where they are few enough to be held, `hold` has their cells, and each is refined
-// again; else they are searched for again.
-fn land(dog: &[f32], t: Shape, s: Search, k: usize, hold: &[u32], out: &mut [u32])
+// The rows that are held, and the test of all samples: those of the searched rows as they are searched, while they are at hand, and the rest before and after.
+fn front_of(dog: &[f32], t: Shape, s: Search, hold: &mut [u32]) -> Front
     requires { ⌜ Searched (length (now dog)) t s ⌝ }
     requires { ⌜ (2 * border < t .width) × (2 * border < t .height) ⌝ }
-    requires { ⌜ (k ≡ length (keypoints tied (now dog) t s)) × (k ≤ maxSide * maxSide) ⌝ }
-    requires { ⌜ (k ≤ length (now hold) → take k (now hold) ≡ layerLeaves true (now dog) t s) ⌝ }
-    ensures { λ _. ⌜ now (out .exit) ≡ landed (roomAnswer (keypoints tied (now (dog .entry)) t s) (length (now (out .entry)))) (words (keypoints tied (now (dog .entry)) t s)) (now (out .entry)) ⌝ }
+    requires { ⌜ length (now hold) < 2 ^ 38 ⌝ }
+    ensures { λ f. ⌜ Held (now (dog .entry)) t s (f .row) (f .count) (now (hold .exit)) ⌝ }
+    ensures { λ f. ⌜ f .good ≡ allGood (now (dog .entry)) ⌝ }
 {
-    if WORDS * k > out.len() {
-        return;
-    }
-    if k <= hold.len() {
-        detect_rows::refined_words(dog, t, s, hold, k, out);
-        return;
-    }
-    layer_words(dog, t, s, false, out);
-}
-
-// The answer where so many keypoints are found, by the room for their words.
-fn room_answer(k: usize, room: usize) -> Answer
-    requires { ⌜ k ≤ maxSide * maxSide ⌝ }
-    ensures { λ a. ⌜ a ≡ answerOf 0 k (keypointWords * k) room ⌝ }
-{
-    if WORDS * k > room {
-        Answer::Short(k)
-    } else {
-        Answer::Done(k)
+    let top = picture::rows_good(dog, t, 0, BORDER);
+    let f = held_rows(dog, t, s, hold);
+    let rest = picture::rows_good(dog, t, f.row, t.height);
+    Front {
+        row: f.row,
+        count: f.count,
+        good: top & (f.good & rest),
     }
 }
 
-// The answer for a stack that no check before that of room refuses, where there are cells to search. No cell gives more than one keypoint: where there is room for as many
-// keypoints as cells, their words are written as they are found.
-fn search(dog: &[f32], t: Shape, s: Search, out: &mut [u32]) -> Answer
+// Writes the words of all keypoints: each cell that is held is refined again, and the rows behind them are searched. Counts the keypoints.
+fn write(dog: &[f32], t: Shape, s: Search, f: Front, hold: &[u32], out: &mut [u32]) -> usize
     requires { ⌜ Searched (length (now dog)) t s ⌝ }
-    requires { ⌜ (2 * border < t .width) × (2 * border < t .height) ⌝ }
+    requires { ⌜ 2 * border < t .width ⌝ }
+    requires { ⌜ Held (now dog) t s (f .row) (f .count) (now hold) ⌝ }
+    ensures { λ k. ⌜ k ≡ length (keypoints tied (now (dog .entry)) t s) ⌝ }
+    ensures { λ k. ⌜ now (out .exit) ≡ sets (now (out .entry)) 0 (words (keypoints tied (now (dog .entry)) t s)) ⌝ }
+{
+    let row = f.row;
+    let k = f.count;
+    detect_rows::refined_words(dog, t, s, hold, k, out);
+    let n = rest_words(
+        dog,
+        t,
+        s,
+        row,
+        Place {
+            from: WORDS * k,
+            cells: false,
+        },
+        out,
+    );
+    k + n / WORDS
+}
+
+// Writes the words of all keypoints where they fit, and else nothing. That they fit is known at once where no more are held and no more cells behind them have a hint than
+// there is room for; else the rows behind are searched to count them.
+fn land(dog: &[f32], t: Shape, s: Search, f: Front, hold: &[u32], out: &mut [u32]) -> Answer
+    requires { ⌜ Searched (length (now dog)) t s ⌝ }
+    requires { ⌜ 2 * border < t .width ⌝ }
+    requires { ⌜ Held (now dog) t s (f .row) (f .count) (now hold) ⌝ }
     ensures { λ a. ⌜ a ≡ roomAnswer (keypoints tied (now (dog .entry)) t s) (length (now (out .entry))) ⌝ }
     ensures { λ a. ⌜ now (out .exit) ≡ landed (roomAnswer (keypoints tied (now (dog .entry)) t s) (length (now (out .entry)))) (words (keypoints tied (now (dog .entry)) t s)) (now (out .entry)) ⌝ }
 {
     let room = out.len();
-    if WORDS * ((t.width - BORDERS) * (t.height - BORDERS)) <= room {
-        return Answer::Done(layer_words(dog, t, s, false, out) / WORDS);
+    if WORDS * (f.count + rest_hints(dog, t, s, f.row)) <= room {
+        return Answer::Done(write(dog, t, s, f, hold, out));
     }
-    let mut hold = [0; HELD];
-    let k = layer_words(dog, t, s, true, &mut hold);
-    land(dog, t, s, k, &hold, out);
-    room_answer(k, room)
+    let mut none = [0; 1];
+    let k = f.count
+        + rest_words(
+            dog,
+            t,
+            s,
+            f.row,
+            Place {
+                from: 0,
+                cells: true,
+            },
+            &mut none,
+        );
+    if WORDS * k > room {
+        return Answer::Short(k);
+    }
+    Answer::Done(write(dog, t, s, f, hold, out))
 }
 
-// The number of the first check that fails, or 0.
-fn fault(dog: &[f32], t: Shape, layer: usize, octave: u32, s: Settings) -> u32
-    ensures { λ b. ⌜ b ≡ faultOf (now (dog .entry)) t layer octave s ⌝ }
-    ensures { λ b. ⌜ (b ≡ 0 → Searched (length (now (dog .entry))) t (searchOf layer octave s)) ⌝ }
+// The answer for a stack that no check before that of the samples refuses, where there are cells to search. No cell gives more than one keypoint: where there is room for as
+// many keypoints as cells, the samples are tested first, and the words are written as they are found.
+fn search(dog: &[f32], t: Shape, s: Search, out: &mut [u32]) -> Answer
+    requires { ⌜ Searched (length (now dog)) t s ⌝ }
+    requires { ⌜ (2 * border < t .width) × (2 * border < t .height) ⌝ }
+    ensures { λ a. ⌜ a ≡ sampleAnswer (now (dog .entry)) (keypoints tied (now (dog .entry)) t s) (length (now (out .entry))) ⌝ }
+    ensures { λ a. ⌜ now (out .exit) ≡ landed (sampleAnswer (now (dog .entry)) (keypoints tied (now (dog .entry)) t s) (length (now (out .entry)))) (words (keypoints tied (now (dog .entry)) t s)) (now (out .entry)) ⌝ }
+{
+    if WORDS * ((t.width - BORDERS) * (t.height - BORDERS)) <= out.len() {
+        if !picture::all_good(dog) {
+            return Answer::Refused(6);
+        }
+        let n = rest_words(
+            dog,
+            t,
+            s,
+            BORDER,
+            Place {
+                from: 0,
+                cells: false,
+            },
+            out,
+        );
+        return Answer::Done(n / WORDS);
+    }
+    let mut hold = [0; HELD];
+    let f = front_of(dog, t, s, &mut hold);
+    if !f.good {
+        return Answer::Refused(6);
+    }
+    land(dog, t, s, f, &hold, out)
+}
+
+// The answer where there is no cell to search.
+fn nothing(dog: &[f32]) -> Answer
+    ensures { λ a. ⌜ a ≡ cond (allGood (now (dog .entry))) (Done 0) (Refused 6) ⌝ }
+{
+    if picture::all_good(dog) {
+        Answer::Done(0)
+    } else {
+        Answer::Refused(6)
+    }
+}
+
+// The number of the first check that fails of those that ask nothing of the samples but how many there are, or 0.
+fn fault(len: usize, t: Shape, layer: usize, octave: u32, s: Settings) -> u32
+    ensures { λ b. ⌜ b ≡ formFault len t layer octave s ⌝ }
+    ensures { λ b. ⌜ (b ≡ 0 → Searched len t (searchOf layer octave s)) ⌝ }
     ensures { λ b. ⌜ (b ≡ 0 → contrastWrong (s .contrast) ≡ false) ⌝ }
 {
     if params::shape_wrong(t.width, t.height) {
@@ -115,13 +268,14 @@ fn fault(dog: &[f32], t: Shape, layer: usize, octave: u32, s: Settings) -> u32
     if params::layers_wrong(t.planes, layer, s.layers) {
         return 2;
     }
-    if dog.len() != t.planes * t.height * t.width {
+    if len != t.planes * t.height * t.width {
         return 3;
     }
     if params::settings_wrong(s, octave) {
-        return 4;
+        4
+    } else {
+        0
     }
-    if picture::all_good(dog) { 0 } else { 6 }
 }
 
 // The search of a layer, with the threshold of the settings.
@@ -149,15 +303,15 @@ pub fn find_extrema(
     ensures { λ a. ⌜ a ≡ extremaAnswer (now (dog .entry)) t layer octave s (length (now (out .entry))) ⌝ }
     ensures { λ a. ⌜ now (out .exit) ≡ extremaOut (now (dog .entry)) t layer octave s (now (out .entry)) ⌝ }
 {
-    let f = fault(dog, t, layer, octave, s);
+    let f = fault(dog.len(), t, layer, octave, s);
     if f != 0 {
         return Answer::Refused(f);
     }
     if t.width <= BORDERS {
-        return Answer::Done(0);
+        return nothing(dog);
     }
     if t.height <= BORDERS {
-        return Answer::Done(0);
+        return nothing(dog);
     }
     search(dog, t, search_of(layer, octave, s), out)
 }

@@ -1,4 +1,4 @@
--- How a run of cells is looked at, one more cell at a time: whether one is loud, and the marks. Assumes nothing.
+-- How a run of cells is looked at, one more cell at a time: whether one is loud or has a hint, and the marks. Assumes nothing.
 use Prim.Native.Nat.{ℕ, zero, suc, _+_, _-_, _<_, _≤_}
 use mathlib.Core.Path.{_≡_, refl, sym, ap, _∙_}
 use mathlib.Core.Bool.{Bool, true, false, _&&_, _||_, not}
@@ -19,11 +19,11 @@ use Rattle.picture.specs.declared.Shape.{Shape}
 use Rattle.detect_refine.specs.declared.Search.{Search}
 use Rattle.detect_extrema.specs.Neighbours.{tied, loud}
 use Rattle.detect_extrema.specs.Scan.{cellsOf}
-use Rattle.detect_extrema.specs.Hints.{hintAt, anyLoud, looks}
-use Rattle.detect_extrema.specs.Place.{block}
+use Rattle.detect_extrema.specs.Hints.{hintAt, someCell, anyLoud, anyHint, looks}
+use Rattle.detect_extrema.specs.Place.{group}
 use Rattle.detect_extrema.specs.declared.Run.{Run}
 use Rattle.detect_extrema.proofs.Cells.{found-quiet}
-use Rattle.detect_extrema.proofs.Hints.{blank, not-yes}
+use Rattle.detect_extrema.proofs.Hints.{not-yes, unseen}
 
 or-not : (a b : Bool) → (not a || b) ≡ not (a && not b)
 or-not true true = refl
@@ -58,34 +58,74 @@ module _ {A : Type 0} (f : ℕ → A) (lo : ℕ) where
       (λ l. List·getD-append (ones hi) (f hi ∷ []) z (c - lo) (omega (arith, ones-length hi)) ∙ ones-at hi c z a l)
       (eq-or-lt-of-le (le-of-suc-le-suc b)))
 
--- ---- whether a cell of the run is loud
+-- ---- whether a number of a range passes a test
 
-module _ (d : List Float) (t : Shape) (s : Search) (r lo : ℕ) where
-  abbrev quiet : ℕ → Bool
-  quiet i = not (loud (s .threshold) (sample d t (s .layer) r (lo + i)))
+module _ (test : ℕ → Bool) (lo : ℕ) where
+  abbrev fails : ℕ → Bool
+  fails i = not (test (lo + i))
 
-  pub any-none : false ≡ anyLoud d t s r lo lo
-  unfolding anyLoud
-  any-none = let z : lo - lo ≡ 0 = omega arith in rw (z, every-none)
+  some-none : false ≡ someCell lo lo test
+  unfolding someCell
+  some-none = let z : lo - lo ≡ 0 = omega arith in rw (z, every-none)
 
-  pub any-more : (c : ℕ) (any b : Bool) → lo ≤ c → any ≡ anyLoud d t s r lo c → b ≡ loud (s .threshold) (sample d t (s .layer) r c) → (any || b) ≡ anyLoud d t s r lo (c + 1)
-  unfolding anyLoud every
-  any-more c any b o e f =
+  some-more : (c : ℕ) (any b : Bool) → lo ≤ c → any ≡ someCell lo c test → b ≡ test c → (any || b) ≡ someCell lo (c + 1) test
+  unfolding someCell every
+  some-more c any b o e f =
       let z : c + 1 - lo ≡ suc (c - lo) = omega arith in
       let n : lo + (c - lo) ≡ c = omega arith in
-      rw (z, n, e, f) (or-not (every (c - lo) quiet) (loud (s .threshold) (sample d t (s .layer) r c)))
+      rw (z, n, e, f) (or-not (every (c - lo) fails) (test c))
 
-  -- where none is, each is quiet
-  none-loud : (hi : ℕ) → anyLoud d t s r lo hi ≡ false → (c : ℕ) → lo ≤ c → c < hi → loud (s .threshold) (sample d t (s .layer) r c) ≡ false
-  unfolding anyLoud
-  none-loud hi e c a b =
+  -- where none does, each fails
+  none-passes : (hi : ℕ) → someCell lo hi test ≡ false → (c : ℕ) → lo ≤ c → c < hi → test c ≡ false
+  unfolding someCell
+  none-passes hi e c a b =
       let n : lo + (c - lo) ≡ c = omega arith in
-      let q : loud (s .threshold) (sample d t (s .layer) r (lo + (c - lo))) ≡ false = not-yes _ (every-all (hi - lo) quiet (not-no (every (hi - lo) quiet) e) (c - lo) (omega arith)) in
+      let q : test (lo + (c - lo)) ≡ false = not-yes _ (every-all (hi - lo) fails (not-no (every (hi - lo) fails) e) (c - lo) (omega arith)) in
       rw n at q
 
--- and they give nothing
-pub quiet-cells : (d : List Float) (t : Shape) (s : Search) (r lo hi : ℕ) → anyLoud d t s r lo hi ≡ false → cellsOf tied d t s r lo hi ≡ []
-quiet-cells d t s r lo hi e = blank lo hi _ (λ c a b. found-quiet d t s r c (none-loud d t s r lo hi e c a b))
+-- where each part of a range is empty the whole is
+blank : {A : Type 0} (lo hi : ℕ) (f : ℕ → List A) → ((i : ℕ) → lo ≤ i → i < hi → f i ≡ []) → joined lo hi f ≡ []
+blank lo zero f e = joined-none lo zero f (omega arith)
+blank lo (suc hi) f e =
+    ⊎-elim
+    (λ g. rw (← add-one hi, joined-more lo hi f g, blank lo hi f (λ i a b. e i a (omega arith)), e hi g (omega arith)))
+    (λ g. joined-none lo (suc hi) f g)
+    (le-or-lt lo hi)
+
+module _ (d : List Float) (t : Shape) (s : Search) (r lo : ℕ) where
+  abbrev loudAt : ℕ → Bool
+  loudAt c = loud (s .threshold) (sample d t (s .layer) r c)
+
+  abbrev look : ℕ → Bool
+  look c = hintAt (s .threshold) d t (s .layer) r c
+
+  -- ---- whether a cell of the run is loud
+  pub loud-none : false ≡ anyLoud d t s r lo lo
+  unfolding anyLoud
+  loud-none = some-none loudAt lo
+
+  pub loud-more : (c : ℕ) (any b : Bool) → lo ≤ c → any ≡ anyLoud d t s r lo c → b ≡ loudAt c → (any || b) ≡ anyLoud d t s r lo (c + 1)
+  unfolding anyLoud
+  loud-more c any b o e f = some-more loudAt lo c any b o e f
+
+  -- where none is, they give nothing
+  pub quiet-cells : (hi : ℕ) → anyLoud d t s r lo hi ≡ false → cellsOf tied d t s r lo hi ≡ []
+  unfolding anyLoud
+  quiet-cells hi e = blank lo hi _ (λ c a b. found-quiet d t s r c (none-passes loudAt lo hi e c a b))
+
+  -- ---- whether a cell of the run has a hint
+  pub hint-none : false ≡ anyHint d t s r lo lo
+  unfolding anyHint
+  hint-none = some-none look lo
+
+  pub hint-more : (c : ℕ) (any b : Bool) → lo ≤ c → any ≡ anyHint d t s r lo c → b ≡ look c → (any || b) ≡ anyHint d t s r lo (c + 1)
+  unfolding anyHint
+  hint-more c any b o e f = some-more look lo c any b o e f
+
+  -- where none has, they give nothing
+  pub unseen-cells : (hi : ℕ) → anyHint d t s r lo hi ≡ false → cellsOf tied d t s r lo hi ≡ []
+  unfolding anyHint
+  unseen-cells hi e = blank lo hi _ (λ c a b. unseen d t s r c (none-passes look lo hi e c a b))
 
 -- ---- the marks
 
@@ -103,12 +143,12 @@ module _ (d : List Float) (t : Shape) (s : Search) (r lo : ℕ) where
       (sets-append (joined lo c (λ c. hintAt (s .threshold) d t (s .layer) r c ∷ [])) (hintAt (s .threshold) d t (s .layer) r c ∷ []) old 0)
 
 -- what is read of them
-pub marks-read : (d : List Float) (t : Shape) (s : Search) (u : Run) (marks : List Bool) → u .hi ≤ u .lo + block → marks ≡ sets (replicate block false) 0 (looks d t s (u .row) (u .lo) (u .hi))
+pub marks-read : (d : List Float) (t : Shape) (s : Search) (u : Run) (marks : List Bool) → u .hi ≤ u .lo + group → marks ≡ sets (replicate group false) 0 (looks d t s (u .row) (u .lo) (u .hi))
     → (c : ℕ) → u .lo ≤ c → c < u .hi → getD marks (c - u .lo) false ≡ hintAt (s .threshold) d t (s .layer) (u .row) c
 unfolding looks
 marks-read d t s u marks room e c a b =
-    let old = replicate block false in
-    let n : length old ≡ block = length-replicate block false in
+    let old = replicate group false in
+    let n : length old ≡ group = length-replicate group false in
     let look = hintAt (s .threshold) d t (s .layer) (u .row) in
     let m = ones-length look (u .lo) (u .hi) in
     rw (e, sets-front old (joined (u .lo) (u .hi) (λ c. look c ∷ [])) (omega (arith, m)))

@@ -24,9 +24,9 @@ use Rattle.detect_refine.specs.declared.RawKeypoint.{RawKeypoint}
 use Rattle.detect_refine.specs.declared.Refined.{Refined}
 use Rattle.detect_refine.specs.declared.Refined.the-variants.{Dropped, At}
 use Rattle.detect_extrema.specs.Neighbours.{tied, candidate}
-use Rattle.detect_extrema.specs.Scan.{kept, cellOf, found, cellsOf, rowOf, keypoints, keypointWords, words, wordsOf}
+use Rattle.detect_extrema.specs.Scan.{kept, cellOf, found, cellsOf, rowOf, keypointWords, words, wordsOf}
 use Rattle.detect_extrema.proofs.Rows.{cells-bound}
-use Rattle.detect_rows.specs.Forms.{cellWord, cellAt, leaves, runLeaves, rowLeaves, layerLeaves, again, allAgain, Cells}
+use Rattle.detect_rows.specs.Forms.{cellWord, cellAt, leaves, runLeaves, rowLeaves, rowsLeave, again, allAgain, Cells}
 use Rattle.detect_rows.proofs.Words.{Filled, filled-none, words-append, words-none}
 
 -- ---- what one cell leaves
@@ -60,6 +60,10 @@ cell-back s r c l =
     let b : cellWord r c % maxSide ≡ c = omega arith in
     rw (a, b)
 
+-- the keypoints of the rows from lo to below hi
+abbrev pub rowsOf : List Float → Shape → Search → ℕ → ℕ → List RawKeypoint
+rowsOf d t s lo hi = joined lo hi (λ r. rowOf tied d t s r)
+
 module _ (d : List Float) (t : Shape) (s : Search) where
   -- a cell gives nothing, or the keypoint that it is refined to
   found-cases : (P : List RawKeypoint → Type 0) (r c : ℕ) → P [] → ((k : RawKeypoint) → refineOf d t s (cellOf s r c) ≡ At k → P (k ∷ [])) → P (found tied d t s r c)
@@ -80,9 +84,9 @@ module _ (d : List Float) (t : Shape) (s : Search) where
     both-run r lo hi at =
         both-joined R start on lo hi _ _ (λ c a b. found-cases (λ ks. R (leaves cells r c ks) ks) r c (rw (leaves-none cells r c) start) (at c a b))
 
-    pub both-layer : ((r c : ℕ) → border ≤ r → r < t .height - border → border ≤ c → c < t .width - border → AtCell r c) → R (layerLeaves cells d t s) (keypoints tied d t s)
-    unfolding layerLeaves rowLeaves keypoints rowOf
-    both-layer at = both-joined R start on border (t .height - border) _ _ (λ r u b. both-run r border (t .width - border) (λ c l e. at r c u b l e))
+    pub both-rows : (lo hi : ℕ) → ((r c : ℕ) → lo ≤ r → r < hi → border ≤ c → c < t .width - border → AtCell r c) → R (rowsLeave cells d t s lo hi) (rowsOf d t s lo hi)
+    unfolding rowsLeave rowLeaves rowOf
+    both-rows lo hi at = both-joined R start on lo hi _ _ (λ r u b. both-run r border (t .width - border) (λ c l e. at r c u b l e))
 
   -- ---- how long it is
   pub cell-bound : (cells : Bool) (r c : ℕ) → length (leaves cells r c (found tied d t s r c)) ≤ keypointWords
@@ -108,20 +112,21 @@ module _ (d : List Float) (t : Shape) (s : Search) where
   row-bound cells r = run-bound cells r border (t .width - border)
 
   -- few enough to number
-  pub rows-few : (cells : Bool) (lo hi : ℕ) → hi ≤ maxSide → t .width ≤ maxSide → length (joined lo hi (λ r. rowLeaves cells d t s r)) ≤ maxSide * (keypointWords * maxSide)
+  pub rows-few : (cells : Bool) (lo hi : ℕ) → hi ≤ maxSide → t .width ≤ maxSide → length (rowsLeave cells d t s lo hi) ≤ maxSide * (keypointWords * maxSide)
+  unfolding rowsLeave
   rows-few cells lo hi a b =
       le-trans (joined-bound (keypointWords * (t .width - border - border)) lo hi (λ r. rowLeaves cells d t s r) (row-bound cells))
       (mul-le-mul {n₁ = hi - lo} {m₁ = keypointWords * (t .width - border - border)} {n₂ = maxSide} {m₂ = keypointWords * maxSide} (omega arith) (omega arith))
 
-  -- ---- the words that a layer leaves are those of its keypoints
-  pub layer-left : layerLeaves false d t s ≡ words (keypoints tied d t s)
-  layer-left =
-      both-layer false (λ ws ks. ws ≡ words ks) (sym words-none) (λ a a' b b' p q. rw (p, q) (sym (words-append b b'))) (λ r c _ _ _ _ k _. refl)
+  -- ---- the words that rows leave are those of their keypoints
+  pub rows-left : (lo hi : ℕ) → rowsLeave false d t s lo hi ≡ words (rowsOf d t s lo hi)
+  rows-left lo hi =
+      both-rows false (λ ws ks. ws ≡ words ks) (sym words-none) (λ a a' b b' p q. rw (p, q) (sym (words-append b b'))) lo hi (λ r c _ _ _ _ k _. refl)
 
-  -- ---- the cells that it leaves are as many as its keypoints, and give their words again
-  pub layer-count : length (layerLeaves true d t s) ≡ length (keypoints tied d t s)
-  layer-count =
-      both-layer true (λ ws ks. length ws ≡ length ks) refl (λ a a' b b' p q. rw (length-append, length-append, p, q)) (λ r c _ _ _ _ k _. refl)
+  -- ---- the cells that they leave are as many as their keypoints, and give their words again
+  pub rows-count : (lo hi : ℕ) → length (rowsLeave true d t s lo hi) ≡ length (rowsOf d t s lo hi)
+  rows-count lo hi =
+      both-rows true (λ ws ks. length ws ≡ length ks) refl (λ a a' b b' p q. rw (length-append, length-append, p, q)) lo hi (λ r c _ _ _ _ k _. refl)
 
   pub again-none : allAgain d t s [] ≡ []
   unfolding allAgain
@@ -148,16 +153,18 @@ module _ (d : List Float) (t : Shape) (s : Search) where
       go (At k) = omega arith
 
   module _ (len : ℕ) (q : Searched len t s) where
-    pub layer-again : allAgain d t s (layerLeaves true d t s) ≡ words (keypoints tied d t s)
-    layer-again =
-        both-layer true (λ ws ks. allAgain d t s ws ≡ words ks) (again-none ∙ sym words-none) (λ a a' b b' p q. rw (again-append, p, q) (sym (words-append b b')))
+    pub rows-again : (lo hi : ℕ) → allAgain d t s (rowsLeave true d t s lo hi) ≡ words (rowsOf d t s lo hi)
+    rows-again lo hi =
+        both-rows true (λ ws ks. allAgain d t s ws ≡ words ks) (again-none ∙ sym words-none) (λ a a' b b' p q. rw (again-append, p, q) (sym (words-append b b'))) lo hi
         (λ r c _ _ _ l k e. again-one (cellWord r c) ∙ rw (cell-back s r c (omega (arith, q .wide)), e))
 
-    layer-cells : Each (λ w. Placed t (s .settings .layers) (cellAt s w)) (layerLeaves true d t s)
-    layer-cells =
-        both-layer true (λ ws _. Each (λ w. Placed t (s .settings .layers) (cellAt s w)) ws) none (λ a a' b b' p q. each-append p q)
-        (λ r c u b l e k _. each-one (rw (cell-back s r c (omega (arith, q .wide))) (record { first = q .first; last = q .last; top = u; bottom = b; start = l; end = e })))
+    -- those of rows that are at least the border from the edges
+    module _ (lo hi : ℕ) (above : border ≤ lo) (below : hi ≤ t .height - border) where
+      rows-cells : Each (λ w. Placed t (s .settings .layers) (cellAt s w)) (rowsLeave true d t s lo hi)
+      rows-cells =
+          both-rows true (λ ws _. Each (λ w. Placed t (s .settings .layers) (cellAt s w)) ws) none (λ a a' b b' p q. each-append p q) lo hi
+          (λ r c u b l e k _. each-one (rw (cell-back s r c (omega (arith, q .wide))) (record { first = q .first; last = q .last; top = omega arith; bottom = omega arith; start = l; end = e })))
 
-    pub held-cells : (hold : List ℕ) (k : ℕ) → k ≡ length (layerLeaves true d t s) → take k hold ≡ layerLeaves true d t s → Cells t s k hold
-    held-cells hold k n e i l =
-        rw (← getD-take k hold i 0 l, e) (each-at layer-cells 0 i (omega arith))
+      pub held-cells : (hold : List ℕ) (k : ℕ) → k ≡ length (rowsLeave true d t s lo hi) → take k hold ≡ rowsLeave true d t s lo hi → Cells t s k hold
+      held-cells hold k n e i l =
+          rw (← getD-take k hold i 0 l, e) (each-at rows-cells 0 i (omega arith))

@@ -31,12 +31,12 @@ leaves false r c ks = words ks
 abbrev pub runLeaves : Bool → List Float → Shape → Search → ℕ → ℕ → ℕ → List ℕ
 runLeaves cells d t s r lo hi = joined lo hi (λ c. leaves cells r c (found tied d t s r c))
 
--- the cells of a row, and of all rows, that are at least the border from the edges
+-- the cells of a row that are at least the border from the edges, and those of the rows from lo to below hi
 unfoldable pub rowLeaves : Bool → List Float → Shape → Search → ℕ → List ℕ
 rowLeaves cells d t s r = runLeaves cells d t s r border (t .width - border)
 
-unfoldable pub layerLeaves : Bool → List Float → Shape → Search → List ℕ
-layerLeaves cells d t s = joined border (t .height - border) (λ r. rowLeaves cells d t s r)
+unfoldable pub rowsLeave : Bool → List Float → Shape → Search → ℕ → ℕ → List ℕ
+rowsLeave cells d t s lo hi = joined lo hi (λ r. rowLeaves cells d t s r)
 
 -- what the cell of a word gives where it is refined again, as words; and the cells of a list of words, one after the other
 abbrev pub again : List Float → Shape → Search → ℕ → List ℕ

@@ -5,9 +5,10 @@ ghost use Prim.Native.Nat.{_+_, _-_, _*_, _^_, _<_, _≤_, min};
 ghost use lib.ListN.{length, set, take};
 ghost use lib.Seq.{sets};
 ghost use Rattle.params.specs.Limits.{border, maxSide};
+ghost use Rattle.picture.specs.Samples.{spanGood};
 ghost use Rattle.detect_refine.specs.Place.{Searched, Placed};
 ghost use Rattle.detect_extrema.specs.Scan.{kept, wordsOf};
-ghost use Rattle.detect_extrema.specs.Place.{block, Along};
+ghost use Rattle.detect_extrema.specs.Place.{group, Along};
 ghost use Rattle.detect_rows.specs.Forms.{cellWord, cellAt, leaves, runLeaves, rowLeaves, again, allAgain, Cells};
 use detect_extrema::Run;
 use detect_refine::Cell;
@@ -24,6 +25,12 @@ pub const WORDS: usize = 10;
 pub struct Place {
     pub from: usize,
     pub cells: bool,
+}
+
+// What the search of a row gives: how many words, and whether the row's samples are good in every plane.
+pub struct Row {
+    pub words: usize,
+    pub good: bool,
 }
 
 // Writes a word where there is room for it.
@@ -91,18 +98,16 @@ fn leave(x: Refined, r: usize, c: usize, p: Place, out: &mut [u32]) -> usize
     WORDS
 }
 
-// Finds the keypoints of a run of cells, writes what is left of them, as far as there is room, and counts its words: a first look at all cells, then a search of those
+// Finds the keypoints of a group of cells, writes what is left of them, as far as there is room, and counts its words: a first look at all cells, then a search of those
 // that it leaves.
-fn block_words(dog: &[f32], t: Shape, s: Search, u: Run, p: Place, out: &mut [u32]) -> usize
+fn marked_words(dog: &[f32], t: Shape, s: Search, u: Run, p: Place, out: &mut [u32]) -> usize
     requires { ⌜ Searched (length (now dog)) t s ⌝ }
     requires { ⌜ Along t u ⌝ }
-    requires { ⌜ p .from < 2 ^ 39 + 2 ^ 20 ⌝ }
+    requires { ⌜ u .hi ≤ u .lo + group ⌝ }
+    requires { ⌜ p .from < 2 ^ 39 + 2 ^ 21 ⌝ }
     ensures { λ n. ⌜ n ≡ length (runLeaves (p .cells) (now (dog .entry)) t s (u .row) (u .lo) (u .hi)) ⌝ }
     ensures { λ n. ⌜ now (out .exit) ≡ sets (now (out .entry)) (p .from) (runLeaves (p .cells) (now (dog .entry)) t s (u .row) (u .lo) (u .hi)) ⌝ }
 {
-    if !detect_extrema::any_loud(dog, t, s, u) {
-        return 0;
-    }
     let marks = detect_extrema::mark(dog, t, s, u);
     let mut n: usize = 0;
     for c in u.lo..u.hi {
@@ -121,31 +126,82 @@ fn block_words(dog: &[f32], t: Shape, s: Search, u: Run, p: Place, out: &mut [u3
     n
 }
 
-// Where the run that starts at column c ends: a whole block on, or at the end of the row's cells.
-fn block_end(c: usize, end: usize) -> usize
-    requires { ⌜ c < end ⌝ }
-    ensures { λ to. ⌜ (to ≡ min (c + block) end) × (c < to) × (to ≤ end) × (to ≤ c + block) ⌝ }
+// The same, and no mark is made where no cell of the group has a hint.
+fn group_words(dog: &[f32], t: Shape, s: Search, u: Run, p: Place, out: &mut [u32]) -> usize
+    requires { ⌜ Searched (length (now dog)) t s ⌝ }
+    requires { ⌜ Along t u ⌝ }
+    requires { ⌜ u .hi ≤ u .lo + group ⌝ }
+    requires { ⌜ p .from < 2 ^ 39 + 2 ^ 21 ⌝ }
+    ensures { λ n. ⌜ n ≡ length (runLeaves (p .cells) (now (dog .entry)) t s (u .row) (u .lo) (u .hi)) ⌝ }
+    ensures { λ n. ⌜ now (out .exit) ≡ sets (now (out .entry)) (p .from) (runLeaves (p .cells) (now (dog .entry)) t s (u .row) (u .lo) (u .hi)) ⌝ }
 {
-    if end - c > detect_extrema::BLOCK {
-        c + detect_extrema::BLOCK
-    } else {
-        end
+    if !detect_extrema::any_hint(dog, t, s, u) {
+        return 0;
     }
+    marked_words(dog, t, s, u, p, out)
 }
 
-// Finds a row's keypoints, writes what is left of them, as far as there is room, and counts its words.
-pub fn row_words(dog: &[f32], t: Shape, s: Search, r: usize, p: Place, out: &mut [u32]) -> usize
+// Where the run that starts at column c ends: so many cells on, or at the end of all.
+fn run_end(c: usize, end: usize, most: usize) -> usize
+    requires { ⌜ (c < end) × (0 < most) ⌝ }
+    ensures { λ to. ⌜ (to ≡ min (c + most) end) × (c < to) × (to ≤ end) × (to ≤ c + most) ⌝ }
+{
+    if end - c > most { c + most } else { end }
+}
+
+// Finds the keypoints of a block of cells, group by group, and none where no cell of it is loud.
+fn block_words(dog: &[f32], t: Shape, s: Search, u: Run, p: Place, out: &mut [u32]) -> usize
+    requires { ⌜ Searched (length (now dog)) t s ⌝ }
+    requires { ⌜ Along t u ⌝ }
+    requires { ⌜ p .from < 2 ^ 39 + 2 ^ 20 ⌝ }
+    ensures { λ n. ⌜ n ≡ length (runLeaves (p .cells) (now (dog .entry)) t s (u .row) (u .lo) (u .hi)) ⌝ }
+    ensures { λ n. ⌜ now (out .exit) ≡ sets (now (out .entry)) (p .from) (runLeaves (p .cells) (now (dog .entry)) t s (u .row) (u .lo) (u .hi)) ⌝ }
+{
+    if !detect_extrema::any_loud(dog, t, s, u) {
+        return 0;
+    }
+    let mut n: usize = 0;
+    let mut c = u.lo;
+    while c < u.hi {
+        let to = run_end(c, u.hi, detect_extrema::GROUP);
+        n += group_words(
+            dog,
+            t,
+            s,
+            Run {
+                row: u.row,
+                lo: c,
+                hi: to,
+            },
+            Place {
+                from: p.from + n,
+                cells: p.cells,
+            },
+            out,
+        );
+        c = to;
+    }
+    n
+}
+
+// Finds a row's keypoints, writes what is left of them, as far as there is room, and counts its words. On the way it tests the row's samples in every plane, those of a
+// block just before the block is searched: the memory that the test waits for is read ahead while cells are searched. The search is right for any samples, so that
+// what it gives does not hang on the test.
+pub fn row_words(dog: &[f32], t: Shape, s: Search, r: usize, p: Place, out: &mut [u32]) -> Row
     requires { ⌜ Searched (length (now dog)) t s ⌝ }
     requires { ⌜ (2 * border < t .width) × (border ≤ r) × (r < t .height - border) ⌝ }
     requires { ⌜ p .from < 2 ^ 39 ⌝ }
-    ensures { λ n. ⌜ n ≡ length (rowLeaves (p .cells) (now (dog .entry)) t s r) ⌝ }
-    ensures { λ n. ⌜ now (out .exit) ≡ sets (now (out .entry)) (p .from) (rowLeaves (p .cells) (now (dog .entry)) t s r) ⌝ }
+    ensures { λ w. ⌜ w .words ≡ length (rowLeaves (p .cells) (now (dog .entry)) t s r) ⌝ }
+    ensures { λ w. ⌜ w .good ≡ spanGood t r 0 (t .width) (now (dog .entry)) ⌝ }
+    ensures { λ w. ⌜ now (out .exit) ≡ sets (now (out .entry)) (p .from) (rowLeaves (p .cells) (now (dog .entry)) t s r) ⌝ }
 {
     let end = t.width - detect_refine::BORDER;
     let mut n: usize = 0;
     let mut c = detect_refine::BORDER;
+    let mut ok = picture::span_good(dog, t, r, 0, c);
     while c < end {
-        let to = block_end(c, end);
+        let to = run_end(c, end, detect_extrema::BLOCK);
+        ok = ok & picture::span_good(dog, t, r, c, to);
         n += block_words(
             dog,
             t,
@@ -163,7 +219,8 @@ pub fn row_words(dog: &[f32], t: Shape, s: Search, r: usize, p: Place, out: &mut
         );
         c = to;
     }
-    n
+    ok = ok & picture::span_good(dog, t, r, end, t.width);
+    Row { words: n, good: ok }
 }
 
 // Refines the cell of a word again, and writes the words that it gives from a place on, as far as there is room.

@@ -51,3 +51,9 @@ not-not false = refl
 -- a test that holds, as a statement
 pub is-T : (a : Bool) → a ≡ true → T a
 is-T a h = subst T (sym h) tt
+
+-- each holds where the other does
+pub both-ways : (a b : Bool) → (a ≡ true → b ≡ true) → (b ≡ true → a ≡ true) → a ≡ b
+both-ways true b f g = sym (f refl)
+both-ways false true f g = g refl
+both-ways false false f g = refl

@@ -9,6 +9,7 @@ use Rattle.lists.proofs.Naturals.{packed}
 use Rattle.params.specs.Table.{allGood}
 use Rattle.picture.specs.Picture.{fourAt}
 use Rattle.lists.specs.Ranges.{every}
+use Rattle.lists.proofs.Bools.{both-ways}
 use Rattle.lists.proofs.Every.{every-all, all-every}
 use Rattle.orient_window.specs.Window.{Cell, cell, cellsRead}
 use Rattle.orient_window.specs.Good.{rowGood, windowGood}
@@ -43,10 +44,5 @@ module _ (img : List Float) (win : Window) where
           let h : i * win .cols + j < cellsRead win = subst (λ (n : ℕ). i * win .cols + j < n) (sym (read-is win)) (packed a b) in
           ap goodAbout (sym (cell-in win i j (cell 0 0) a b)) ∙ every-all (cellsRead win) cellsTest g (i * win .cols + j) h
 
-same-test : (a b : Bool) → (a ≡ true → b ≡ true) → (b ≡ true → a ≡ true) → a ≡ b
-same-test true b f g = sym (f refl)
-same-test false true f g = g refl
-same-test false false f g = refl
-
 pub window-rule : WindowRule
-window-rule = record { read = read-is; tested = λ img win. same-test _ _ (read-good img win) (good-read img win) }
+window-rule = record { read = read-is; tested = λ img win. both-ways _ _ (read-good img win) (good-read img win) }

@@ -3,3 +3,5 @@ pub mod Runs
 pub mod Slopes
 pub mod Strips
 pub mod Apart
+pub mod Spans
+pub mod Rows

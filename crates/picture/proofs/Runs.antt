@@ -51,7 +51,7 @@ pub good-over : (d : List Float) (to : ℕ) (ok all : Bool) → (ok && goodFrom 
 good-over d to ok all k = sym (and-true ok) ∙ rw (good-none d to) at k
 
 -- a tested run more
-good-run : (d : List Float) (i to : ℕ) → i ≤ to → to ≤ length d → allGood (drop i d) ≡ (goodFrom i to d && allGood (drop to d))
+pub good-run : (d : List Float) (i to : ℕ) → i ≤ to → to ≤ length d → allGood (drop i d) ≡ (goodFrom i to d && allGood (drop to d))
 unfolding goodFrom
 good-run d i to a b =
     let h : i ≤ length (take to d) = rw (length-take-le to d b) a in

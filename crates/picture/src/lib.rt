@@ -9,7 +9,7 @@ ghost use Rattle.params.specs.Table.{goodSample, allGood};
 ghost use Rattle.picture.specs.Picture.{pixel, slopeAt, fourAt, firstIn, pastIn};
 ghost use Rattle.picture.specs.Stack.{sample};
 ghost use Rattle.picture.specs.Place.{Inside, Within, Around};
-ghost use Rattle.picture.specs.Samples.{block, goodFrom};
+ghost use Rattle.picture.specs.Samples.{block, goodFrom, spanGood, rowsGood};
 ghost use Rattle.picture.specs.Area.{Inset, areaGood};
 
 // The largest magnitude of a sample, 2^20.
@@ -164,6 +164,32 @@ pub fn all_good(d: &[f32]) -> bool
             return false;
         }
         i = to;
+    }
+    true
+}
+
+// Whether the cells of row r from column lo to below hi are good in every plane. The place is worked out from products that are no longer than the list, whatever the shape.
+pub fn span_good(d: &[f32], t: Shape, r: usize, lo: usize, hi: usize) -> bool
+    requires { ⌜ (length (now d) ≡ t .planes * t .height * t .width) × ((r < t .height) × ((lo ≤ hi) × (hi ≤ t .width))) ⌝ }
+    ensures { λ b. ⌜ b ≡ spanGood t r lo hi (now (d .entry)) ⌝ }
+{
+    let mut ok = true;
+    for p in 0..t.planes {
+        let from = p * (t.height * t.width) + r * t.width;
+        ok = ok & block_good(d, from + lo, from + hi);
+    }
+    ok
+}
+
+// Whether the rows from a to below b are good in every plane: no further than the first that is not.
+pub fn rows_good(d: &[f32], t: Shape, a: usize, b: usize) -> bool
+    requires { ⌜ (length (now d) ≡ t .planes * t .height * t .width) × ((a ≤ b) × (b ≤ t .height)) ⌝ }
+    ensures { λ ok. ⌜ ok ≡ rowsGood t a b (now (d .entry)) ⌝ }
+{
+    for r in a..b {
+        if !span_good(d, t, r, 0, t.width) {
+            return false;
+        }
     }
     true
 }

@@ -11,11 +11,17 @@ fault-requires c κs = search needs
 returns : tie.Need-returns
 returns c = refused _ _ _ _ _ _ _ (c .before .fault .ensures .0) (c .if1 .taken)
 
+nothing-requires : tie.Need-nothing-requires
+nothing-requires c κs = search needs
+
 returns-2 : tie.Need-returns-2
-returns-2 c = accepted _ _ _ _ _ _ _ (c .before .before .before .fault .ensures .0) (c .before .before .if1 .left) _ _ (none _ _ (few-columns _ _ _ _ (c .if2 .taken)))
+returns-2 c = accepted _ _ _ _ _ _ _ (c .before .before .before .before .fault .ensures .0) (c .before .before .before .if1 .left) _ _ (none _ _ _ (few-columns _ _ _ _ (c .before .if2 .taken)) _ (c .nothing .ensures))
+
+nothing-requires-2 : tie.Need-nothing-requires-2
+nothing-requires-2 c κs = search needs
 
 returns-3 : tie.Need-returns-3
-returns-3 c = accepted _ _ _ _ _ _ _ (c .before .before .before .before .before .fault .ensures .0) (c .before .before .before .before .if1 .left) _ _ (none _ _ (few-rows _ _ _ _ (c .if3 .taken)))
+returns-3 c = accepted _ _ _ _ _ _ _ (c .before .before .before .before .before .before .fault .ensures .0) (c .before .before .before .before .before .if1 .left) _ _ (none _ _ _ (few-rows _ _ _ _ (c .before .if3 .taken)) _ (c .nothing2 .ensures))
 
 search-of-requires : tie.Need-search-of-requires
 search-of-requires c κs =
@@ -44,7 +50,9 @@ find-extrema-spec =
     (tie.spec
     fault-requires
     returns
+    nothing-requires
     returns-2
+    nothing-requires-2
     returns-3
     search-of-requires
     search-requires

@@ -1,62 +1,107 @@
-use mathlib.Core.Path.{sym, _∙_}
+use Prim.Native.Nat.{_+_, _-_, _*_, _≤_}
+use mathlib.Core.Path.{_≡_}
 use native.Mathlib.Omega.{arith}
 use denote.Ref.{now}
+use lib.ListN.{length}
 use borrow.Author.Needs.{needs}
+use Rattle.params.specs.Limits.{border, maxSide}
 use Rattle.detect_extrema.specs.Neighbours.{tied}
 use Rattle.detect_extrema.specs.Scan.{keypoints}
-use Rattle.detect_rows.proofs.Forms.{layer-left, layer-count, layer-again, held-cells}
-use Rattle.detect.proofs.Answers.{untouched, written}
+use Rattle.detect.proofs.Answers.{gave, lacked}
+use Rattle.detect.proofs.Few.{keypoints-few}
+use Rattle.detect.proofs.Parts.{hints-few, held-few, held-most, held-all}
 use Rattle.detect.proofs.land.Statement.{statement}
 use Rattle.detect.proofs.land.Tie as tie
 
-mul-if1 : tie.Need-mul-if1
-mul-if1 c = search needs
-
-returns : tie.Need-returns
-returns c =
-    let a = c .before .before .before .before .args in
-    untouched (keypoints tied (now (a .dog)) (a .t) (a .s)) _ _ (c .before .before .before .before .pre .1 .1 .0 .0) (omega arith)
-
-refined-words-requires : tie.Need-refined-words-requires
-refined-words-requires c κs =
-    let b = c .before .before .before .before .before .before in
+-- so few are held and have a hint that no sum of places wraps
+few : (c : tie.After-rest-hints) → (c .before .before .before .before .args .f .count ≤ maxSide * maxSide) × (c .rest-hints .result ≤ maxSide * maxSide)
+few c =
+    let b = c .before .before .before .before in
     let a = b .args in
-    let q = b .pre .1 .1 in
-    let n = q .0 .0 ∙ sym (layer-count (now (a .dog)) (a .t) (a .s)) in
-    (search needs, (search needs, held-cells (now (a .dog)) (a .t) (a .s) _ (b .pre .0) _ _ n (q .1 (c .before .if2 .taken))))
+    (held-few (now (a .dog)) (a .t) (a .s) _ (b .pre .0) _ _ _ (b .pre .1 .1), omega (arith, hints-few (now (a .dog)) (a .t) (a .s) (a .f .row) (a .t .height - border) (omega (arith, b .pre .0 .high)) (b .pre .0 .wide), c .rest-hints .ensures))
+
+-- the rest is counted by a search of it
+counted : (c : tie.After-rest-words) → let a = c .before .before .before .before .before .before .before .before .args in a .f .count + c .rest-words .result ≡ length (keypoints tied (now (a .dog)) (a .t) (a .s))
+counted c =
+    let b = c .before .before .before .before .before .before .before .before in
+    let a = b .args in
+    held-all (now (a .dog)) (a .t) (a .s) _ (b .pre .0) _ _ _ (b .pre .1 .1) _ (c .rest-words .ensures .0)
+
+rest-hints-requires : tie.Need-rest-hints-requires
+rest-hints-requires c κs = search needs
+
+add-if1 : tie.Need-add-if1
+add-if1 c = omega (arith, few (c .before))
+
+mul-if1 : tie.Need-mul-if1
+mul-if1 c = omega (arith, few (c .before))
+
+write-requires : tie.Need-write-requires
+write-requires c κs = search needs
 
 same-length : tie.Need-same-length
 same-length c = search needs
 
+returns : tie.Need-returns
+returns c =
+    let b = c .before .before .before .before .before .before .before .before .before .before in
+    let a = b .args in
+    let w = c .before .before .write .ensures in
+    let m = held-most (now (a .dog)) (a .t) (a .s) _ (b .pre .0) _ _ _ (b .pre .1 .1) _ (c .before .before .before .before .before .before .rest-hints .ensures) in
+    let g = gave (keypoints tied (now (a .dog)) (a .t) (a .s)) _ _ _ (w .0) (omega (arith, m, w .0, c .before .before .before .before .if1 .taken)) (w .1) in
+    (g .answer, g .left)
+
+slice-aggregate-rest-words : tie.Need-slice-aggregate-rest-words
+slice-aggregate-rest-words c = search needs
+
+rest-words-requires : tie.Need-rest-words-requires
+rest-words-requires c κs = search needs
+
+add-k : tie.Need-add-k
+add-k c =
+    let b = c .before .before .before .before .before .before .before .before .before .before in
+    omega (arith, counted (c .before .before), keypoints-few (now (b .args .dog)) (b .args .t) (b .args .s) _ (b .pre .0))
+
+mul-if2 : tie.Need-mul-if2
+mul-if2 c =
+    let b = c .before .before .before .before .before .before .before .before .before .before in
+    omega (arith, counted (c .before .before), keypoints-few (now (b .args .dog)) (b .args .t) (b .args .s) _ (b .pre .0))
+
 returns-2 : tie.Need-returns-2
 returns-2 c =
-    let b = c .before .before .before .before .before .before .before .before .before in
-    let a = b .args in
-    let q = b .pre .1 .1 in
-    let e = q .1 (c .before .before .before .before .if2 .taken) in
-    written (keypoints tied (now (a .dog)) (a .t) (a .s)) _ _ (q .0 .0) _ (omega arith) (rw (e, layer-again (now (a .dog)) (a .t) (a .s) _ (b .pre .0)) at (c .before .before .refined-words .ensures))
+    let a = c .before .before .before .before .before .before .before .before .before .before .before .args in
+    let g = lacked (keypoints tied (now (a .dog)) (a .t) (a .s)) _ _ (counted (c .before .before .before)) (c .if2 .taken) in
+    (g .answer, g .left)
 
-layer-words-requires : tie.Need-layer-words-requires
-layer-words-requires c κs = search needs
+write-requires-2 : tie.Need-write-requires-2
+write-requires-2 c κs = search needs
 
 same-length-2 : tie.Need-same-length-2
 same-length-2 c = search needs
 
 returns-3 : tie.Need-returns-3
 returns-3 c =
-    let b = c .before .before .before .before .before .before .before .before .before in
-    let a = b .args in
-    written (keypoints tied (now (a .dog)) (a .t) (a .s)) _ _ (b .pre .1 .1 .0 .0) _ (omega arith) (rw layer-left at (c .before .before .layer-words .ensures .1))
+    let r = c .before .before .before .before .before .before .before in
+    let a = r .before .before .before .before .before .before .before .before .args in
+    let w = c .before .before .write2 .ensures in
+    let g = gave (keypoints tied (now (a .dog)) (a .t) (a .s)) _ _ _ (w .0) (omega (arith, w .0, counted r, c .before .before .before .before .if2 .left)) (w .1) in
+    (g .answer, g .left)
 
 pub land-spec : {M : Type 1} → statement M
 land-spec =
     tie.close
     (tie.spec
+    rest-hints-requires
+    add-if1
     mul-if1
-    returns
-    refined-words-requires
+    write-requires
     same-length
+    returns
+    slice-aggregate-rest-words
+    rest-words-requires
+    add-k
+    mul-if2
     returns-2
-    layer-words-requires
+    write-requires-2
     same-length-2
     returns-3)

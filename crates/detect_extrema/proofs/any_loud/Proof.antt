@@ -4,7 +4,7 @@ use native.Mathlib.Omega.{arith}
 use borrow.Author.Needs.{needs}
 use Rattle.detect_extrema.specs.Neighbours.{loud}
 use Rattle.detect_extrema.specs.Hints.{anyLoud}
-use Rattle.detect_extrema.proofs.Looks.{any-none, any-more}
+use Rattle.detect_extrema.proofs.Looks.{loud-none, loud-more}
 use Rattle.detect_extrema.proofs.any_loud.Statement.{statement}
 use Rattle.detect_extrema.proofs.any_loud.Tie as tie
 
@@ -16,7 +16,7 @@ abbrev μ-loop : tie.MeasureT-loop
 μ-loop dog t s u any₀ c₀ c-end any c = u .hi - c
 
 loop-holds : tie.Need-loop-holds Inv-loop μ-loop
-loop-holds c = (omega arith, omega arith, refl, any-none _ _ _ _ _)
+loop-holds c = (omega arith, omega arith, refl, loud-none _ _ _ _ _)
 
 at-requires : tie.Need-at-requires Inv-loop μ-loop
 at-requires c κs = search needs
@@ -33,7 +33,7 @@ loop-less c = search needs
 loop-again : tie.Need-loop-again Inv-loop μ-loop
 loop-again c =
     let l = c .before .before .before .loop in
-    (omega arith, omega arith, refl, any-more _ _ _ _ _ (l .c) _ _ (l .inv .0) (l .inv .3) (c .is-loud .ensures ∙ ap (loud _) (c .before .at .ensures)))
+    (omega arith, omega arith, refl, loud-more _ _ _ _ _ (l .c) _ _ (l .inv .0) (l .inv .3) (c .is-loud .ensures ∙ ap (loud _) (c .before .at .ensures)))
 
 returns : tie.Need-returns Inv-loop μ-loop
 returns c =

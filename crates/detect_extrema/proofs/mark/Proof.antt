@@ -2,18 +2,17 @@ use Prim.Native.Nat.{_≤_, _-_}
 use mathlib.Core.Path.{_≡_, refl}
 use native.Mathlib.Omega.{arith}
 use borrow.Author.Needs.{needs}
-use denote.Ref.{now}
 use lib.ListN.{length, length-set}
 use lib.Seq.{sets}
 use Rattle.detect_extrema.specs.Hints.{looks}
-use Rattle.detect_extrema.specs.Place.{block}
+use Rattle.detect_extrema.specs.Place.{group}
 use Rattle.detect_extrema.proofs.Looks.{marks-none, marks-more}
 use Rattle.detect_extrema.proofs.mark.Statement.{statement}
 use Rattle.detect_extrema.proofs.mark.Tie as tie
 
 abbrev Inv-loop : tie.InvT-loop
 Inv-loop dog t s u marks₀ c₀ c-end marks c =
-    (u .lo ≤ c) × (c ≤ u .hi) × (c-end ≡ u .hi) × (marks ≡ sets marks₀ 0 (looks dog t s (u .row) (u .lo) c)) × (length marks ≡ block) × (length marks₀ ≡ block)
+    (u .lo ≤ c) × (c ≤ u .hi) × (c-end ≡ u .hi) × (marks ≡ sets marks₀ 0 (looks dog t s (u .row) (u .lo) c)) × (length marks ≡ group) × (length marks₀ ≡ group)
 
 abbrev μ-loop : tie.MeasureT-loop
 μ-loop dog t s u marks₀ c₀ c-end marks c = u .hi - c

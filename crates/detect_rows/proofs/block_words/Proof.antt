@@ -1,35 +1,35 @@
 use Prim.Native.Nat.{ℕ, _*_, _≤_, _-_}
-use mathlib.Core.Path.{_≡_, refl, sym, ap, _∙_}
+use mathlib.Core.Path.{_≡_, sym, ap, _∙_}
 use mathlib.Core.List.{List}
 use native.Mathlib.Omega.{arith}
 use borrow.Author.Needs.{needs}
+use borrow.Author.Tests.{not-true}
 use denote.Ref.{now}
 use lib.ListN.{length}
 use lib.Seq.{length-sets}
 use Rattle.lists.proofs.Ranges.{joined-start}
 use Rattle.detect_extrema.specs.Neighbours.{tied}
 use Rattle.detect_extrema.specs.Scan.{found, keypointWords}
-use Rattle.detect_extrema.proofs.Hints.{not-yes}
-use Rattle.detect_extrema.proofs.Looks.{quiet-cells, marks-read}
+use Rattle.detect_extrema.proofs.Looks.{quiet-cells}
 use Rattle.detect_rows.specs.Forms.{leaves, runLeaves}
-use Rattle.detect_rows.proofs.Words.{Filled, filled-none, filled-part}
-use Rattle.detect_rows.proofs.Forms.{cell-bound, run-bound, run-quiet}
+use Rattle.detect_rows.proofs.Words.{Filled, filled-none, filled-parts}
+use Rattle.detect_rows.proofs.Forms.{run-bound, run-quiet}
 use Rattle.detect_rows.proofs.block_words.Statement.{statement}
 use Rattle.detect_rows.proofs.block_words.Tie as tie
 
 abbrev Inv-loop : tie.InvT-loop
-Inv-loop dog t s u p out₀ marks n₀ c₀ c-end out n c =
-    (u .lo ≤ c) × (c ≤ u .hi) × (c-end ≡ u .hi)
+Inv-loop dog t s u p out₀ n₀ c₀ out n c =
+    (u .lo ≤ c) × (c ≤ u .hi)
     × Filled out₀ (p .from) (runLeaves (p .cells) dog t s (u .row) (u .lo) c) out n
 
 abbrev μ-loop : tie.MeasureT-loop
-μ-loop dog t s u p out₀ marks n₀ c₀ c-end out n c = u .hi - c
+μ-loop dog t s u p out₀ n₀ c₀ out n c = u .hi - c
 
 -- so few words that no sum of places wraps
-bounded : (c : tie.At-loop Inv-loop μ-loop) → let u = c .before .before .before .before .before .before .args .u in c .loop .n ≤ keypointWords * (c .loop .c - u .lo)
+bounded : (c : tie.At-loop Inv-loop μ-loop) → let u = c .before .before .before .before .before .args .u in c .loop .n ≤ keypointWords * (c .loop .c - u .lo)
 bounded c =
-    let a = c .before .before .before .before .before .before .args in
-    omega (arith, run-bound (now (a .dog)) (a .t) (a .s) (a .p .cells) (a .u .row) (a .u .lo) (c .loop .c), c .loop .inv .3 .0)
+    let a = c .before .before .before .before .before .args in
+    omega (arith, run-bound (now (a .dog)) (a .t) (a .s) (a .p .cells) (a .u .row) (a .u .lo) (c .loop .c), c .loop .inv .2 .0)
 
 any-loud-requires : tie.Need-any-loud-requires Inv-loop μ-loop
 any-loud-requires c κs = search needs
@@ -37,43 +37,27 @@ any-loud-requires c κs = search needs
 returns : tie.Need-returns Inv-loop μ-loop
 returns c =
     let a = c .before .before .before .before .args in
-    let q = quiet-cells (now (a .dog)) (a .t) (a .s) (a .u .row) (a .u .lo) (a .u .hi) (sym (c .before .any-loud .ensures) ∙ not-yes _ (c .if1 .taken)) in
+    let q = quiet-cells (now (a .dog)) (a .t) (a .s) (a .u .row) (a .u .lo) (a .u .hi) (sym (c .before .any-loud .ensures) ∙ not-true _ (c .if1 .taken)) in
     filled-none _ _ (a .p .from) (run-quiet (now (a .dog)) (a .t) (a .s) (a .p .cells) (a .u .row) (a .u .lo) (a .u .hi) q)
 
-mark-requires : tie.Need-mark-requires Inv-loop μ-loop
-mark-requires c κs = search needs
-
 loop-holds : tie.Need-loop-holds Inv-loop μ-loop
-loop-holds c = (omega arith, omega arith, refl, filled-none _ _ _ (joined-start _ _))
+loop-holds c = (omega arith, omega arith, filled-none _ _ _ (joined-start _ _))
 
-sub-seen : tie.Need-sub-seen Inv-loop μ-loop
-sub-seen c = search needs
+run-end-requires : tie.Need-run-end-requires Inv-loop μ-loop
+run-end-requires c κs = search needs
 
-array-read-seen : tie.Need-array-read-seen Inv-loop μ-loop
-array-read-seen c = search needs
+add-t15 : tie.Need-add-t15 Inv-loop μ-loop
+add-t15 c = omega (arith, bounded (c .before .before .before .before))
 
-seen-requires : tie.Need-seen-requires Inv-loop μ-loop
-seen-requires c κs =
-    let l = c .before .before .loop in
-    let a = c .before .before .before .before .before .before .before .before .args in
-    (search needs, (search needs, marks-read (now (a .dog)) (a .t) (a .s) (a .u) _ (omega arith) (c .before .before .before .mark .ensures) (l .c) (l .inv .0) (omega arith)))
-
-add-t19 : tie.Need-add-t19 Inv-loop μ-loop
-add-t19 c = omega (arith, bounded (c .before .before .before .before))
-
-leave-requires : tie.Need-leave-requires Inv-loop μ-loop
-leave-requires c κs = (omega arith, omega arith, omega (arith, bounded (c .before .before .before .before .before)))
+group-words-requires : tie.Need-group-words-requires Inv-loop μ-loop
+group-words-requires c κs = (search needs, (search needs, (omega arith, omega (arith, bounded (c .before .before .before .before .before)))))
 
 add-n : tie.Need-add-n Inv-loop μ-loop
 add-n c =
     let b = c .before .before .before .before .before .before .before .before in
-    let a = b .before .before .before .before .before .before .args in
-    let e = c .before .before .before .before .before .seen .ensures in
-    let g = rw e at (c .before .before .leave .ensures .0) in
-    omega (arith, bounded b, g, cell-bound (now (a .dog)) (a .t) (a .s) (a .p .cells) (a .u .row) (b .loop .c))
-
-add-c : tie.Need-add-c Inv-loop μ-loop
-add-c c = search needs
+    let a = b .before .before .before .before .before .args in
+    let to = c .before .before .before .before .before .run-end .result in
+    omega (arith, bounded b, run-bound (now (a .dog)) (a .t) (a .s) (a .p .cells) (a .u .row) (b .loop .c) to, c .before .before .group-words .ensures .0)
 
 loop-less : tie.Need-loop-less Inv-loop μ-loop
 loop-less c = search needs
@@ -82,19 +66,19 @@ loop-again : tie.Need-loop-again Inv-loop μ-loop
 loop-again c =
     let b = c .before .before .before .before .before .before .before .before in
     let l = b .loop in
-    let a = b .before .before .before .before .before .before .args in
-    let e = c .before .before .before .before .before .seen .ensures in
+    let a = b .before .before .before .before .before .args in
+    let to = c .before .before .before .before .before .run-end .result in
     let f : ℕ → List ℕ = λ i. leaves (a .p .cells) (a .u .row) i (found tied (now (a .dog)) (a .t) (a .s) (a .u .row) i) in
-    (omega arith, omega arith, refl, filled-part _ (a .p .from) (a .u .lo) (l .c) f _ _ _ _ (l .inv .0) (l .inv .3) (rw e at (c .before .before .leave .ensures)))
+    (omega arith, omega arith, filled-parts _ (a .p .from) (a .u .lo) (l .c) f _ _ _ _ (l .inv .0) (l .inv .2) to (omega arith) (c .before .before .group-words .ensures))
 
 same-length : tie.Need-same-length Inv-loop μ-loop
-same-length c = ap length (c .before .loop .inv .3 .1) ∙ simp length-sets
+same-length c = ap length (c .before .before .loop .inv .2 .1) ∙ simp length-sets
 
 returns-2 : tie.Need-returns-2 Inv-loop μ-loop
 returns-2 c =
-    let l = c .before .loop in
+    let l = c .before .before .loop in
     let e : l .c ≡ c .before .before .before .before .before .before .before .args .u .hi = omega arith in
-    rw e at (l .inv .3)
+    rw e at (l .inv .2)
 
 pub block-words-spec : {M : Type 1} → statement M
 block-words-spec =
@@ -104,15 +88,11 @@ block-words-spec =
     μ-loop
     any-loud-requires
     returns
-    mark-requires
     loop-holds
-    sub-seen
-    array-read-seen
-    seen-requires
-    add-t19
-    leave-requires
+    run-end-requires
+    add-t15
+    group-words-requires
     add-n
-    add-c
     loop-less
     loop-again
     same-length

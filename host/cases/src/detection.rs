@@ -185,6 +185,27 @@ pub fn dense(r: &mut Rng, side: usize) -> Case {
     c
 }
 
+/// So many lone bright cells, four apart, in a square with room for them: as many keypoints.
+pub fn spikes(many: usize) -> Case {
+    let row = many.isqrt() + 1;
+    let side = 4 * row + 10;
+    let settings = Settings::default();
+    let planes = settings.layers + 2;
+    let mut c = Case {
+        samples: vec![0.0; planes * side * side],
+        width: side,
+        height: side,
+        planes,
+        layer: 2,
+        octave: 0,
+        settings,
+    };
+    for k in 0..many {
+        c.put(2, 6 + 4 * (k / row), 6 + 4 * (k % row), 100.0);
+    }
+    c
+}
+
 fn blobs(r: &mut Rng, c: &mut Case) {
     let many = r.from_to(1, 8);
     let all: Vec<[f64; 7]> = (0..many)

@@ -2,7 +2,7 @@
 
 use crate::report::Report;
 use bargeclover::entries;
-use cases::detection::{self, BEFORE, Case, Kind, accepted, damage, dense};
+use cases::detection::{self, BEFORE, Case, Kind, accepted, damage, dense, spikes};
 use cases::fate::{Fate, fates};
 use cases::{Rng, table};
 
@@ -46,19 +46,28 @@ fn every_cell(c: &Case) -> usize {
 const HELD: usize = 2048;
 
 /// The ways that detection goes, by the room and the number of keypoints.
-pub const WAYS: [&str; 3] = [
+pub const WAYS: [&str; 6] = [
     "detection: room for every cell",
-    "detection: fewer than are held, not room for every cell",
-    "detection: more keypoints than are held",
+    "detection: no more keypoints than are held",
+    "detection: as many keypoints as are held",
+    "detection: one more than are held",
+    "detection: more than are held, and too little room",
+    "detection: more than are held, and room to spare",
 ];
 
 fn way(c: &Case, room: usize, found: usize) -> &'static str {
     if room >= every_cell(c) {
         WAYS[0]
-    } else if found <= HELD {
+    } else if found < HELD {
         WAYS[1]
-    } else {
+    } else if found == HELD {
         WAYS[2]
+    } else if found == HELD + 1 {
+        WAYS[3]
+    } else if room < 10 * found {
+        WAYS[4]
+    } else {
+        WAYS[5]
     }
 }
 
@@ -127,23 +136,33 @@ fn stack(rng: &mut Rng, r: &mut Report, kind: Kind) {
     }
 }
 
-/// Squares of noise, the larger with more keypoints than are held, and their turned twins: with exactly the room, with a word
-/// less, with room for every cell, and with a word less than that.
+/// A stack and its turned twin: with exactly the room, with a word less, with room for twice as many, for every cell, and with a
+/// word less than that.
+fn by_room(r: &mut Report, c: &Case) {
+    let turned = c.turned();
+    let found = oracle::find_extrema(&c.stack(), c.layer, c.octave, &c.settings).len();
+    let all = every_cell(c);
+    for room in [10 * found, 10 * found - 1, 20 * found, all, all - 1] {
+        let (a, b) = (hold(r, c, room), hold(r, &turned, room));
+        turned_alike(r, c, &a, &b);
+    }
+    r.add("keypoints of dense stacks", found as u64);
+}
+
+/// Squares of noise, the larger with more keypoints than are held, and stacks with about as many as are held; a sample that is bad
+/// only in the last row of such a stack is found too.
 pub fn dense_stacks(rng: &mut Rng, r: &mut Report) {
     for side in [120, 300] {
-        let c = dense(rng, side);
-        let turned = c.turned();
-        let found = oracle::find_extrema(&c.stack(), c.layer, c.octave, &c.settings).len();
-        for room in [
-            10 * found,
-            10 * found - 1,
-            every_cell(&c),
-            every_cell(&c) - 1,
-        ] {
-            let (a, b) = (hold(r, &c, room), hold(r, &turned, room));
-            turned_alike(r, &c, &a, &b);
-        }
-        r.add("keypoints of dense stacks", found as u64);
+        by_room(r, &dense(rng, side));
+    }
+    for many in [HELD - 1, HELD, HELD + 1, HELD + 46] {
+        let mut c = spikes(many);
+        let found = oracle::find_extrema(&c.stack(), c.layer, c.octave, &c.settings);
+        r.same("lone bright cells", &found.len(), &many, || told(&c));
+        by_room(r, &c);
+        let last = c.samples.len() - 1;
+        c.samples[last] = f32::NAN;
+        hold(r, &c, 20 * many);
     }
 }
 

@@ -19,7 +19,7 @@ ghost use Rattle.words.specs.Oriented.{orientedIn};
 ghost use Rattle.bargeclover.specs.Given.{settingsOf, shapeOf, sizeOf, spotOf};
 ghost use Rattle.words.specs.Inputs.{inputsNumber, inputsLeft};
 ghost use Rattle.hal.specs.Exp.{exp2Of, expOf};
-ghost use Rattle.hal.specs.Turn.{sinOf, cosOf};
+ghost use Rattle.hal_turn.specs.Turn.{sinOf, cosOf};
 ghost use Rattle.hal_angle.specs.Angle.{angleOf};
 ghost use Rattle.hal_angle.specs.Magnitude.{magnitudeOf};
 use descriptor::Spot;
@@ -47,14 +47,14 @@ pub extern "C" fn bargeclover_exp(x: u32) -> u32
 pub extern "C" fn bargeclover_sin(degrees: u32) -> u32
     ensures { λ r. ⌜ r ≡ bitsOf (sinOf (f32 degrees)) ⌝ }
 {
-    ieee::bits_of(hal::sin(ieee::of_bits(degrees)))
+    ieee::bits_of(hal_turn::sin(ieee::of_bits(degrees)))
 }
 
 #[no_mangle]
 pub extern "C" fn bargeclover_cos(degrees: u32) -> u32
     ensures { λ r. ⌜ r ≡ bitsOf (cosOf (f32 degrees)) ⌝ }
 {
-    ieee::bits_of(hal::cos(ieee::of_bits(degrees)))
+    ieee::bits_of(hal_turn::cos(ieee::of_bits(degrees)))
 }
 
 #[no_mangle]

@@ -12,7 +12,7 @@ use lib.Ieee.{Float, ofBits}
 use lib.Ieee.Scale.{finite}
 use Rattle.lists.proofs.Bools.{and-both, or-true}
 use Rattle.ieee.specs.Numbers.{nought, wholeTurn}
-use Rattle.hal.specs.Turn.{inTurn}
+use Rattle.hal_turn.specs.Turn.{inTurn}
 use Rattle.params.specs.Limits.{maxSide, scaleLow, scaleHigh}
 use Rattle.params.specs.Table.{within, line, firstFault, sideWrong, shapeWrong, lengthWrong, allGood}
 use Rattle.params.proofs.Bools.{or-neither, in-range}

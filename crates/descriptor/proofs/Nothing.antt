@@ -8,7 +8,7 @@ use lib.ListN.{length, replicate}
 use lib.Ieee.{Float, ofBits, toBits}
 use Rattle.ieee.specs.F32.{bitsOf}
 use Rattle.ieee.specs.Numbers.{nought}
-use Rattle.hal.specs.Turn.{inTurn}
+use Rattle.hal_turn.specs.Turn.{inTurn}
 use Rattle.picture.specs.declared.Size.{Size}
 use Rattle.lists.specs.Each.{Each}
 use Rattle.params.specs.Limits.{valueCount}

@@ -9,7 +9,7 @@ use lib.Ieee.{Float, nan}
 use Rattle.lists.proofs.Each.{each-weaker}
 use Rattle.params.specs.Limits.{valueCount}
 use Rattle.picture.specs.declared.Size.{Size}
-use Rattle.hal.specs.Turn.{inTurn}
+use Rattle.hal_turn.specs.Turn.{inTurn}
 use Rattle.orient.specs.declared.OrientedKeypoint.{OrientedKeypoint}
 use Rattle.descriptor_inputs.specs.Inputs.{inputsOf}
 use Rattle.descriptor_inputs.specs.Rules.{Taken}

@@ -7,7 +7,7 @@ use lib.Ieee.{Float}
 use Rattle.lists.proofs.Bools.{and-false}
 use Rattle.params.specs.Table.{allGood}
 use Rattle.picture.specs.Picture.{fourAt}
-use Rattle.hal.specs.Turn.{inTurn}
+use Rattle.hal_turn.specs.Turn.{inTurn}
 use Rattle.descriptor_patch.specs.Patch.{rotsOf, binOf, inGrid, gridAt, sampleAt}
 use Rattle.descriptor_patch.specs.declared.Patch.{Patch}
 use Rattle.descriptor_patch.specs.declared.Sample.{Sample}

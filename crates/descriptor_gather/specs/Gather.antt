@@ -4,7 +4,7 @@ use mathlib.Core.Path.{_≡_}
 use mathlib.Core.Bool.{true}
 use mathlib.Core.List.{List, [], _∷_}
 use lib.Ieee.{Float}
-use Rattle.hal.specs.Turn.{inTurn}
+use Rattle.hal_turn.specs.Turn.{inTurn}
 use Rattle.descriptor_patch.specs.Patch.{sampleAt}
 use Rattle.descriptor_patch.specs.Place.{Lies}
 use Rattle.descriptor_patch.specs.declared.Patch.{Patch}

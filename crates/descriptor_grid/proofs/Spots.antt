@@ -13,7 +13,7 @@ use Rattle.ieee.specs.F32.{_⊖_, _⊗_, f32, floatZ}
 use Rattle.ieee.specs.Numbers.{nought, minusOne, four, wholeTurn}
 use Rattle.ieee_laws.proofs.Order.{lt-le, lt-not-le, le-or-lt-float, le-trans-float}
 use Rattle.ieee_laws.proofs.Bounds.{Bounds, sub-bounds, mul-bounds-by}
-use Rattle.hal.specs.Turn.{inTurn}
+use Rattle.hal_turn.specs.Turn.{inTurn}
 use Rattle.hal_angle.specs.Angle.{inAngle, angleOf}
 use Rattle.hal.specs.Exp.{expOf}
 use Rattle.hal_angle.specs.Magnitude.{magnitudeOf}

@@ -8,7 +8,7 @@ use Rattle.ieee.specs.F32.{_⊕_, _⊖_, _≤ᶠ_, f32, floatZ, bitsOf}
 use Rattle.hal.specs.Powers.{pairs as pairTable}
 use Rattle.hal_angle.specs.Cubics.{cubics as cubicTable}
 use Rattle.hal_angle.specs.Turns.{turns as turnTable}
-use Rattle.hal.specs.Turn.{inTurn}
+use Rattle.hal_turn.specs.Turn.{inTurn}
 use Rattle.hal_angle.specs.Angle.{inAngle}
 use Rattle.hal.specs.Exp.{inDown}
 use Rattle.descriptor_patch.specs.Patch.{inGrid}

@@ -11,8 +11,8 @@ use Rattle.params.specs.Limits.{maxOctave, scaleLow, scaleHigh}
 use Rattle.params.specs.Table.{within}
 use Rattle.params.specs.declared.Settings.{Settings}
 use Rattle.picture.specs.declared.Size.{Size}
-use Rattle.detect_refine.specs.Sound.{Sound}
-use Rattle.detect_refine.specs.declared.RawKeypoint.{RawKeypoint}
+use Rattle.detect_keypoint.specs.Sound.{Sound}
+use Rattle.detect_keypoint.specs.declared.RawKeypoint.{RawKeypoint}
 use Rattle.orient.specs.Entry.{orientedOf, orientedList}
 use Rattle.orient.specs.declared.OrientedKeypoint.{OrientedKeypoint}
 use Rattle.descriptor_inputs.specs.Inputs.{reversedOf, givenOf, inputsOf}

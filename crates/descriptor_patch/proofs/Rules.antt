@@ -24,7 +24,7 @@ use Rattle.hal.specs.Numbers.{minus32}
 use Rattle.hal.specs.Exp.{inDown}
 use Rattle.picture.specs.Picture.{fourAt}
 use Rattle.picture.specs.declared.Size.{Size}
-use Rattle.picture.proofs.Slopes.{good-slope}
+use Rattle.samples.proofs.Slopes.{good-slope}
 use Rattle.descriptor_patch.specs.Patch.{expScale, binOf, inGrid, gridAt, rotsOf, sampleAt, radiusOf, patchOf}
 use Rattle.descriptor_patch.specs.Place.{Sides, Lies}
 use Rattle.descriptor_patch.specs.Rules.{Fair, PatchRule}

@@ -6,7 +6,7 @@ use lib.IntN.{ℤ, pos, _-ℤ_}
 use lib.Ieee.{Float, neg, toUnsigned}
 use Rattle.ieee.specs.F32.{_⊕_, _⊖_, _⊗_, _⊘_, _<ᶠ_, f32, rootOf, rounded, toI32, float, floatZ}
 use Rattle.ieee.specs.Numbers.{half, minusOne, two, three, four, five, root2}
-use Rattle.hal.specs.Turn.{sinOf, cosOf}
+use Rattle.hal_turn.specs.Turn.{sinOf, cosOf}
 use Rattle.picture.specs.Picture.{slopeAt}
 use Rattle.picture.specs.declared.Size.{Size}
 use Rattle.descriptor_patch.specs.declared.Patch.{Patch}

@@ -93,8 +93,8 @@ pub fn patch_of(s: Size, px: usize, py: usize, scale: f32, angle: f32) -> Patch
     Patch {
         size: s,
         angle: angle,
-        cos: hal::cos(angle) / width,
-        sin: hal::sin(angle) / width,
+        cos: hal_turn::cos(angle) / width,
+        sin: hal_turn::sin(angle) / width,
         radius: radius_of(s, scale),
         px: px,
         py: py,

@@ -7,7 +7,7 @@ use lib.Ieee.{Float}
 use Rattle.lists.specs.Ranges.{joined}
 use Rattle.lists.proofs.Ranges.{joined-start, joined-more}
 use Rattle.params.specs.Table.{allGood}
-use Rattle.picture.proofs.Runs.{good-append}
+use Rattle.samples.proofs.Runs.{good-append}
 
 -- of a cell that is not used nothing is read
 pub good-where : (g : Bool) (xs : List Float) → (not g || allGood xs) ≡ allGood (cond g xs [])

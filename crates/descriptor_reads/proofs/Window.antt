@@ -13,10 +13,10 @@ use Rattle.lists.specs.Ranges.{joined}
 use Rattle.lists.proofs.Ranges.{joined-none, joined-more}
 use Rattle.params.specs.Table.{allGood}
 use Rattle.picture.specs.Picture.{firstIn, pastIn}
-use Rattle.picture.specs.Area.{Inset, areaGood}
-use Rattle.picture.specs.declared.Area.{Area}
-use Rattle.picture.proofs.Runs.{good-append}
-use Rattle.picture.proofs.Strips.{area-four}
+use Rattle.samples.specs.Area.{Inset, areaGood}
+use Rattle.samples.specs.declared.Area.{Area}
+use Rattle.samples.proofs.Runs.{good-append}
+use Rattle.samples.proofs.Strips.{area-four}
 use Rattle.descriptor_run.specs.Cells.{usedAt, overCells, readsOf}
 use Rattle.descriptor_patch.specs.Place.{Lies}
 use Rattle.descriptor_patch.specs.declared.Patch.{Patch}

@@ -2,7 +2,7 @@
 
 use descriptor_patch::Patch;
 use descriptor_run::Run;
-use picture::Area;
+use samples::Area;
 ghost use mathlib.Core.Path.{_≡_};
 ghost use mathlib.Core.Bool.{cond};
 ghost use mathlib.Core.List.{[]};
@@ -32,7 +32,7 @@ fn cell_good(img: &[f32], t: Patch, r: usize, c: usize) -> bool
     requires { ⌜ Around (length (now img)) (t .size) r c × Lies t ⌝ }
     ensures { λ b. ⌜ b ≡ allGood (cond (gridAt t r c) (fourAt (now (img .entry)) (t .size .width) r c) []) ⌝ }
 {
-    !grid_at(t, r, c) | picture::four_good(img, t.size, r, c)
+    !grid_at(t, r, c) | samples::four_good(img, t.size, r, c)
 }
 
 // Those of a run of row r.
@@ -76,7 +76,7 @@ pub fn patch_good(img: &[f32], t: Patch) -> bool
         left: picture::first_in(t.px, t.radius),
         right: picture::past_in(t.px, t.radius, t.size.width),
     };
-    if picture::area_good(img, t.size, window) {
+    if samples::area_good(img, t.size, window) {
         true
     } else {
         reads_good(img, t)

@@ -16,7 +16,7 @@ use Rattle.lists.specs.Each.{Each}
 use Rattle.lists.proofs.Each.{each-one, each-when, each-joined}
 use Rattle.params.specs.Table.{allGood}
 use Rattle.picture.specs.Picture.{fourAt}
-use Rattle.picture.proofs.Runs.{good-append}
+use Rattle.samples.proofs.Runs.{good-append}
 use Rattle.descriptor_patch.specs.Patch.{gridAt, sampleAt}
 use Rattle.descriptor_patch.specs.Rules.{Fair}
 use Rattle.descriptor_patch.specs.declared.Patch.{Patch}

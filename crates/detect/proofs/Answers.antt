@@ -14,7 +14,7 @@ use Rattle.params.specs.declared.Settings.{Settings}
 use Rattle.params.specs.declared.Answer.{Answer}
 use Rattle.params.specs.declared.Answer.the-variants.{Done, Short, Refused}
 use Rattle.picture.specs.declared.Shape.{Shape}
-use Rattle.detect_refine.specs.declared.RawKeypoint.{RawKeypoint}
+use Rattle.detect_keypoint.specs.declared.RawKeypoint.{RawKeypoint}
 use Rattle.detect_extrema.specs.Scan.{keypointWords, words}
 use Rattle.detect.specs.Entry.{faultOf, listOf, extremaAnswer, extremaOut}
 use Rattle.detect.specs.Room.{formFault, sampleFault, roomAnswer, sampleAnswer}

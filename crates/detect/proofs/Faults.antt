@@ -20,7 +20,7 @@ use Rattle.detect.specs.Entry.{faultOf}
 use Rattle.detect.specs.Room.{formFault, sampleFault}
 use Rattle.picture.specs.declared.Shape.{Shape}
 use Rattle.detect_refine.specs.Place.{Searched}
-use Rattle.detect_refine.specs.Search.{searchOf}
+use Rattle.detect_keypoint.specs.Search.{searchOf}
 
 not-is : (a : Bool) → not a ≡ false → a ≡ true
 not-is true e = refl

@@ -9,7 +9,7 @@ use lib.Ieee.{Float}
 use Rattle.params.specs.Limits.{border, maxSide}
 use Rattle.picture.specs.declared.Shape.{Shape}
 use Rattle.detect_refine.specs.Place.{Searched}
-use Rattle.detect_refine.specs.declared.Search.{Search}
+use Rattle.detect_keypoint.specs.declared.Search.{Search}
 use Rattle.detect_extrema.specs.Neighbours.{tied}
 use Rattle.detect_extrema.specs.Scan.{keypoints}
 use Rattle.detect_extrema.proofs.Rows.{rows-bound}

@@ -14,12 +14,12 @@ use Rattle.lists.proofs.Ranges.{joined-start, joined-more, joined-split, joined
 use Rattle.params.specs.Limits.{border, maxSide}
 use Rattle.picture.specs.declared.Shape.{Shape}
 use Rattle.detect_refine.specs.Place.{Searched}
-use Rattle.detect_refine.specs.declared.Search.{Search}
-use Rattle.detect_refine.specs.declared.RawKeypoint.{RawKeypoint}
+use Rattle.detect_keypoint.specs.declared.Search.{Search}
+use Rattle.detect_keypoint.specs.declared.RawKeypoint.{RawKeypoint}
 use Rattle.detect_extrema.specs.Neighbours.{tied}
 use Rattle.detect_extrema.specs.Scan.{rowOf, keypoints, keypointWords, words}
-use Rattle.detect_extrema.specs.Hints.{hinted}
-use Rattle.detect_extrema.proofs.Counted.{hinted-bound, cells-hinted}
+use Rattle.detect_look.specs.Hints.{hinted}
+use Rattle.detect_look.proofs.Counted.{hinted-bound, cells-hinted}
 use Rattle.detect_rows.specs.Forms.{rowLeaves, rowsLeave, allAgain}
 use Rattle.detect_rows.proofs.Words.{length-words, words-append}
 use Rattle.detect_rows.proofs.Forms.{rowsOf, rows-left, rows-count, rows-again}

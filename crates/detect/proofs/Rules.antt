@@ -9,12 +9,12 @@ use Rattle.lists.proofs.Each.{each-when, each-joined}
 use Rattle.params.specs.Limits.{border, maxMoves}
 use Rattle.params.specs.declared.Settings.{Settings}
 use Rattle.picture.specs.declared.Shape.{Shape}
-use Rattle.detect_refine.specs.Search.{searchOf}
-use Rattle.detect_refine.specs.Keypoint.{refineOf}
+use Rattle.detect_keypoint.specs.Search.{searchOf}
+use Rattle.detect_refine.specs.Settle.{refineOf}
 use Rattle.detect_refine.specs.Place.{Placed}
-use Rattle.detect_refine.specs.Sound.{Sound}
-use Rattle.detect_refine.specs.declared.Search.{Search}
-use Rattle.detect_refine.specs.declared.RawKeypoint.{RawKeypoint}
+use Rattle.detect_keypoint.specs.Sound.{Sound}
+use Rattle.detect_keypoint.specs.declared.Search.{Search}
+use Rattle.detect_keypoint.specs.declared.RawKeypoint.{RawKeypoint}
 use Rattle.detect_refine.specs.declared.Refined.{Refined}
 use Rattle.detect_refine.specs.declared.Refined.the-variants.{Dropped, At}
 use Rattle.detect_refine.proofs.Settled.{few-moves}

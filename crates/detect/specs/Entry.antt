@@ -9,8 +9,8 @@ use Rattle.params.specs.Answers.{answerOf, landed}
 use Rattle.params.specs.declared.Settings.{Settings}
 use Rattle.params.specs.declared.Answer.{Answer}
 use Rattle.picture.specs.declared.Shape.{Shape}
-use Rattle.detect_refine.specs.Search.{searchOf}
-use Rattle.detect_refine.specs.declared.RawKeypoint.{RawKeypoint}
+use Rattle.detect_keypoint.specs.Search.{searchOf}
+use Rattle.detect_keypoint.specs.declared.RawKeypoint.{RawKeypoint}
 use Rattle.detect_extrema.specs.Neighbours.{tied}
 use Rattle.detect_extrema.specs.Scan.{keypoints, keypointWords, words}
 

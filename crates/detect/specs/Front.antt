@@ -8,8 +8,8 @@ use lib.Ieee.{Float}
 use Rattle.lists.specs.Ranges.{joined}
 use Rattle.params.specs.Limits.{border}
 use Rattle.picture.specs.declared.Shape.{Shape}
-use Rattle.detect_refine.specs.declared.Search.{Search}
-use Rattle.detect_extrema.specs.Hints.{hinted}
+use Rattle.detect_keypoint.specs.declared.Search.{Search}
+use Rattle.detect_look.specs.Hints.{hinted}
 use Rattle.detect_rows.specs.Forms.{rowsLeave}
 
 -- the cells of all keypoints of the rows above r, n of them, are the first words of what is held

@@ -9,7 +9,7 @@ use Rattle.params.specs.Answers.{answerOf}
 use Rattle.params.specs.declared.Settings.{Settings}
 use Rattle.params.specs.declared.Answer.{Answer}
 use Rattle.picture.specs.declared.Shape.{Shape}
-use Rattle.detect_refine.specs.declared.RawKeypoint.{RawKeypoint}
+use Rattle.detect_keypoint.specs.declared.RawKeypoint.{RawKeypoint}
 use Rattle.detect_extrema.specs.Scan.{keypointWords}
 
 -- the checks of rule A3 that ask nothing of the samples but how many there are

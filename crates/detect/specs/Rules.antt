@@ -7,8 +7,8 @@ use lib.Ieee.{Float}
 use Rattle.params.specs.Limits.{border, maxMoves}
 use Rattle.params.specs.declared.Settings.{Settings}
 use Rattle.picture.specs.declared.Shape.{Shape}
-use Rattle.detect_refine.specs.Sound.{Sound}
-use Rattle.detect_refine.specs.declared.RawKeypoint.{RawKeypoint}
+use Rattle.detect_keypoint.specs.Sound.{Sound}
+use Rattle.detect_keypoint.specs.declared.RawKeypoint.{RawKeypoint}
 use Rattle.detect.specs.Entry.{faultOf, listOf}
 
 pub record DetectRule : Type 0 where

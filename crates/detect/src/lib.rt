@@ -7,10 +7,10 @@ ghost use lib.ListN.{length};
 ghost use lib.Seq.{sets};
 ghost use Rattle.params.specs.Limits.{border, maxLayers};
 ghost use Rattle.params.specs.Table.{contrastWrong, allGood};
-ghost use Rattle.picture.specs.Samples.{rowsGood};
+ghost use Rattle.samples.specs.Samples.{rowsGood};
 ghost use Rattle.params.specs.Answers.{landed};
 ghost use Rattle.params.specs.declared.Answer.the-variants.{Done, Refused};
-ghost use Rattle.detect_refine.specs.Search.{searchOf};
+ghost use Rattle.detect_keypoint.specs.Search.{searchOf};
 ghost use Rattle.detect_refine.specs.Place.{Searched};
 ghost use Rattle.detect_extrema.specs.Neighbours.{tied};
 ghost use Rattle.detect_extrema.specs.Scan.{keypoints, words};
@@ -18,9 +18,9 @@ ghost use Rattle.detect_rows.specs.Forms.{rowsLeave};
 ghost use Rattle.detect.specs.Entry.{extremaAnswer, extremaOut};
 ghost use Rattle.detect.specs.Room.{formFault, roomAnswer, sampleAnswer};
 ghost use Rattle.detect.specs.Front.{Held, rowsHinted};
-use detect_extrema::Run;
+use detect_keypoint::Search;
+use detect_look::Run;
 use detect_refine::BORDER;
-use detect_refine::Search;
 use detect_rows::Place;
 use detect_rows::WORDS;
 use params::Answer;
@@ -75,7 +75,7 @@ fn rest_hints(dog: &[f32], t: Shape, s: Search, from: usize) -> usize
 {
     let mut n: usize = 0;
     for r in from..t.height - BORDER {
-        n += detect_extrema::hint_count(
+        n += detect_look::hint_count(
             dog,
             t,
             s,
@@ -145,9 +145,9 @@ fn front_of(dog: &[f32], t: Shape, s: Search, hold: &mut [u32]) -> Front
     ensures { λ f. ⌜ Held (now (dog .entry)) t s (f .row) (f .count) (now (hold .exit)) ⌝ }
     ensures { λ f. ⌜ f .good ≡ allGood (now (dog .entry)) ⌝ }
 {
-    let top = picture::rows_good(dog, t, 0, BORDER);
+    let top = samples::rows_good(dog, t, 0, BORDER);
     let f = held_rows(dog, t, s, hold);
-    let rest = picture::rows_good(dog, t, f.row, t.height);
+    let rest = samples::rows_good(dog, t, f.row, t.height);
     Front {
         row: f.row,
         count: f.count,
@@ -221,7 +221,7 @@ fn search(dog: &[f32], t: Shape, s: Search, out: &mut [u32]) -> Answer
     ensures { λ a. ⌜ now (out .exit) ≡ landed (sampleAnswer (now (dog .entry)) (keypoints tied (now (dog .entry)) t s) (length (now (out .entry)))) (words (keypoints tied (now (dog .entry)) t s)) (now (out .entry)) ⌝ }
 {
     if WORDS * ((t.width - BORDERS) * (t.height - BORDERS)) <= out.len() {
-        if !picture::all_good(dog) {
+        if !samples::all_good(dog) {
             return Answer::Refused(6);
         }
         let n = rest_words(
@@ -249,7 +249,7 @@ fn search(dog: &[f32], t: Shape, s: Search, out: &mut [u32]) -> Answer
 fn nothing(dog: &[f32]) -> Answer
     ensures { λ a. ⌜ a ≡ cond (allGood (now (dog .entry))) (Done 0) (Refused 6) ⌝ }
 {
-    if picture::all_good(dog) {
+    if samples::all_good(dog) {
         Answer::Done(0)
     } else {
         Answer::Refused(6)

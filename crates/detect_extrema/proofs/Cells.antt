@@ -9,8 +9,8 @@ use Rattle.ieee.specs.F32.{_<ᶠ_}
 use Rattle.ieee.specs.Numbers.{nought}
 use Rattle.picture.specs.Stack.{sample}
 use Rattle.picture.specs.declared.Shape.{Shape}
-use Rattle.detect_refine.specs.Keypoint.{refineOf}
-use Rattle.detect_refine.specs.declared.Search.{Search}
+use Rattle.detect_refine.specs.Settle.{refineOf}
+use Rattle.detect_keypoint.specs.declared.Search.{Search}
 use Rattle.detect_extrema.specs.Neighbours.{tied, keepsAs, keepsOver, centre, passes, isExtremum, loud, candidate}
 use Rattle.detect_extrema.specs.Scan.{kept, cellOf, found}
 

@@ -11,8 +11,8 @@ use Rattle.lists.specs.Ranges.{joined}
 use Rattle.lists.proofs.Ranges.{joined-none, joined-empty, joined-bound}
 use Rattle.params.specs.Limits.{border}
 use Rattle.picture.specs.declared.Shape.{Shape}
-use Rattle.detect_refine.specs.Keypoint.{refineOf}
-use Rattle.detect_refine.specs.declared.Search.{Search}
+use Rattle.detect_refine.specs.Settle.{refineOf}
+use Rattle.detect_keypoint.specs.declared.Search.{Search}
 use Rattle.detect_refine.specs.declared.Refined.{Refined}
 use Rattle.detect_refine.specs.declared.Refined.the-variants.{Dropped, At}
 use Rattle.detect_extrema.specs.Neighbours.{Rule, candidate}

@@ -19,8 +19,8 @@ use Rattle.params.specs.Limits.{border}
 use Rattle.picture.specs.Stack.{sample}
 use Rattle.picture.specs.declared.Shape.{Shape}
 use Rattle.detect_refine.specs.Sign.{SameRefined, both-dropped, both-at}
-use Rattle.detect_refine.specs.declared.Search.{Search}
-use Rattle.detect_refine.specs.declared.RawKeypoint.{RawKeypoint}
+use Rattle.detect_keypoint.specs.declared.Search.{Search}
+use Rattle.detect_keypoint.specs.declared.RawKeypoint.{RawKeypoint}
 use Rattle.detect_refine.specs.declared.Refined.{Refined}
 use Rattle.detect_fit.proofs.SignLaw.{at-opp}
 use Rattle.detect_refine.proofs.SignLaw.{refine-same}

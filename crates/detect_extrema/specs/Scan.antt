@@ -7,10 +7,10 @@ use Rattle.ieee.specs.F32.{bitsOf}
 use Rattle.lists.specs.Ranges.{joined}
 use Rattle.params.specs.Limits.{border}
 use Rattle.picture.specs.declared.Shape.{Shape}
-use Rattle.detect_refine.specs.Keypoint.{refineOf}
-use Rattle.detect_refine.specs.declared.Cell.{Cell}
-use Rattle.detect_refine.specs.declared.Search.{Search}
-use Rattle.detect_refine.specs.declared.RawKeypoint.{RawKeypoint}
+use Rattle.detect_refine.specs.Settle.{refineOf}
+use Rattle.detect_keypoint.specs.declared.Cell.{Cell}
+use Rattle.detect_keypoint.specs.declared.Search.{Search}
+use Rattle.detect_keypoint.specs.declared.RawKeypoint.{RawKeypoint}
 use Rattle.detect_refine.specs.declared.Refined.{Refined}
 use Rattle.detect_refine.specs.declared.Refined.the-variants.{Dropped, At}
 use Rattle.detect_extrema.specs.Neighbours.{Rule, candidate}

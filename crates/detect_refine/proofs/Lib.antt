@@ -1,10 +1,5 @@
 pub mod Places
-pub mod Counts
-pub mod Codes
 pub mod Steps
 pub mod Settled
 pub mod SignLaw
-pub mod Sized
-pub mod Asked
-pub mod Octaves
 pub mod Sounds

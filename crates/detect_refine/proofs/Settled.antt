@@ -9,14 +9,15 @@ use Rattle.params.specs.Limits.{maxMoves}
 use Rattle.picture.specs.declared.Shape.{Shape}
 use Rattle.detect_fit.specs.declared.Patch.{Patch}
 use Rattle.detect_fit.specs.declared.Offset.{Offset}
+use Rattle.detect_keypoint.specs.Keypoint.{contrastOf, dim, edgy, keypointWith, keypointOf}
+use Rattle.detect_keypoint.specs.declared.Cell.{Cell}
+use Rattle.detect_keypoint.specs.declared.Search.{Search}
+use Rattle.detect_keypoint.specs.declared.RawKeypoint.{RawKeypoint}
 use Rattle.detect_refine.specs.Moves.{stepOf}
-use Rattle.detect_refine.specs.Keypoint.{contrastOf, dim, edgy, keypointWith, keypointOf, ended, onStep, patchAt, settleFrom, refineOf}
-use Rattle.detect_refine.specs.Sound.{FewMoves}
-use Rattle.detect_refine.specs.declared.Cell.{Cell}
-use Rattle.detect_refine.specs.declared.Search.{Search}
+use Rattle.detect_refine.specs.Settle.{ended, onStep, patchAt, settleFrom, refineOf}
+use Rattle.detect_refine.specs.Few.{FewMoves}
 use Rattle.detect_refine.specs.declared.Step.{Step}
 use Rattle.detect_refine.specs.declared.Step.the-variants.{Lost, Stay, Go}
-use Rattle.detect_refine.specs.declared.RawKeypoint.{RawKeypoint}
 use Rattle.detect_refine.specs.declared.Refined.the-variants.{Dropped, At}
 
 one-less : (m : ℕ) → m < maxMoves → maxMoves - m ≡ suc (maxMoves - (m + 1))

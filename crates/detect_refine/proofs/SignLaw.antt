@@ -1,44 +1,39 @@
 -- With every sample negated, a candidate settles at the same place after the same moves, and its keypoint is the same but for the sign of an offset xi that is zero.
 -- Assumes nothing.
-use Prim.Native.Nat.{ℕ, zero, suc, _+_, _-_, _^_, _≤_}
-use mathlib.Core.Path.{_≡_, refl, ap}
+use Prim.Native.Nat.{ℕ, zero, suc, _+_, _-_, _≤_}
+use mathlib.Core.Path.{_≡_, refl}
 use mathlib.Core.Bool.{Bool, true, false, _&&_, _||_, cond}
 use mathlib.Core.List.{List}
-use native.Mathlib.Nat.{le-trans}
-use native.Mathlib.Omega.{arith}
 use borrow.Author.Tests.{leb-true}
 use lib.Dec.{leb, ltb}
 use lib.IntN.{ℤ, pos, negsuc, _+ℤ_}
 use lib.ListN.{getD}
-use lib.Ieee.{Float, nan, binary32, ofBits}
-use Rattle.ieee.specs.F32.{_⊕_, _⊗_, rounded, toI32, narrowed, float}
-use Rattle.ieee.specs.Numbers.{one, half}
+use lib.Ieee.{Float, nan, binary32}
+use Rattle.ieee.specs.F32.{rounded, toI32}
 use Rattle.ieee_laws.specs.Sign.{Opp, Same}
-use Rattle.ieee_laws.proofs.Turned.{add-turned, mul-turned, le-turned, eq-turned, nonzero}
-use Rattle.ieee_laws.proofs.TurnedOps.{same, zero-any, fma-turned, abs-turned, roundEven-turned, toSigned-same, add-nonzero, add-beside}
-use Rattle.ieee_laws.proofs.Bounds.{above-nonzero, ofInt-above}
+use Rattle.ieee_laws.proofs.Turned.{eq-turned}
+use Rattle.ieee_laws.proofs.TurnedOps.{zero-any, abs-turned, roundEven-turned, toSigned-same}
 use Rattle.params.specs.Limits.{border, maxMoves}
 use Rattle.picture.specs.declared.Shape.{Shape}
-use Rattle.detect_fit.specs.Fit.{imgScale, patchOf}
 use Rattle.detect_fit.specs.declared.Patch.{Patch}
 use Rattle.detect_fit.specs.declared.Offset.{Offset}
-use Rattle.detect_fit.proofs.SignLaw.{SameOffset, mulSub-same, det-opp, offset-same, at-opp, gradient-opp, bend-opp}
-use Rattle.detect_refine.specs.Moves.{small, huge, placed, moved, three, walk, stepOf}
-use Rattle.detect_refine.specs.Keypoint.{contrastOf, dim, edgy, codeOf, keypointWith, keypointOf, ended, onStep, patchAt, settleFrom, refineOf}
-use Rattle.detect_refine.specs.declared.Cell.{Cell}
-use Rattle.detect_refine.specs.declared.Search.{Search}
+use Rattle.detect_fit.proofs.SignLaw.{SameOffset, det-opp, offset-same, gradient-opp, bend-opp}
+use Rattle.detect_keypoint.proofs.SignLaw.{Deep, dim-same, edgy-same, keypoint-same}
+use Rattle.detect_keypoint.specs.Offsets.{small}
+use Rattle.detect_keypoint.specs.Keypoint.{contrastOf, dim, edgy}
+use Rattle.detect_keypoint.specs.declared.Cell.{Cell}
+use Rattle.detect_keypoint.specs.declared.Search.{Search}
+use Rattle.detect_refine.specs.Moves.{huge, placed, moved, three, walk, stepOf}
+use Rattle.detect_refine.specs.Settle.{ended, onStep, patchAt, settleFrom, refineOf}
 use Rattle.detect_refine.specs.declared.Moved.{Moved}
 use Rattle.detect_refine.specs.declared.Moved.the-variants.{Out, In}
 use Rattle.detect_refine.specs.declared.Step.{Step}
 use Rattle.detect_refine.specs.declared.Step.the-variants.{Lost, Stay, Go}
 use Rattle.detect_refine.specs.declared.Refined.{Refined}
 use Rattle.detect_refine.specs.declared.Refined.the-variants.{Dropped}
-use Rattle.detect_refine.specs.Sign.{SameKeypoint, SameRefined, both-dropped, both-at}
+use Rattle.detect_refine.specs.Sign.{SameRefined, both-dropped, both-at}
 
--- ---- one step. A move never leaves the layers from 1 on or the border: so beside the place a zero offset's sign leaves no trace
-
-abbrev Deep : Cell → Type 0
-Deep k = (1 ≤ k .p) × (border ≤ k .r) × (border ≤ k .c)
+-- ---- one step. A move never leaves the layers from 1 on or the border
 
 data SameStep : Step → Step → Type 0 where
   both-lost : SameStep Lost Lost
@@ -102,22 +97,6 @@ cond-refined : (b : Bool) {s t : Refined} → SameRefined s t → SameRefined (c
 cond-refined true p = both-dropped
 cond-refined false p = p
 
--- ---- the fields: beside a whole number that is no zero, and beside 0.5, an offset that is the same gives the same sum
-
-float-nonzero : (n : ℕ) → 1 ≤ n → nonzero (float n) ≡ true
-float-nonzero n h = above-nonzero (float n) (ofInt-above binary32 n h)
-
-half-nonzero : nonzero half ≡ true
-unfolding nonzero ofBits
-half-nonzero = refl
-
-place-same : (n : ℕ) {x y : Float} → 1 ≤ n → Same x y → float n ⊕ y ≡ float n ⊕ x
-place-same n h s = add-nonzero binary32 (float n) (float-nonzero n h) s
-
-code-same : {x y : Float} → Same x y → codeOf y ≡ codeOf x
-unfolding codeOf
-code-same s = rw (add-beside binary32 half half-nonzero s)
-
 -- ---- a stack and its negative
 
 module _ (d e : List Float) (t : Shape) (s : Search) (o : (i : ℕ) → Opp (getD d i nan) (getD e i nan)) where
@@ -136,46 +115,10 @@ module _ (d e : List Float) (t : Shape) (s : Search) (o : (i : ℕ) → Opp (get
         let x = det-opp b in
         pick-step _ _ (eq-turned x (zero-any true)) (λ n. walk-same t (s .settings .layers) k (offset-same g b x n))
 
-    contrast-opp : {u v : Offset} → SameOffset u v → Opp (contrastOf here u) (contrastOf there v)
-    unfolding contrastOf patchOf
-    contrast-opp q =
-        let g = gradient-opp d e t o (k .p) (k .r) (k .c) in
-        fma-turned binary32 (at-opp d e t o (k .p) (k .r) (k .c)) (same imgScale)
-        (mul-turned binary32 (fma-turned binary32 (g .ds) (q .xi) (fma-turned binary32 (g .dy) (q .xr) (mul-turned binary32 (g .dx) (q .xc)))) (same half))
-
-    dim-same : {u v : Offset} → SameOffset u v → dim (s .settings) (contrastOf there v) ≡ dim (s .settings) (contrastOf here u)
-    unfolding dim
-    dim-same q = rw (abs-turned (contrast-opp q))
-
-    edgy-same : edgy (s .settings) there ≡ edgy (s .settings) here
-    unfolding edgy
-    edgy-same =
-        let b = bend-opp d e t o (k .p) (k .r) (k .c) in
-        let det = mulSub-same (b .xx) (b .yy) (b .xy) (b .xy) in
-        let tr = add-turned binary32 (b .xx) (b .yy) in
-        let et = narrowed (s .settings .edge) in
-        rw (le-turned det (zero-any false), le-turned (mul-turned binary32 (same ((et ⊕ one) ⊗ (et ⊕ one))) det) (mul-turned binary32 (mul-turned binary32 tr tr) (same et)))
-
-    keypoint-same : (moves : ℕ) {u v : Offset} → Deep k → SameOffset u v → SameKeypoint (keypointOf s moves k here u) (keypointOf s moves k there v)
-    unfolding keypointOf keypointWith
-    keypoint-same moves {u} {v} deep q =
-        record {
-          x = ap (λ (z : Float). z ⊗ float (2 ^ s .octave)) (place-same (k .c) (le-trans (omega arith) (deep .2)) (q .xc));
-          y = ap (λ (z : Float). z ⊗ float (2 ^ s .octave)) (place-same (k .r) (le-trans (omega arith) (deep .1)) (q .xr));
-          size = rw (place-same (k .p) (deep .0) (q .xi));
-          response = abs-turned (contrast-opp q);
-          octave = rw (code-same (q .xi));
-          layer = refl;
-          xi = q .xi;
-          cc = refl;
-          rr = refl;
-          moves = refl;
-        }
-
     ended-same : (moves : ℕ) {u v : Offset} → Deep k → SameOffset u v → SameRefined (ended s moves k here u) (ended s moves k there v)
     unfolding ended
     ended-same moves {u} deep q =
-        rw (dim-same q, edgy-same) (cond-refined (dim (s .settings) (contrastOf here u) || edgy (s .settings) here) (both-at (keypoint-same moves deep q)))
+        rw (dim-same d e t s o k q, edgy-same d e t s o k) (cond-refined (dim (s .settings) (contrastOf here u) || edgy (s .settings) here) (both-at (keypoint-same d e t s o k moves deep q)))
 
   settle-same : (left moves : ℕ) (k : Cell) → Deep k → SameRefined (settleFrom d t s left moves k) (settleFrom e t s left moves k)
   unfolding settleFrom

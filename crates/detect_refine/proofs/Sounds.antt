@@ -1,117 +1,43 @@
 -- Every keypoint that refinement gives is sound. Assumes nothing.
-use Prim.Native.Nat.{ℕ, zero, suc, _+_, _-_, _*_, _/_, _%_, _^_, _<_, _≤_}
+use Prim.Native.Nat.{ℕ, zero, suc, _+_, _-_, _*_, _^_, _<_, _≤_}
 use mathlib.Core.Path.{_≡_, refl, sym, subst}
 use mathlib.Core.Bool.{true, false}
 use mathlib.Core.List.{List}
 use native.Mathlib.Omega.{arith}
-use lib.Dec.{T, lit≤}
-use lib.IntN.{pos}
+use lib.Dec.{T}
 use lib.ListN.{length}
-use lib.Ieee.{Float, nan, inf, fin, binary32, ofBits, neg, fits, le}
+use lib.Ieee.{Float, binary32, neg, fits}
 use lib.Ieee.Fits.{neg-fits, mul-fits}
-use lib.Ieee.Scale.{finite}
-use Rattle.lists.proofs.Bools.{and-left, and-right}
-use Rattle.ieee.specs.F32.{_⊗_, _⊖_, _<ᶠ_, fused, absOf, narrowed}
-use Rattle.ieee.specs.Numbers.{half}
-use Rattle.ieee.proofs.Held.{fma-fits, abs-fits}
-use Rattle.params.specs.Limits.{maxLayers, maxOctave, maxMoves}
+use Rattle.ieee.specs.F32.{_⊗_, narrowed}
+use Rattle.ieee.proofs.Held.{abs-fits}
+use Rattle.params.specs.Limits.{maxMoves}
 use Rattle.params.specs.Table.{goodSample, allGood, settingsWrong}
 use Rattle.params.proofs.Accepted.{Accepted, accepted}
 use Rattle.picture.specs.Stack.{sample}
 use Rattle.picture.specs.declared.Shape.{Shape}
-use Rattle.picture.proofs.Runs.{good-at}
-use Rattle.detect_fit.specs.Fit.{imgScale, deriv, diff, patchOf, gradientOf, offsetOf}
+use Rattle.samples.proofs.Runs.{good-at}
+use Rattle.detect_fit.specs.Fit.{patchOf, offsetOf}
 use Rattle.detect_fit.specs.declared.Patch.{Patch}
 use Rattle.detect_fit.specs.declared.Offset.{Offset}
-use Rattle.detect_refine.specs.Moves.{small, stepOf}
-use Rattle.detect_refine.specs.Keypoint.{contrastOf, codeOf, octaveWord, keypointWith, keypointOf, ended, onStep, patchAt, settleFrom, refineOf}
+use Rattle.detect_keypoint.specs.Offsets.{small}
+use Rattle.detect_keypoint.specs.Keypoint.{contrastOf, codeOf, octaveWord, keypointWith, keypointOf}
+use Rattle.detect_keypoint.specs.Sound.{Sound}
+use Rattle.detect_keypoint.specs.declared.Cell.{Cell}
+use Rattle.detect_keypoint.specs.declared.Search.{Search}
+use Rattle.detect_keypoint.specs.declared.RawKeypoint.{RawKeypoint}
+use Rattle.detect_keypoint.proofs.Codes.{code, code-le, code-cast, word-is, word-low, word-next, word-third}
+use Rattle.detect_keypoint.proofs.Contrast.{Read, contrast-finite, abs-finite, contrast-fits, abs-twice, small-finite}
+use Rattle.detect_keypoint.proofs.Offsets.{small-xi, small-xr, small-xc}
+use Rattle.detect_keypoint.proofs.Asked.{asked-in, asked-power}
+use Rattle.detect_keypoint.proofs.Octaves.{position-finite, position-above, size-finite, size-above, size-from, size-to}
+use Rattle.detect_refine.specs.Moves.{stepOf}
+use Rattle.detect_refine.specs.Settle.{ended, onStep, patchAt, settleFrom, refineOf}
 use Rattle.detect_refine.specs.Place.{Searched, Placed}
-use Rattle.detect_refine.specs.Sound.{Sound}
-use Rattle.detect_refine.specs.declared.Cell.{Cell}
-use Rattle.detect_refine.specs.declared.Search.{Search}
 use Rattle.detect_refine.specs.declared.Step.{Step}
 use Rattle.detect_refine.specs.declared.Step.the-variants.{Lost, Stay, Go}
-use Rattle.detect_refine.specs.declared.RawKeypoint.{RawKeypoint}
 use Rattle.detect_refine.specs.declared.Refined.the-variants.{Dropped, At}
-use Rattle.detect_refine.proofs.Codes.{code, code-le, code-cast, word-is}
 use Rattle.detect_refine.proofs.Settled.{dropped-not, ended-at, ended-moves, few-moves}
-use Rattle.detect_refine.proofs.Steps.{small-xi, small-xr, small-xc, step-stay, step-offset, step-go}
-use Rattle.detect_refine.proofs.Sized.{Within, within-finite, limits-within, half-within, sub-within, mul-within, fma-within}
-use Rattle.detect_refine.proofs.Asked.{asked-in, asked-power}
-use Rattle.detect_refine.proofs.Octaves.{position-finite, position-above, size-finite, size-above, size-from, size-to}
-
--- ---- the contrast is finite where the samples are good
-
-good-within : (x : Float) → goodSample x ≡ true → Within x (2 ^ 20)
-unfolding ofBits neg
-good-within x e = limits-within x 20 (and-left (le (fin true 1 (pos 20)) x) _ e) (and-right (le (fin true 1 (pos 20)) x) _ e)
-
-small-within : (x : Float) → (absOf x <ᶠ half) ≡ true → Within x 1
-unfolding ofBits
-small-within x e = half-within x e
-
--- the seven samples that the contrast reads
-record Read (t : Patch) : Type 0 where
-  pub im : goodSample (t .im) ≡ true
-  pub il : goodSample (t .il) ≡ true
-  pub ir : goodSample (t .ir) ≡ true
-  pub iu : goodSample (t .iu) ≡ true
-  pub id : goodSample (t .id) ≡ true
-  pub pm : goodSample (t .pm) ≡ true
-  pub nm : goodSample (t .nm) ≡ true
-
-deriv-within : Within deriv 1
-unfolding ofBits
-deriv-within = lit≤ tt
-
-scale-within : Within imgScale 1
-unfolding ofBits
-scale-within = lit≤ tt
-
-half-one : Within half 1
-unfolding ofBits
-half-one = lit≤ tt
-
-diff-within : (a b : Float) → goodSample a ≡ true → goodSample b ≡ true → Within (diff a b) (2 ^ 21)
-diff-within a b p q = mul-within (a ⊖ b) deriv (2 ^ 21) 1 (lit≤ tt) (sub-within a b (2 ^ 20) (2 ^ 20) (lit≤ tt) (good-within a p) (good-within b q)) deriv-within
-
-contrast-finite : (t : Patch) (o : Offset) → Read t → small o ≡ true → finite (contrastOf t o) ≡ true
-unfolding contrastOf gradientOf
-contrast-finite t o g s =
-    let xi = small-within (o .xi) (small-xi o s) in
-    let xr = small-within (o .xr) (small-xr o s) in
-    let xc = small-within (o .xc) (small-xc o s) in
-    let dx = diff-within (t .ir) (t .il) (g .ir) (g .il) in
-    let dy = diff-within (t .id) (t .iu) (g .id) (g .iu) in
-    let ds = diff-within (t .nm) (t .pm) (g .nm) (g .pm) in
-    let x = diff (t .ir) (t .il) ⊗ o .xc in
-    let y = fused (diff (t .id) (t .iu)) (o .xr) x in
-    let z = fused (diff (t .nm) (t .pm)) (o .xi) y in
-    let a = mul-within (diff (t .ir) (t .il)) (o .xc) (2 ^ 21) 1 (lit≤ tt) dx xc in
-    let b = fma-within (diff (t .id) (t .iu)) (o .xr) x (2 ^ 21) 1 (2 ^ 21) (lit≤ tt) dy xr a in
-    let c = fma-within (diff (t .nm) (t .pm)) (o .xi) y (2 ^ 21) 1 (2 ^ 22) (lit≤ tt) ds xi b in
-    let h = mul-within z half (2 ^ 21 + 2 ^ 22) 1 (lit≤ tt) c half-one in
-    within-finite (fused (t .im) imgScale (z ⊗ half)) (2 ^ 20 + (2 ^ 21 + 2 ^ 22))
-    (fma-within (t .im) imgScale (z ⊗ half) (2 ^ 20) 1 (2 ^ 21 + 2 ^ 22) (lit≤ tt) (good-within (t .im) (g .im)) scale-within h)
-
-abs-finite : (x : Float) → finite x ≡ true → finite (absOf x) ≡ true
-unfolding absOf
-abs-finite nan h = h
-abs-finite (inf s) h = h
-abs-finite (fin s m e) h = refl
-
-contrast-fits : (t : Patch) (o : Offset) → T (fits binary32 (contrastOf t o))
-unfolding contrastOf
-contrast-fits t o = fma-fits binary32 (t .im) imgScale _
-
-abs-twice : (x : Float) → absOf (absOf x) ≡ absOf x
-unfolding absOf
-abs-twice nan = refl
-abs-twice (inf s) = refl
-abs-twice (fin s m e) = refl
-
-small-finite : (x : Float) → (absOf x <ᶠ half) ≡ true → finite x ≡ true
-small-finite x e = within-finite x 1 (small-within x e)
+use Rattle.detect_refine.proofs.Steps.{step-stay, step-offset, step-go}
 
 -- ---- the samples about a cell
 
@@ -131,17 +57,6 @@ module _ (d : List Float) (t : Shape) (s : Search) (k : Cell) (a : Searched (len
         pm = good (k .p - 1) (k .r) (k .c) (omega arith) (omega arith) (omega arith);
         nm = good (k .p + 1) (k .r) (k .c) (omega arith) (omega arith) (omega arith);
       }
-
--- ---- the octave word
-
-word-low : (o p k : ℕ) → o ≤ maxOctave → (o + p * 2 ^ 8 + k * 2 ^ 16) % 2 ^ 8 ≡ o
-word-low o p k h = omega arith
-
-word-next : (o p k : ℕ) → o ≤ maxOctave → p ≤ maxLayers → (o + p * 2 ^ 8 + k * 2 ^ 16) / 2 ^ 8 % 2 ^ 8 ≡ p
-word-next o p k h g = omega arith
-
-word-third : (o p k : ℕ) → o ≤ maxOctave → p ≤ maxLayers → k ≤ 255 → (o + p * 2 ^ 8 + k * 2 ^ 16) / 2 ^ 16 < 2 ^ 8
-word-third o p k h g l = omega arith
 
 -- ---- the fields
 

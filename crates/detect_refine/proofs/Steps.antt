@@ -4,36 +4,20 @@ use mathlib.Core.Path.{_≡_, refl, ap}
 use mathlib.Core.Bool.{Bool, true, false, cond}
 use native.Mathlib.Omega.{arith}
 use lib.Ieee.{Float}
-use Rattle.lists.proofs.Bools.{and-left, and-right}
-use Rattle.ieee.specs.F32.{_<ᶠ_, absOf}
-use Rattle.ieee.specs.Numbers.{half}
 use Rattle.params.specs.Limits.{border}
 use Rattle.picture.specs.declared.Shape.{Shape}
 use Rattle.detect_fit.specs.Fit.{gradientOf, bendOf, detOf, offsetOf}
 use Rattle.detect_fit.specs.declared.Patch.{Patch}
 use Rattle.detect_fit.specs.declared.Offset.{Offset}
-use Rattle.detect_refine.specs.Moves.{small, huge, moved, three, walk, singular, stepOf}
+use Rattle.detect_keypoint.specs.Offsets.{small}
+use Rattle.detect_keypoint.specs.declared.Cell.{Cell}
+use Rattle.detect_refine.specs.Moves.{huge, moved, three, walk, singular, stepOf}
 use Rattle.detect_refine.specs.Place.{Placed}
-use Rattle.detect_refine.specs.declared.Cell.{Cell}
 use Rattle.detect_refine.specs.declared.Moved.{Moved}
 use Rattle.detect_refine.specs.declared.Moved.the-variants.{Out, In}
 use Rattle.detect_refine.specs.declared.Step.{Step}
 use Rattle.detect_refine.specs.declared.Step.the-variants.{Lost, Stay, Go}
 use Rattle.detect_refine.proofs.Places.{placed-in}
-
--- ---- three tests at once
-
-pub small-xi : (o : Offset) → small o ≡ true → (absOf (o .xi) <ᶠ half) ≡ true
-unfolding small
-small-xi o e = and-left (absOf (o .xi) <ᶠ half) _ e
-
-pub small-xr : (o : Offset) → small o ≡ true → (absOf (o .xr) <ᶠ half) ≡ true
-unfolding small
-small-xr o e = and-left (absOf (o .xr) <ᶠ half) _ (and-right (absOf (o .xi) <ᶠ half) _ e)
-
-pub small-xc : (o : Offset) → small o ≡ true → (absOf (o .xc) <ᶠ half) ≡ true
-unfolding small
-small-xc o e = and-right (absOf (o .xr) <ᶠ half) _ (and-right (absOf (o .xi) <ᶠ half) _ e)
 
 -- ---- a step that stays is small; one that goes stays within the layers and the border
 

@@ -1,6 +1,5 @@
-pub mod Search
 pub mod Moves
-pub mod Keypoint
+pub mod Settle
 pub mod Place
 pub mod Sign
-pub mod Sound
+pub mod Few

@@ -4,14 +4,15 @@ use mathlib.Core.Bool.{Bool, _&&_, _||_, cond}
 use lib.Dec.{leb, ltb}
 use lib.IntN.{ℤ, pos, negsuc, _+ℤ_}
 use lib.Ieee.{Float}
-use Rattle.ieee.specs.F32.{f32, _<ᶠ_, _=ᶠ_, absOf, rounded, toI32}
-use Rattle.ieee.specs.Numbers.{nought, half}
+use Rattle.ieee.specs.F32.{f32, _<ᶠ_, _=ᶠ_, absOf}
+use Rattle.ieee.specs.Numbers.{nought}
 use Rattle.params.specs.Limits.{border}
 use Rattle.picture.specs.declared.Shape.{Shape}
 use Rattle.detect_fit.specs.Fit.{gradientOf, bendOf, detOf, offsetOf}
 use Rattle.detect_fit.specs.declared.Patch.{Patch}
 use Rattle.detect_fit.specs.declared.Offset.{Offset}
-use Rattle.detect_refine.specs.declared.Cell.{Cell}
+use Rattle.detect_keypoint.specs.Offsets.{small, cvRound}
+use Rattle.detect_keypoint.specs.declared.Cell.{Cell}
 use Rattle.detect_refine.specs.declared.Moved.{Moved}
 use Rattle.detect_refine.specs.declared.Moved.the-variants.{Out, In}
 use Rattle.detect_refine.specs.declared.Step.{Step}
@@ -21,17 +22,9 @@ use Rattle.detect_refine.specs.declared.Step.the-variants.{Lost, Stay, G
 abbrev pub limit : Float
 limit = f32 0x4e2a_aaab
 
--- all three offsets are below 0.5 in magnitude
-unfoldable pub small : Offset → Bool
-small o = (absOf (o .xi) <ᶠ half) && ((absOf (o .xr) <ᶠ half) && (absOf (o .xc) <ᶠ half))
-
--- one of them is above the limit
+-- one of the three offsets is above the limit
 unfoldable pub huge : Offset → Bool
 huge o = (limit <ᶠ absOf (o .xi)) || ((limit <ᶠ absOf (o .xr)) || (limit <ᶠ absOf (o .xc)))
-
--- the source's `cv_round`: to the nearest whole number, ties to even, then `as i32`, which stops at the ends of the range and takes a not-a-number as 0
-abbrev pub cvRound : Float → ℤ
-cvRound x = toI32 (rounded x)
 
 -- u, where it lies from lo to below hi
 unfoldable pub placed : ℕ → ℕ → ℤ → Moved

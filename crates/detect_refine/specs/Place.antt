@@ -3,8 +3,8 @@ use Prim.Native.Nat.{ℕ, _+_, _-_, _*_, _<_, _≤_}
 use mathlib.Core.Path.{_≡_}
 use Rattle.params.specs.Limits.{border, maxSide, maxLayers, maxOctave}
 use Rattle.picture.specs.declared.Shape.{Shape}
-use Rattle.detect_refine.specs.declared.Cell.{Cell}
-use Rattle.detect_refine.specs.declared.Search.{Search}
+use Rattle.detect_keypoint.specs.declared.Cell.{Cell}
+use Rattle.detect_keypoint.specs.declared.Search.{Search}
 
 -- the list, `len` long, is a stack of that shape within the limits, the layer searched is one of its layers, and the octave is within its limit
 pub record Searched (len : ℕ) (t : Shape) (s : Search) : Type 0 where

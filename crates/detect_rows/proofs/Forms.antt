@@ -17,10 +17,10 @@ use Rattle.lists.proofs.Both.{both-joined}
 use Rattle.lists.proofs.Ranges.{joined-bound}
 use Rattle.params.specs.Limits.{border, maxSide}
 use Rattle.picture.specs.declared.Shape.{Shape}
-use Rattle.detect_refine.specs.Keypoint.{refineOf}
+use Rattle.detect_refine.specs.Settle.{refineOf}
 use Rattle.detect_refine.specs.Place.{Searched, Placed}
-use Rattle.detect_refine.specs.declared.Search.{Search}
-use Rattle.detect_refine.specs.declared.RawKeypoint.{RawKeypoint}
+use Rattle.detect_keypoint.specs.declared.Search.{Search}
+use Rattle.detect_keypoint.specs.declared.RawKeypoint.{RawKeypoint}
 use Rattle.detect_refine.specs.declared.Refined.{Refined}
 use Rattle.detect_refine.specs.declared.Refined.the-variants.{Dropped, At}
 use Rattle.detect_extrema.specs.Neighbours.{tied, candidate}

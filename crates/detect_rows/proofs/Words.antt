@@ -10,7 +10,7 @@ use lib.Seq.{sets, take-suc, take-length, length-take-le, length-sets}
 use Rattle.lists.specs.Ranges.{joined}
 use Rattle.lists.specs.Pasted.{pasted}
 use Rattle.lists.proofs.Ranges.{joined-more, joined-split, sets-append, sets-front}
-use Rattle.detect_refine.specs.declared.RawKeypoint.{RawKeypoint}
+use Rattle.detect_keypoint.specs.declared.RawKeypoint.{RawKeypoint}
 use Rattle.detect_extrema.specs.Scan.{keypointWords, words}
 
 pub length-words : (ks : List RawKeypoint) → length (words ks) ≡ keypointWords * length ks

@@ -7,11 +7,11 @@ use lib.Ieee.{Float}
 use Rattle.lists.specs.Ranges.{joined}
 use Rattle.params.specs.Limits.{border, maxSide}
 use Rattle.picture.specs.declared.Shape.{Shape}
-use Rattle.detect_refine.specs.Keypoint.{refineOf}
+use Rattle.detect_refine.specs.Settle.{refineOf}
 use Rattle.detect_refine.specs.Place.{Placed}
-use Rattle.detect_refine.specs.declared.Cell.{Cell}
-use Rattle.detect_refine.specs.declared.Search.{Search}
-use Rattle.detect_refine.specs.declared.RawKeypoint.{RawKeypoint}
+use Rattle.detect_keypoint.specs.declared.Cell.{Cell}
+use Rattle.detect_keypoint.specs.declared.Search.{Search}
+use Rattle.detect_keypoint.specs.declared.RawKeypoint.{RawKeypoint}
 use Rattle.detect_extrema.specs.Neighbours.{tied}
 use Rattle.detect_extrema.specs.Scan.{kept, cellOf, found, words}
 

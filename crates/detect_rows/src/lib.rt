@@ -5,16 +5,16 @@ ghost use Prim.Native.Nat.{_+_, _-_, _*_, _^_, _<_, _≤_, min};
 ghost use lib.ListN.{length, set, take};
 ghost use lib.Seq.{sets};
 ghost use Rattle.params.specs.Limits.{border, maxSide};
-ghost use Rattle.picture.specs.Samples.{spanGood};
+ghost use Rattle.samples.specs.Samples.{spanGood};
 ghost use Rattle.detect_refine.specs.Place.{Searched, Placed};
 ghost use Rattle.detect_extrema.specs.Scan.{kept, wordsOf};
-ghost use Rattle.detect_extrema.specs.Place.{group, Along};
+ghost use Rattle.detect_look.specs.Place.{group, Along};
 ghost use Rattle.detect_rows.specs.Forms.{cellWord, cellAt, leaves, runLeaves, rowLeaves, again, allAgain, Cells};
-use detect_extrema::Run;
-use detect_refine::Cell;
-use detect_refine::RawKeypoint;
+use detect_keypoint::Cell;
+use detect_keypoint::RawKeypoint;
+use detect_keypoint::Search;
+use detect_look::Run;
 use detect_refine::Refined;
-use detect_refine::Search;
 use params::MAX_SIDE;
 use picture::Shape;
 
@@ -108,10 +108,10 @@ fn marked_words(dog: &[f32], t: Shape, s: Search, u: Run, p: Place, out: &mut [u
     ensures { λ n. ⌜ n ≡ length (runLeaves (p .cells) (now (dog .entry)) t s (u .row) (u .lo) (u .hi)) ⌝ }
     ensures { λ n. ⌜ now (out .exit) ≡ sets (now (out .entry)) (p .from) (runLeaves (p .cells) (now (dog .entry)) t s (u .row) (u .lo) (u .hi)) ⌝ }
 {
-    let marks = detect_extrema::mark(dog, t, s, u);
+    let marks = detect_look::mark(dog, t, s, u);
     let mut n: usize = 0;
     for c in u.lo..u.hi {
-        let x = detect_extrema::seen(marks[c - u.lo], dog, t, s, u.row, c);
+        let x = detect_look::seen(marks[c - u.lo], dog, t, s, u.row, c);
         n += leave(
             x,
             u.row,
@@ -135,7 +135,7 @@ fn group_words(dog: &[f32], t: Shape, s: Search, u: Run, p: Place, out: &mut [u3
     ensures { λ n. ⌜ n ≡ length (runLeaves (p .cells) (now (dog .entry)) t s (u .row) (u .lo) (u .hi)) ⌝ }
     ensures { λ n. ⌜ now (out .exit) ≡ sets (now (out .entry)) (p .from) (runLeaves (p .cells) (now (dog .entry)) t s (u .row) (u .lo) (u .hi)) ⌝ }
 {
-    if !detect_extrema::any_hint(dog, t, s, u) {
+    if !detect_look::any_hint(dog, t, s, u) {
         return 0;
     }
     marked_words(dog, t, s, u, p, out)
@@ -157,13 +157,13 @@ fn block_words(dog: &[f32], t: Shape, s: Search, u: Run, p: Place, out: &mut [u3
     ensures { λ n. ⌜ n ≡ length (runLeaves (p .cells) (now (dog .entry)) t s (u .row) (u .lo) (u .hi)) ⌝ }
     ensures { λ n. ⌜ now (out .exit) ≡ sets (now (out .entry)) (p .from) (runLeaves (p .cells) (now (dog .entry)) t s (u .row) (u .lo) (u .hi)) ⌝ }
 {
-    if !detect_extrema::any_loud(dog, t, s, u) {
+    if !detect_look::any_loud(dog, t, s, u) {
         return 0;
     }
     let mut n: usize = 0;
     let mut c = u.lo;
     while c < u.hi {
-        let to = run_end(c, u.hi, detect_extrema::GROUP);
+        let to = run_end(c, u.hi, detect_look::GROUP);
         n += group_words(
             dog,
             t,
@@ -198,10 +198,10 @@ pub fn row_words(dog: &[f32], t: Shape, s: Search, r: usize, p: Place, out: &mut
     let end = t.width - detect_refine::BORDER;
     let mut n: usize = 0;
     let mut c = detect_refine::BORDER;
-    let mut ok = picture::span_good(dog, t, r, 0, c);
+    let mut ok = samples::span_good(dog, t, r, 0, c);
     while c < end {
-        let to = run_end(c, end, detect_extrema::BLOCK);
-        ok = ok & picture::span_good(dog, t, r, c, to);
+        let to = run_end(c, end, detect_look::BLOCK);
+        ok = ok & samples::span_good(dog, t, r, c, to);
         n += block_words(
             dog,
             t,
@@ -219,7 +219,7 @@ pub fn row_words(dog: &[f32], t: Shape, s: Search, r: usize, p: Place, out: &mut
         );
         c = to;
     }
-    ok = ok & picture::span_good(dog, t, r, end, t.width);
+    ok = ok & samples::span_good(dog, t, r, end, t.width);
     Row { words: n, good: ok }
 }
 

@@ -1,4 +1,4 @@
--- Law: what rules F3 to F6 ask of the routines, of the definitions beside this page; and what callers ask besides.
+-- Law: what rules F3 to F5 ask of the routines, of the definitions beside this page; and what callers ask besides.
 -- proofs/Rules.antt proves each: `table-rule : TableRule`, and so on. Accuracy (rule F9) is no statement here: `run_hal` measures it. Definitions only.
 use mathlib.Core.Path.{_≡_}
 use mathlib.Core.Bool.{Bool, false}
@@ -10,10 +10,9 @@ use lib.Ieee.{Float, nan, fin, binary32, fits}
 use lib.Ieee.Exact.{HasValue}
 use lib.Ieee.Positive.{num, den}
 use Rattle.ieee.specs.F32.{_<ᶠ_, _≤ᶠ_}
-use Rattle.ieee.specs.Numbers.{nought, one, minusOne, four, quarterTurn, halfTurn, threeQuarterTurn, wholeTurn}
+use Rattle.ieee.specs.Numbers.{nought, one, four}
 use Rattle.hal.specs.Powers.{powers, entryOf}
 use Rattle.hal.specs.Exp.{scaledOf, inUp, exp2Of, inDown, expOf}
-use Rattle.hal.specs.Turn.{inTurn, sinOf, cosOf}
 
 -- r lies in lo to hi, and so is a finite number where those are
 pub record In (lo hi r : Float) : Type 0 where
@@ -56,22 +55,3 @@ pub record ExpRule : Type 0 where
   pub above : (x : Float) → T (inDown x) → T (nought <ᶠ expOf x)
   pub outside : (x : Float) → inDown x ≡ false → expOf x ≡ nan
   pub held : (x : Float) → T (fits binary32 (expOf x))
-
--- ---- sine and cosine: rule F6
-
--- a function of degrees that is a, b, c, d at 0, 90, 180, 270, and a again at 360
-pub record TurnRule (f : Float → Float) (a b c d : Float) : Type 0 where
-  pub within : (x : Float) → T (inTurn x) → In minusOne one (f x)
-  pub at-0 : f nought ≡ a
-  pub at-90 : f quarterTurn ≡ b
-  pub at-180 : f halfTurn ≡ c
-  pub at-270 : f threeQuarterTurn ≡ d
-  pub at-360 : f wholeTurn ≡ a
-  pub outside : (x : Float) → inTurn x ≡ false → f x ≡ nan
-  pub held : (x : Float) → T (fits binary32 (f x))
-
-abbrev pub SineRule : Type 0
-SineRule = TurnRule sinOf nought one nought minusOne
-
-abbrev pub CosineRule : Type 0
-CosineRule = TurnRule cosOf one nought minusOne nought

@@ -14,7 +14,7 @@ use Rattle.params.specs.Limits.{maxSide, maxOctave, scaleLow, scaleHigh}
 use Rattle.params.specs.Table.{within, firstFault, sideWrong, shapeWrong, lengthWrong}
 use Rattle.params.proofs.Bools.{or-neither, in-range}
 use Rattle.picture.specs.declared.Size.{Size}
-use Rattle.detect_refine.specs.declared.RawKeypoint.{RawKeypoint}
+use Rattle.detect_keypoint.specs.declared.RawKeypoint.{RawKeypoint}
 use Rattle.orient_window.specs.Window.{cellsRead}
 use Rattle.orient_window.specs.Good.{windowGood}
 use Rattle.orient_tally.specs.Tally.{gatheredOf}

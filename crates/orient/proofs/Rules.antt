@@ -20,8 +20,8 @@ use Rattle.params.specs.Limits.{border, maxLayers, maxOctave, scaleLow, scaleHi
 use Rattle.params.specs.Table.{within}
 use Rattle.params.specs.declared.Settings.{Settings}
 use Rattle.picture.specs.declared.Size.{Size}
-use Rattle.detect_refine.specs.Sound.{Sound}
-use Rattle.detect_refine.specs.declared.RawKeypoint.{RawKeypoint}
+use Rattle.detect_keypoint.specs.Sound.{Sound}
+use Rattle.detect_keypoint.specs.declared.RawKeypoint.{RawKeypoint}
 use Rattle.orient_window.proofs.Cells.{read-is}
 use Rattle.lists.proofs.Every.{every-all}
 use Rattle.orient_peaks.specs.Rules.{maxPeaks}

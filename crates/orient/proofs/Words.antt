@@ -10,7 +10,7 @@ use lib.Seq.{take-suc}
 use lib.Ieee.{Float}
 use Rattle.lists.specs.Pasted.{pasted}
 use Rattle.lists.proofs.Pasted.{pasted-none, pasted-one, pasted-cons, pasted-append, length-pasted}
-use Rattle.detect_refine.specs.declared.RawKeypoint.{RawKeypoint}
+use Rattle.detect_keypoint.specs.declared.RawKeypoint.{RawKeypoint}
 use Rattle.orient.specs.Entry.{orientedOf, orientedWords, wordsOf, words}
 use Rattle.orient.specs.declared.OrientedKeypoint.{OrientedKeypoint}
 

@@ -8,7 +8,7 @@ use lib.Ieee.{Float}
 use Rattle.params.specs.Limits.{maxSide, maxOctave, scaleLow, scaleHigh}
 use Rattle.params.specs.Table.{within}
 use Rattle.picture.specs.declared.Size.{Size}
-use Rattle.detect_refine.specs.declared.RawKeypoint.{RawKeypoint}
+use Rattle.detect_keypoint.specs.declared.RawKeypoint.{RawKeypoint}
 use Rattle.orient_window.specs.Good.{windowGood}
 use Rattle.orient.specs.Keypoint.{octaveIn, scaleOf}
 use Rattle.orient.specs.Entry.{windowAt}

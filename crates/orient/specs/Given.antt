@@ -6,7 +6,7 @@ use lib.Ieee.{Float}
 use Rattle.params.specs.Answers.{answerOf, landed}
 use Rattle.params.specs.declared.Answer.{Answer}
 use Rattle.picture.specs.declared.Size.{Size}
-use Rattle.detect_refine.specs.declared.RawKeypoint.{RawKeypoint}
+use Rattle.detect_keypoint.specs.declared.RawKeypoint.{RawKeypoint}
 use Rattle.orient_window.specs.Window.{cellsRead}
 use Rattle.orient_peaks.specs.Found.{heldOf}
 use Rattle.orient.specs.Entry.{windowAt, anglesAt, orientedOf, orientedWords, words, answeredWith}

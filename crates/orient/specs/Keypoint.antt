@@ -9,7 +9,7 @@ use Rattle.ieee.specs.Numbers.{half}
 use Rattle.params.specs.Limits.{maxOctave, maxLayers, scaleLow, scaleHigh}
 use Rattle.params.specs.Table.{within}
 use Rattle.picture.specs.declared.Size.{Size}
-use Rattle.detect_refine.specs.declared.RawKeypoint.{RawKeypoint}
+use Rattle.detect_keypoint.specs.declared.RawKeypoint.{RawKeypoint}
 
 -- its cell is none of the picture's
 unfoldable pub cellWrong : Size → RawKeypoint → Bool

@@ -8,8 +8,8 @@ use lib.Ieee.{Float, nan}
 use Rattle.params.specs.Limits.{maxLayers, maxOctave}
 use Rattle.params.specs.declared.Settings.{Settings}
 use Rattle.picture.specs.declared.Size.{Size}
-use Rattle.detect_refine.specs.Sound.{Sound}
-use Rattle.detect_refine.specs.declared.RawKeypoint.{RawKeypoint}
+use Rattle.detect_keypoint.specs.Sound.{Sound}
+use Rattle.detect_keypoint.specs.declared.RawKeypoint.{RawKeypoint}
 use Rattle.orient_window.specs.Window.{cellsRead}
 use Rattle.orient_peaks.specs.Rules.{maxPeaks}
 use Rattle.orient.specs.Keypoint.{keypointWrong}

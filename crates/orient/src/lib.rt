@@ -1,6 +1,6 @@
 // The orientation of a keypoint: an oriented keypoint for each dominant direction of the gradients about its cell.
 
-use detect_refine::RawKeypoint;
+use detect_keypoint::RawKeypoint;
 use orient_peaks::Angles;
 use orient_window::Window;
 use params::Answer;

@@ -20,7 +20,7 @@ use Rattle.ieee_laws.proofs.Bounds.{Bounds, bounds-finite, bounds-point, marked
 use Rattle.ieee_laws.proofs.Level.{eq-both, sub-finite, sub-level}
 use Rattle.lists.proofs.Ranges.{joined-empty}
 use Rattle.params.specs.Table.{firstFault, line, shapeWrong, lengthWrong}
-use Rattle.detect_refine.specs.declared.RawKeypoint.{RawKeypoint}
+use Rattle.detect_keypoint.specs.declared.RawKeypoint.{RawKeypoint}
 use Rattle.hal_angle.specs.Angle.{inReach, inAngle}
 use Rattle.hal.specs.Rules.{In}
 use Rattle.hal_angle.proofs.AngleValues.{reach-nan, reach-inf}

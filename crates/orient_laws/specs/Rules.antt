@@ -14,7 +14,7 @@ use Rattle.sheet.specs.Layout.{largestAngle}
 use Rattle.picture.specs.Picture.{slopeAt}
 use Rattle.picture.specs.declared.Size.{Size}
 use Rattle.picture.specs.declared.Slope.{Slope}
-use Rattle.detect_refine.specs.declared.RawKeypoint.{RawKeypoint}
+use Rattle.detect_keypoint.specs.declared.RawKeypoint.{RawKeypoint}
 use Rattle.orient_tally.specs.Sample.{bins}
 use Rattle.orient_tally.specs.Tally.{tallyOf}
 use Rattle.orient.specs.Entry.{windowAt, orientFault, orientedOf, orientedList}

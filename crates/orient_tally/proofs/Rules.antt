@@ -25,7 +25,7 @@ use Rattle.params.specs.Limits.{scaleLow, scaleHigh}
 use Rattle.params.specs.Table.{within, allGood}
 use Rattle.picture.specs.Picture.{slopeAt, fourAt, firstIn, pastIn}
 use Rattle.picture.specs.declared.Size.{Size}
-use Rattle.picture.proofs.Slopes.{good-slope}
+use Rattle.samples.proofs.Slopes.{good-slope}
 use Rattle.hal.specs.Numbers.{minus32}
 use Rattle.hal.specs.Exp.{inDown}
 use Rattle.hal_angle.specs.Angle.{inAngle}

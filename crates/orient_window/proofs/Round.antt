@@ -9,9 +9,9 @@ use lib.ListN.{length}
 use lib.Ieee.{Float}
 use Rattle.lists.proofs.Bools.{and-both, is-T}
 use Rattle.lists.proofs.Every.{all-every}
-use Rattle.picture.specs.Area.{Inset, areaGood}
-use Rattle.picture.specs.declared.Area.{Area}
-use Rattle.picture.proofs.Strips.{area-four}
+use Rattle.samples.specs.Area.{Inset, areaGood}
+use Rattle.samples.specs.declared.Area.{Area}
+use Rattle.samples.proofs.Strips.{area-four}
 use Rattle.orient_window.specs.Good.{rowGood, windowGood}
 use Rattle.orient_window.specs.Place.{Fits}
 use Rattle.orient_window.specs.declared.Window.{Window}

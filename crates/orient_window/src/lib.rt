@@ -1,7 +1,7 @@
 // The window about a keypoint: the cells that are read, and the test of what they read.
 
-use picture::Area;
 use picture::Size;
+use samples::Area;
 ghost use mathlib.Core.Path.{_≡_};
 ghost use mathlib.Core.Bool.{true};
 ghost use Prim.Native.Nat.{_+_, _-_, _<_, _≤_};
@@ -78,7 +78,7 @@ fn row_good(img: &[f32], win: Window, i: usize) -> bool
     let mut ok = true;
     let mut j: usize = 0;
     while j < win.cols {
-        ok = ok & picture::four_good(img, win.size, y, win.left + j);
+        ok = ok & samples::four_good(img, win.size, y, win.left + j);
         j += 1;
     }
     ok
@@ -111,7 +111,7 @@ pub fn window_good(img: &[f32], win: Window) -> bool
             left: win.left,
             right: win.left + win.cols,
         };
-        if picture::area_good(img, win.size, area) {
+        if samples::area_good(img, win.size, area) {
             return true;
         }
     }

@@ -22,9 +22,9 @@ use Rattle.params.specs.declared.Settings.{Settings}
 use Rattle.params.proofs.Bools.{or-neither}
 use Rattle.picture.specs.Picture.{fourAt, firstIn, pastIn}
 use Rattle.picture.specs.declared.Size.{Size}
-use Rattle.picture.proofs.Runs.{good-append, good-four}
-use Rattle.detect_refine.specs.Sound.{Sound}
-use Rattle.detect_refine.specs.declared.RawKeypoint.{RawKeypoint}
+use Rattle.samples.proofs.Runs.{good-append, good-four}
+use Rattle.detect_keypoint.specs.Sound.{Sound}
+use Rattle.detect_keypoint.specs.declared.RawKeypoint.{RawKeypoint}
 use Rattle.orient.specs.Entry.{orientedOf, orientedList}
 use Rattle.orient.specs.Rules.{Passed}
 use Rattle.orient.specs.declared.OrientedKeypoint.{OrientedKeypoint}

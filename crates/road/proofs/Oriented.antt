@@ -13,10 +13,10 @@ use Rattle.lists.proofs.Every.{all-every}
 use Rattle.params.specs.Limits.{maxSide}
 use Rattle.params.specs.Table.{shapeWrong, allGood}
 use Rattle.picture.specs.declared.Size.{Size}
-use Rattle.picture.proofs.Runs.{good-four}
+use Rattle.samples.proofs.Runs.{good-four}
 use Rattle.params.specs.declared.Settings.{Settings}
-use Rattle.detect_refine.specs.Sound.{Sound}
-use Rattle.detect_refine.specs.declared.RawKeypoint.{RawKeypoint}
+use Rattle.detect_keypoint.specs.Sound.{Sound}
+use Rattle.detect_keypoint.specs.declared.RawKeypoint.{RawKeypoint}
 use Rattle.orient_window.specs.Good.{rowGood, windowGood}
 use Rattle.orient_window.specs.Place.{Fits}
 use Rattle.orient_window.specs.declared.Window.{Window}

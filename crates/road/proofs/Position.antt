@@ -21,7 +21,7 @@ use Rattle.ieee_laws.proofs.Monotone.{nil, add-le, mul-le-left, toUnsigned-le}
 use Rattle.ieee_laws.proofs.Bounds.{Bounds, bounds-finite, bounds-point, add-bounds, mul-bounds, roundEven-bounds, ofInt-bounds, abs-bounds, marked-nonneg}
 use Rattle.ieee_laws.proofs.Order.{le-fin, Marked, ended, le-trans-float, lt-le}
 use Rattle.params.specs.Limits.{border, maxSide, maxOctave}
-use Rattle.detect_refine.specs.Sound.{Near}
+use Rattle.detect_keypoint.specs.Sound.{Near}
 use Rattle.descriptor_patch.specs.Patch.{cellOf}
 use Rattle.descriptor.specs.Place.{onSide}
 use borrow.Author.Tests.{lt-ltb}

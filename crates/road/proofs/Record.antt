@@ -17,8 +17,8 @@ use Rattle.ieee_laws.proofs.Monotone.{nil}
 use Rattle.ieee_laws.proofs.Bounds.{zero-is}
 use Rattle.params.specs.Limits.{border, maxOctave, valueCount}
 use Rattle.params.specs.declared.Settings.{Settings}
-use Rattle.detect_refine.specs.Sound.{Sound, Number}
-use Rattle.detect_refine.specs.declared.RawKeypoint.{RawKeypoint}
+use Rattle.detect_keypoint.specs.Sound.{Sound, Number}
+use Rattle.detect_keypoint.specs.declared.RawKeypoint.{RawKeypoint}
 use Rattle.orient.specs.Keypoint.{layerIn}
 use Rattle.orient.specs.Entry.{orientedOf}
 use Rattle.orient_laws.specs.Rules.{Turn}

@@ -9,9 +9,9 @@ use lib.Dec.{eqb}
 use lib.ListN.{length}
 use lib.Ieee.{Float}
 use Rattle.params.specs.declared.Settings.{Settings}
-use Rattle.detect_refine.specs.Sound.{Sound}
-use Rattle.detect_refine.specs.declared.RawKeypoint.{RawKeypoint}
-use Rattle.detect_refine.specs.Search.{searchOf}
+use Rattle.detect_keypoint.specs.Sound.{Sound}
+use Rattle.detect_keypoint.specs.declared.RawKeypoint.{RawKeypoint}
+use Rattle.detect_keypoint.specs.Search.{searchOf}
 use Rattle.detect_refine.specs.Place.{Searched}
 use Rattle.orient.specs.declared.OrientedKeypoint.{OrientedKeypoint}
 use Rattle.orient_laws.specs.Rules.{Turn}

@@ -7,9 +7,9 @@ use lib.ListN.{length}
 use lib.Ieee.{Float, nan}
 use Rattle.params.specs.Table.{shapeWrong, allGood}
 use Rattle.params.specs.declared.Settings.{Settings}
-use Rattle.detect_refine.specs.Sound.{Sound}
-use Rattle.detect_refine.specs.declared.RawKeypoint.{RawKeypoint}
-use Rattle.detect_refine.specs.Search.{searchOf}
+use Rattle.detect_keypoint.specs.Sound.{Sound}
+use Rattle.detect_keypoint.specs.declared.RawKeypoint.{RawKeypoint}
+use Rattle.detect_keypoint.specs.Search.{searchOf}
 use Rattle.detect_refine.specs.Place.{Searched}
 use Rattle.detect.proofs.Faults as DetectFaults
 use Rattle.detect.proofs.Rules.{detect-rule}

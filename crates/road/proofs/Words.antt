@@ -7,7 +7,7 @@ use lib.Dec.{T}
 use lib.ListN.{length, getD, take, drop}
 use lib.Ieee.{Float, nan, binary32, fits}
 use Rattle.params.specs.declared.Settings.{Settings}
-use Rattle.detect_refine.specs.declared.RawKeypoint.{RawKeypoint}
+use Rattle.detect_keypoint.specs.declared.RawKeypoint.{RawKeypoint}
 use Rattle.detect_extrema.specs.Scan as Raw
 use Rattle.detect.proofs.Rules.{detect-rule}
 use Rattle.orient.specs.Entry as Oriented

@@ -6,7 +6,7 @@ use lib.ListN.{length, getD}
 use lib.Ieee.{Float, nan, toUnsigned}
 use Rattle.ieee.specs.F32.{bitsOf}
 use Rattle.params.specs.Limits.{valueCount}
-use Rattle.detect_refine.specs.declared.RawKeypoint.{RawKeypoint}
+use Rattle.detect_keypoint.specs.declared.RawKeypoint.{RawKeypoint}
 use Rattle.orient.specs.Keypoint.{octaveIn, layerIn}
 use Rattle.orient.specs.Entry.{orientedOf}
 use Rattle.orient.specs.declared.OrientedKeypoint.{OrientedKeypoint}

@@ -11,7 +11,7 @@ use Rattle.params.specs.Table.{allGood}
 use Rattle.params.specs.declared.Settings.{Settings}
 use Rattle.picture.specs.declared.Shape.{Shape}
 use Rattle.picture.specs.declared.Size.{Size}
-use Rattle.detect_refine.specs.declared.RawKeypoint.{RawKeypoint}
+use Rattle.detect_keypoint.specs.declared.RawKeypoint.{RawKeypoint}
 use Rattle.detect.specs.Entry as Detection
 use Rattle.orient.specs.Entry.{orientFault, orientedList}
 use Rattle.orient.specs.declared.OrientedKeypoint.{OrientedKeypoint}

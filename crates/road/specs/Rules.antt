@@ -8,8 +8,8 @@ use lib.Ieee.{Float}
 use Rattle.params.specs.Limits.{maxOctave}
 use Rattle.params.specs.Table.{allGood}
 use Rattle.params.specs.declared.Settings.{Settings}
-use Rattle.detect_refine.specs.Sound.{Sound}
-use Rattle.detect_refine.specs.declared.RawKeypoint.{RawKeypoint}
+use Rattle.detect_keypoint.specs.Sound.{Sound}
+use Rattle.detect_keypoint.specs.declared.RawKeypoint.{RawKeypoint}
 use Rattle.detect_extrema.specs.Scan as Raw
 use Rattle.detect_extrema.specs.Scan.{keypointWords}
 use Rattle.orient_window.specs.Good.{windowGood}

@@ -5,7 +5,7 @@ use descriptor::Described;
 use descriptor::Spot;
 use detect_fit::Offset;
 use detect_fit::Patch;
-use detect_refine::Cell;
+use detect_keypoint::Cell;
 use detect_refine::Step;
 use libc::STDOUT_FILENO;
 use params::Answer;
@@ -173,10 +173,10 @@ fn fate_with(samples: &[f32; 363], threshold: f32) -> Fate {
 
 // How far a cell comes that settles with the offset o.
 fn settled(patch: Patch, o: Offset) -> Fate {
-    if detect_refine::is_dim(settings(), detect_refine::contrast_of(patch, o)) {
+    if detect_keypoint::is_dim(settings(), detect_keypoint::contrast_of(patch, o)) {
         return Fate::Dim;
     }
-    if detect_refine::is_edgy(settings(), patch) {
+    if detect_keypoint::is_edgy(settings(), patch) {
         return Fate::Edge;
     }
     Fate::Found

@@ -6,7 +6,7 @@ ghost use Prim.Native.Nat.{_+_, _<_, _≤_};
 ghost use lib.ListN.{length};
 use descriptor::Described;
 use descriptor::Spot;
-use detect_refine::RawKeypoint;
+use detect_keypoint::RawKeypoint;
 use libc::STDOUT_FILENO;
 use orient::OrientedKeypoint;
 use params::Answer;

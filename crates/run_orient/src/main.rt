@@ -1,7 +1,7 @@
 // Replays keypoints with the published Rust's answers (host/record/src/orientation.rs says how they are laid out) through `assign_orientations`, and says how many cases,
 // oriented keypoints and words were compared and how many differ.
 ghost use Prim.Native.Nat.{_≤_};
-use detect_refine::RawKeypoint;
+use detect_keypoint::RawKeypoint;
 use picture::Size;
 
 const MARK: u32 = 0x4243_4c32;

@@ -10,8 +10,8 @@ use lib.Seq.{drop-append-add}
 use lib.Ieee.{Float, binary32, fits}
 use lib.Ieee.Bits.{ofBits-toBits}
 use Rattle.params.specs.declared.Settings.{Settings}
-use Rattle.detect_refine.specs.Sound.{Sound}
-use Rattle.detect_refine.specs.declared.RawKeypoint.{RawKeypoint}
+use Rattle.detect_keypoint.specs.Sound.{Sound}
+use Rattle.detect_keypoint.specs.declared.RawKeypoint.{RawKeypoint}
 use Rattle.detect_extrema.specs.Scan as raw
 use Rattle.orient.specs.Entry as orient
 use Rattle.orient.specs.declared.OrientedKeypoint.{OrientedKeypoint}

@@ -7,7 +7,7 @@ use lib.ListN.{length, getD}
 use lib.Ieee.{nan}
 use Rattle.ieee.specs.F32.{f32}
 use Rattle.detect_extrema.specs.Scan.{keypointWords}
-use Rattle.detect_refine.specs.declared.RawKeypoint.{RawKeypoint}
+use Rattle.detect_keypoint.specs.declared.RawKeypoint.{RawKeypoint}
 
 -- the keypoint of ten words
 unfoldable pub wordsIn : List ℕ → RawKeypoint

@@ -7,8 +7,8 @@ use lib.Dec.{T}
 use lib.ListN.{length, getD, take, drop}
 use lib.Ieee.{Float, binary32, fits}
 use Rattle.params.specs.declared.Settings.{Settings}
-use Rattle.detect_refine.specs.Sound.{Sound}
-use Rattle.detect_refine.specs.declared.RawKeypoint.{RawKeypoint}
+use Rattle.detect_keypoint.specs.Sound.{Sound}
+use Rattle.detect_keypoint.specs.declared.RawKeypoint.{RawKeypoint}
 use Rattle.detect_extrema.specs.Scan as raw
 use Rattle.orient.specs.Entry as orient
 use Rattle.orient.specs.declared.OrientedKeypoint.{OrientedKeypoint}

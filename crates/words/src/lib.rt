@@ -8,7 +8,7 @@ ghost use Rattle.words.specs.Keypoint.{wordsIn, broken, keypointIn};
 ghost use Rattle.words.specs.Inputs.{inputWords, wordsOut, inputsNumber, inputsLeft};
 ghost use Rattle.words.specs.Oriented.{sixIn, unoriented, orientedIn};
 use descriptor_inputs::Inputs;
-use detect_refine::RawKeypoint;
+use detect_keypoint::RawKeypoint;
 use orient::OrientedKeypoint;
 
 // A keypoint goes out as so many words, and an oriented keypoint.

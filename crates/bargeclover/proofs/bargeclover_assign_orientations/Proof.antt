@@ -2,7 +2,7 @@ use mathlib.Core.Path.{_∙_, ap}
 use lib.ListN.{length}
 use denote.Ref.{now}
 use Rattle.params.specs.Answers.{numberOf, countOf}
-use Rattle.detect_refine.specs.declared.RawKeypoint.{RawKeypoint}
+use Rattle.detect_keypoint.specs.declared.RawKeypoint.{RawKeypoint}
 use Rattle.orient.specs.declared.OrientAnswer.{OrientAnswer}
 use Rattle.orient.specs.Entry.{orientAnswer, orientOut}
 use borrow.Author.Needs.{needs}

@@ -2,7 +2,7 @@ use native.Mathlib.Nat.{le-trans}
 use lib.Dec.{lit≤}
 use lib.Pow.{pow-mono}
 use Rattle.ieee_laws.proofs.Wholes.{held}
-use Rattle.detect_refine.proofs.Counts.{one-shift}
+use Rattle.detect_keypoint.proofs.Counts.{one-shift}
 use Rattle.descriptor_inputs.specs.Inputs.{shrinkOf}
 use borrow.Author.Needs.{needs}
 use Rattle.descriptor_inputs.proofs.shrink.Statement.{statement}

@@ -4,8 +4,8 @@ use Rattle.descriptor_patch.proofs.patch_of.Statement.{statement}
 use Rattle.descriptor_patch.proofs.patch_of.Tie as tie
 use Rattle.descriptor_patch.proofs.patch_of.Reads as reads
 use Rattle.descriptor_patch.proofs.patch_of.Lts as lts
-use Rattle.hal.proofs.cos.Reads as cos-reads
-use Rattle.hal.proofs.sin.Reads as sin-reads
+use Rattle.hal_turn.proofs.cos.Reads as cos-reads
+use Rattle.hal_turn.proofs.sin.Reads as sin-reads
 use Rattle.descriptor_patch.proofs.radius_of.Reads as radius-of-reads
 
 cos-requires : tie.Need-cos-requires

@@ -6,7 +6,7 @@ use Rattle.descriptor_reads.proofs.cell_good.Statement.{statement}
 use Rattle.descriptor_reads.proofs.cell_good.Tie as tie
 use Rattle.descriptor_reads.proofs.cell_good.Reads as reads
 use Rattle.descriptor_reads.proofs.cell_good.Lts as lts
-use Rattle.picture.proofs.four_good.Reads as four-good-reads
+use Rattle.samples.proofs.four_good.Reads as four-good-reads
 use Rattle.descriptor_reads.proofs.grid_at.Reads as grid-at-reads
 
 grid-at-requires : tie.Need-grid-at-requires

@@ -5,7 +5,7 @@ use Rattle.descriptor_reads.proofs.patch_good.Tie as tie
 use Rattle.descriptor_reads.proofs.patch_good.Reads as reads
 use Rattle.descriptor_reads.proofs.patch_good.Lts as lts
 use Rattle.descriptor_reads.proofs.reads_good.Reads as reads-good-reads
-use Rattle.picture.proofs.area_good.Reads as area-good-reads
+use Rattle.samples.proofs.area_good.Reads as area-good-reads
 use Rattle.picture.proofs.first_in.Reads as first-in-reads
 use Rattle.picture.proofs.past_in.Reads as past-in-reads
 

@@ -8,8 +8,8 @@ use lib.Seq.{length-sets}
 use borrow.Author.Needs.{needs}
 use borrow.Author.Tests.{not-true, not-false}
 use Rattle.params.specs.Limits.{border}
-use Rattle.picture.specs.Samples.{rowsGood}
-use Rattle.picture.proofs.Rows.{rows-none, rows-more, row-bad}
+use Rattle.samples.specs.Samples.{rowsGood}
+use Rattle.samples.proofs.Rows.{rows-none, rows-more, row-bad}
 use Rattle.detect.specs.Front.{Held}
 use Rattle.detect.proofs.Parts.{held-none, held-kept, held-more}
 use Rattle.detect.proofs.held_rows.Statement.{statement}

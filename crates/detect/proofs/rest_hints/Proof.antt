@@ -7,7 +7,7 @@ use borrow.Author.Needs.{needs}
 use Rattle.params.specs.Limits.{border, maxSide}
 use Rattle.detect.specs.Front.{rowsHinted}
 use Rattle.detect.proofs.Parts.{hints-none, hints-more, hints-few}
-use Rattle.detect_extrema.proofs.Counted.{hinted-bound}
+use Rattle.detect_look.proofs.Counted.{hinted-bound}
 use Rattle.detect.proofs.rest_hints.Statement.{statement}
 use Rattle.detect.proofs.rest_hints.Tie as tie
 

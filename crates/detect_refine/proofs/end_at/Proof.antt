@@ -1,14 +1,15 @@
-use Rattle.detect_refine.specs.Keypoint.{keypointOf, ended}
+use Rattle.detect_keypoint.specs.Keypoint.{keypointOf}
+use Rattle.detect_refine.specs.Settle.{ended}
 use borrow.Author.Needs.{needs}
 use Rattle.detect_refine.proofs.end_at.Statement.{statement}
 use Rattle.detect_refine.proofs.end_at.Tie as tie
 use Rattle.detect_refine.proofs.end_at.Reads as reads
 use Rattle.detect_refine.proofs.end_at.Lts as lts
 use Rattle.ieee.proofs.abs.Reads as abs-reads
-use Rattle.detect_refine.proofs.contrast_of.Reads as contrast-of-reads
-use Rattle.detect_refine.proofs.is_dim.Reads as is-dim-reads
-use Rattle.detect_refine.proofs.is_edgy.Reads as is-edgy-reads
-use Rattle.detect_refine.proofs.keypoint_of.Reads as keypoint-of-reads
+use Rattle.detect_keypoint.proofs.contrast_of.Reads as contrast-of-reads
+use Rattle.detect_keypoint.proofs.is_dim.Reads as is-dim-reads
+use Rattle.detect_keypoint.proofs.is_edgy.Reads as is-edgy-reads
+use Rattle.detect_keypoint.proofs.keypoint_of.Reads as keypoint-of-reads
 
 contrast-of-requires : tie.Need-contrast-of-requires
 contrast-of-requires c κs = search needs

@@ -1,4 +1,4 @@
-use Rattle.detect_refine.specs.Moves.{small}
+use Rattle.detect_keypoint.specs.Offsets.{small}
 use borrow.Author.Needs.{needs}
 use Rattle.detect_refine.proofs.is_small.Statement.{statement}
 use Rattle.detect_refine.proofs.is_small.Tie as tie

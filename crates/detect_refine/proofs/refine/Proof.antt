@@ -3,7 +3,7 @@ use mathlib.Core.Path.{_≡_, refl, sym, _∙_}
 use native.Mathlib.Omega.{arith}
 use borrow.Author.Needs.{needs}
 use Rattle.params.specs.Limits.{maxMoves}
-use Rattle.detect_refine.specs.Keypoint.{settleFrom, refineOf}
+use Rattle.detect_refine.specs.Settle.{settleFrom, refineOf}
 use Rattle.detect_refine.specs.Place.{Placed}
 use Rattle.detect_refine.proofs.Steps.{step-stay, step-go}
 use Rattle.detect_refine.proofs.Settled.{settle-lost, settle-stay, settle-go, settle-none}

@@ -10,7 +10,7 @@ use lib.Seq.{length-sets}
 use Rattle.lists.proofs.Ranges.{joined-start}
 use Rattle.detect_extrema.specs.Neighbours.{tied}
 use Rattle.detect_extrema.specs.Scan.{found, keypointWords}
-use Rattle.detect_extrema.proofs.Looks.{quiet-cells}
+use Rattle.detect_look.proofs.Looks.{quiet-cells}
 use Rattle.detect_rows.specs.Forms.{leaves, runLeaves}
 use Rattle.detect_rows.proofs.Words.{Filled, filled-none, filled-parts}
 use Rattle.detect_rows.proofs.Forms.{run-bound, run-quiet}

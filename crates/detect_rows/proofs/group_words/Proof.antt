@@ -2,7 +2,7 @@ use mathlib.Core.Path.{sym, _∙_}
 use borrow.Author.Needs.{needs}
 use borrow.Author.Tests.{not-true}
 use denote.Ref.{now}
-use Rattle.detect_extrema.proofs.Looks.{unseen-cells}
+use Rattle.detect_look.proofs.Looks.{unseen-cells}
 use Rattle.detect_rows.proofs.Words.{filled-none}
 use Rattle.detect_rows.proofs.Forms.{run-quiet}
 use Rattle.detect_rows.proofs.group_words.Statement.{statement}

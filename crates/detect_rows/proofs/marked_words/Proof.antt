@@ -9,7 +9,7 @@ use lib.Seq.{length-sets}
 use Rattle.lists.proofs.Ranges.{joined-start}
 use Rattle.detect_extrema.specs.Neighbours.{tied}
 use Rattle.detect_extrema.specs.Scan.{found, keypointWords}
-use Rattle.detect_extrema.proofs.Looks.{marks-read}
+use Rattle.detect_look.proofs.Looks.{marks-read}
 use Rattle.detect_rows.specs.Forms.{leaves, runLeaves}
 use Rattle.detect_rows.proofs.Words.{Filled, filled-none, filled-part}
 use Rattle.detect_rows.proofs.Forms.{cell-bound, run-bound}

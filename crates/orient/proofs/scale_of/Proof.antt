@@ -1,7 +1,7 @@
 use native.Mathlib.Nat.{le-trans}
 use lib.Dec.{lit≤}
 use lib.Pow.{pow-mono}
-use Rattle.detect_refine.proofs.Counts.{held, one-shift}
+use Rattle.detect_keypoint.proofs.Counts.{held, one-shift}
 use Rattle.orient.specs.Keypoint.{octaveIn, scaleOf}
 use borrow.Author.Needs.{needs}
 use Rattle.orient.proofs.scale_of.Statement.{statement}

@@ -12,7 +12,7 @@ use Rattle.orient_window.proofs.row_good.Statement.{statement}
 use Rattle.orient_window.proofs.row_good.Tie as tie
 use Rattle.orient_window.proofs.row_good.Reads as reads
 use Rattle.orient_window.proofs.row_good.Lts as lts
-use Rattle.picture.proofs.four_good.Reads as four-good-reads
+use Rattle.samples.proofs.four_good.Reads as four-good-reads
 
 abbrev Inv-loop : tie.InvT-loop
 Inv-loop img win i y ok₀ j₀ ok j = (j ≤ win .cols) × (ok ≡ every j (λ k. allGood (fourAt img (win .size .width) y (win .left + k))))

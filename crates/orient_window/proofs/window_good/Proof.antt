@@ -6,7 +6,7 @@ use Rattle.orient_window.proofs.window_good.Tie as tie
 use Rattle.orient_window.proofs.window_good.Reads as reads
 use Rattle.orient_window.proofs.window_good.Lts as lts
 use Rattle.orient_window.proofs.cells_good.Reads as cells-good-reads
-use Rattle.picture.proofs.area_good.Reads as area-good-reads
+use Rattle.samples.proofs.area_good.Reads as area-good-reads
 
 add-t7 : tie.Need-add-t7
 add-t7 c = search needs

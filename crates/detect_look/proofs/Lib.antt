@@ -1,0 +1,4 @@
+pub mod Sides
+pub mod Hints
+pub mod Looks
+pub mod Counted

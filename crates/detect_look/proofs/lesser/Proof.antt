@@ -1,0 +1,14 @@
+use Rattle.detect_look.specs.Hints.{lesserOf}
+use Rattle.detect_look.proofs.lesser.Statement.{statement}
+use Rattle.detect_look.proofs.lesser.Tie as tie
+
+returns : tie.Need-returns
+unfolding lesserOf
+returns c = rw (c .if1 .taken)
+
+returns-2 : tie.Need-returns-2
+unfolding lesserOf
+returns-2 c = rw (c .if1 .left)
+
+pub lesser-spec : {M : Type 1} → statement M
+lesser-spec = tie.close (tie.spec returns returns-2)

@@ -1,0 +1,5 @@
+pub mod Runs
+pub mod Slopes
+pub mod Strips
+pub mod Spans
+pub mod Rows

@@ -19,13 +19,13 @@ struct Case {
     count: usize,
 }
 
-fn next_double(fd: i32, counts: &mut [u64; 9]) -> f64 {
+fn next_double(fd: i32, counts: &mut [u64; 32]) -> f64 {
     let low = run_replay::next(fd, counts);
     let high = run_replay::next(fd, counts);
     ieee::of_bits64(high as u64 * 4294967296 + low as u64)
 }
 
-fn next_case(fd: i32, counts: &mut [u64; 9]) -> Case {
+fn next_case(fd: i32, counts: &mut [u64; 32]) -> Case {
     let width = run_replay::next_size(fd, counts);
     let height = run_replay::next_size(fd, counts);
     let planes = run_replay::next_size(fd, counts);
@@ -61,14 +61,14 @@ fn next_case(fd: i32, counts: &mut [u64; 9]) -> Case {
 }
 
 // The room that stands before the words is the head's.
-fn compare_room(fd: i32, counts: &mut [u64; 9], room: usize) {
+fn compare_room(fd: i32, counts: &mut [u64; 32], room: usize) {
     if run_replay::next_size(fd, counts) != room {
         run_replay::add(counts, run_replay::UNREADABLE, 1);
     }
 }
 
 // Replays a case of n samples, whose head is read.
-fn replay_case(fd: i32, counts: &mut [u64; 9], c: Case, n: usize, room: usize)
+fn replay_case(fd: i32, counts: &mut [u64; 32], c: Case, n: usize, room: usize)
     requires { ⌜ (n ≤ 65536) × (room ≤ 4096) ⌝ }
 {
     let samples = run_replay::read_samples(fd, counts, n);
@@ -87,7 +87,7 @@ fn replay_case(fd: i32, counts: &mut [u64; 9], c: Case, n: usize, room: usize)
 }
 
 // Reads a case and replays it, if it fits the buffers.
-fn step(fd: i32, counts: &mut [u64; 9]) {
+fn step(fd: i32, counts: &mut [u64; 32]) {
     let c = next_case(fd, counts);
     let n = run_replay::product(
         run_replay::product(c.shape.width, c.shape.height),
@@ -106,7 +106,7 @@ fn step(fd: i32, counts: &mut [u64; 9]) {
 }
 
 // Replays so many cases, or fewer if the file can't be read on.
-fn replay_all(fd: i32, counts: &mut [u64; 9], cases: u32) {
+fn replay_all(fd: i32, counts: &mut [u64; 32], cases: u32) {
     let mut left = cases;
     while left > 0 && run_replay::readable(counts) {
         step(fd, counts);
@@ -115,14 +115,12 @@ fn replay_all(fd: i32, counts: &mut [u64; 9], cases: u32) {
 }
 
 fn main() {
-    let path = b"cases.bin";
-    let fd = os::open_read(path);
+    let fd = run_io::open(b"cases.bin");
     if fd < 0 {
-        os::fail(path);
         return;
     }
-    let mut counts = [0u64; 9];
+    let mut counts = [0u64; 32];
     let cases = run_replay::begin(fd, &mut counts, MARK);
     replay_all(fd, &mut counts, cases);
-    run_replay::end(fd, cases, &counts);
+    run_replay::end(fd, cases, &mut counts);
 }

@@ -7,7 +7,6 @@ ghost use lib.ListN.{length};
 use descriptor::Described;
 use descriptor::Spot;
 use detect_keypoint::RawKeypoint;
-use libc::STDOUT_FILENO;
 use orient::OrientedKeypoint;
 use params::Answer;
 use params::Settings;
@@ -30,14 +29,6 @@ const MOST: usize = 64;
 //     320 = 10 × 32, the words of 32 keypoints, the most that a layer's list has room for; 108 = 6 × 18, those of 18 oriented keypoints, the most that a keypoint has
 //     8,832 = 138 × 64, the words of 64 records; 8,896 = 139 × 64, the same as the reader gives them; 9,864 = 8 + 154 × 64, the bytes of their sheet
 
-fn shape() -> Shape {
-    Shape {
-        width: WIDTH,
-        height: HEIGHT,
-        planes: PLANES,
-    }
-}
-
 fn size() -> Size {
     Size {
         width: WIDTH,
@@ -45,62 +36,18 @@ fn size() -> Size {
     }
 }
 
-fn settings() -> Settings {
-    Settings {
-        contrast: 0.04,
-        edge: 10.0,
-        sigma: 1.6,
-        layers: LAYERS,
-    }
-}
-
-// ---- reading
-
-fn read_differences(fd: i32, counts: &mut [u64; 9]) -> [f32; 12320] {
-    let mut planes = [0.0f32; 12320];
-    for i in 0..12320 {
-        planes[i] = run_replay::next_float(fd, counts);
-    }
-    planes
-}
-
-fn read_pictures(fd: i32, counts: &mut [u64; 9]) -> [f32; 7392] {
-    let mut pictures = [0.0f32; 7392];
-    for i in 0..7392 {
-        pictures[i] = run_replay::next_float(fd, counts);
-    }
-    pictures
-}
-
-// ---- printing
-
-fn print(text: &[u8]) {
-    io::write_all(STDOUT_FILENO, text);
-}
-
-fn plain(n: u32) {
-    io::print_decimal(STDOUT_FILENO, n as u64);
-}
-
-fn number(n: u32) {
-    plain(n);
-    print(b"\t");
-}
-
 // The count of an answer; a refusal is told, and counts as nothing.
 fn told(stage: &[u8], a: Answer) -> usize {
     match a {
         Answer::Done(n) => n,
         Answer::Short(_) => {
-            print(stage);
-            print(b" has too little room\n");
+            run_io::print(stage);
+            run_io::print(b" has too little room\n");
             0
         }
         Answer::Refused(k) => {
-            print(stage);
-            print(b" refuses with number ");
-            plain(k);
-            print(b"\n");
+            run_io::print(stage);
+            run_io::report(b" refuses with number #\n", &[k as u64]);
             0
         }
     }
@@ -118,16 +65,9 @@ fn whole(x: f32) -> u32 {
     from_nought(ieee_whole::round_to_i32(x))
 }
 
-// A float of at least 0 in hundredths.
-fn hundredths(bits: u32) {
-    let n = whole(ieee::of_bits(bits) * 100.0);
-    plain(n / 100);
-    print(b".");
-    let rest = n % 100;
-    if rest < 10 {
-        print(b"0");
-    }
-    number(rest);
+// A float of at least 0, by its bits, as so many parts of 1.
+fn parts(bits: u32, of_one: f32) -> u64 {
+    whole(ieee::of_bits(bits) * of_one) as u64
 }
 
 // ---- detection
@@ -136,30 +76,23 @@ fn hundredths(bits: u32) {
 fn find(dog: &[f32], layer: usize, found: &mut [u32; 320]) -> usize
     ensures { λ r. ⌜ r ≤ 32 ⌝ }
 {
-    let a = detect::find_extrema(dog, shape(), layer, 0, settings(), found);
+    let shape = Shape {
+        width: WIDTH,
+        height: HEIGHT,
+        planes: PLANES,
+    };
+    let settings = Settings {
+        contrast: 0.04,
+        edge: 10.0,
+        sigma: 1.6,
+        layers: LAYERS,
+    };
+    let a = detect::find_extrema(dog, shape, layer, 0, settings, found);
     let n = told(b"detection", a);
     if n > 32 {
         return 0;
     }
     n
-}
-
-fn keypoint_at(found: &[u32; 320], i: usize) -> RawKeypoint
-    requires { ⌜ i < 32 ⌝ }
-{
-    let at = 10 * i;
-    RawKeypoint {
-        x: ieee::of_bits(found[at]),
-        y: ieee::of_bits(found[at + 1]),
-        size: ieee::of_bits(found[at + 2]),
-        response: ieee::of_bits(found[at + 3]),
-        octave: found[at + 4],
-        layer: found[at + 5],
-        xi: ieee::of_bits(found[at + 6]),
-        cc: found[at + 7],
-        rr: found[at + 8],
-        moves: found[at + 9],
-    }
 }
 
 // ---- records
@@ -234,20 +167,6 @@ fn describe(picture: &[f32], o: OrientedKeypoint) -> [u32; 128] {
     }
 }
 
-fn oriented_at(out: &[u32; 108], j: usize) -> OrientedKeypoint
-    requires { ⌜ j < 18 ⌝ }
-{
-    let at = 6 * j;
-    OrientedKeypoint {
-        x: ieee::of_bits(out[at]),
-        y: ieee::of_bits(out[at + 1]),
-        size: ieee::of_bits(out[at + 2]),
-        response: ieee::of_bits(out[at + 3]),
-        octave: out[at + 4],
-        angle: ieee::of_bits(out[at + 5]),
-    }
-}
-
 // Adds the record of a keypoint's direction, if there is one, and answers how many records there are now.
 fn add_record(
     picture: &[f32],
@@ -264,7 +183,7 @@ fn add_record(
         return written;
     }
     if written >= MOST {
-        print(b"more records than there is room for\n");
+        run_io::print(b"more records than there is room for\n");
         return MOST;
     }
     let values = describe(picture, o);
@@ -283,9 +202,13 @@ fn add_peaks(
     requires { ⌜ written ≤ 64 ⌝ }
     ensures { λ r. ⌜ r ≤ 64 ⌝ }
 {
+    let all = &out[..];
     let mut n = written;
     for j in 0..18 {
-        n = add_record(picture, k, oriented_at(out, j), j < peaks, records, n);
+        let from = 6 * j;
+        let to = from + 6;
+        let o = words::oriented_in(&all[from..to]);
+        n = add_record(picture, k, o, j < peaks, records, n);
     }
     n
 }
@@ -306,13 +229,11 @@ fn add_on(picture: &[f32], k: RawKeypoint, records: &mut [u32; 8832], written: u
 fn picture_of(layer: u32) -> usize
     ensures { λ r. ⌜ r ≤ 2 ⌝ }
 {
-    if layer == 1 {
-        return 0;
+    match layer {
+        1 => 0,
+        2 => 1,
+        _ => 2,
     }
-    if layer == 2 {
-        return 1;
-    }
-    2
 }
 
 // A keypoint's picture is the plane of the layer where it settled, which may be another than the one searched.
@@ -340,9 +261,12 @@ fn add_found(
     requires { ⌜ (length (now pictures) ≡ 7392) × (count ≤ 32) × (written ≤ 64) ⌝ }
     ensures { λ r. ⌜ r ≤ 64 ⌝ }
 {
+    let all = &found[..];
     let mut n = written;
     for i in 0..count {
-        n = add_keypoint(pictures, keypoint_at(found, i), records, n);
+        let from = 10 * i;
+        let to = from + 10;
+        n = add_keypoint(pictures, words::keypoint_in(&all[from..to]), records, n);
     }
     n
 }
@@ -366,56 +290,62 @@ fn add_layer(
 // ---- the sheet
 
 // The largest of a record's 128 values.
-fn largest(words: &[u32; 8896], at: usize) -> u32
-    requires { ⌜ at + 139 ≤ 8896 ⌝ }
+fn largest(row: &[u32]) -> u32
+    requires { ⌜ length (now row) ≡ 139 ⌝ }
 {
     let mut most: u32 = 0;
     for i in 0..128 {
-        if words[at + 10 + i] > most {
-            most = words[at + 10 + i];
+        if row[10 + i] > most {
+            most = row[10 + i];
         }
     }
     most
 }
 
-fn print_head(words: &[u32; 8896], at: usize)
-    requires { ⌜ at + 139 ≤ 8896 ⌝ }
-{
-    number(words[at]);
-    number(words[at + 1]);
-    number(words[at + 2]);
-    number(words[at + 3]);
-    number(words[at + 4]);
+fn wide(x: u32) -> u64 {
+    x as u64
 }
 
-fn print_record(words: &[u32; 8896], at: usize)
-    requires { ⌜ at + 139 ≤ 8896 ⌝ }
+// What stands in a column of the table: the whole numbers, the floats, the largest of the values, and the blank word.
+fn shown(row: &[u32], column: usize) -> u64
+    requires { ⌜ (length (now row) ≡ 139) × (column < 12) ⌝ }
 {
-    print_head(words, at);
-    hundredths(words[at + 5]);
-    hundredths(words[at + 6]);
-    hundredths(words[at + 7]);
-    number(whole(ieee::of_bits(words[at + 8]) * 100000.0));
-    hundredths(words[at + 9]);
-    number(largest(words, at));
-    plain(words[at + 138]);
-    print(b"\n");
+    match column {
+        8 => parts(row[8], 100000.0),
+        5..=9 => parts(row[column], 100.0),
+        10 => wide(largest(row)),
+        11 => wide(row[138]),
+        _ => wide(row[column]),
+    }
+}
+
+fn print_record(row: &[u32])
+    requires { ⌜ length (now row) ≡ 139 ⌝ }
+{
+    let mut numbers = [0u64; 32];
+    for i in 0..12 {
+        numbers[i] = shown(row, i);
+    }
+    run_io::report_counts(b"#\t#\t#\t#\t#\t%\t%\t%\t#\t%\t#\t#\n", &numbers);
 }
 
 fn print_table(words: &[u32; 8896], count: usize)
     requires { ⌜ count ≤ 64 ⌝ }
 {
-    print(
+    run_io::print(
         b"row\tcolumn\toctave\tlayer\tcode\tx\ty\tsize\tresponse x 100000\tangle\tlargest value\tall zero\n",
     );
+    let all = &words[..];
     for i in 0..count {
-        print_record(words, 139 * i);
+        let from = 139 * i;
+        let to = from + 139;
+        print_record(&all[from..to]);
     }
 }
 
 // A byte as its two hexadecimal digits.
 fn print_byte(b: u8) {
-    io::print_hex(STDOUT_FILENO, b as u64, 2);
+    run_io::hex(b as u64, 2);
 }
 
 // The bytes from a place on, in one line.
@@ -425,7 +355,7 @@ fn print_bytes(bytes: &[u8; 9864], at: usize, n: usize)
     for i in 0..n {
         print_byte(bytes[at + i]);
     }
-    print(b"\n");
+    run_io::print(b"\n");
 }
 
 fn print_sheet(bytes: &[u8; 9864], count: usize)
@@ -489,19 +419,17 @@ fn extract(dog: &[f32], pictures: &[f32])
 }
 
 fn main() {
-    let path = b"planes.bin";
-    let fd = os::open_read(path);
+    let fd = run_io::open(b"planes.bin");
     if fd < 0 {
-        os::fail(path);
         return;
     }
-    let mut counts = [0u64; 9];
-    let dog = read_differences(fd, &mut counts);
-    let pictures = read_pictures(fd, &mut counts);
+    let mut counts = [0u64; 32];
+    let dog = run_replay::read_samples(fd, &mut counts, 12320);
+    let pictures = run_replay::read_samples(fd, &mut counts, 7392);
     libc::close(fd);
     if !run_replay::readable(&counts) {
-        print(b"the file is too short\n");
+        run_io::print(b"the file is too short\n");
         return;
     }
-    extract(&dog, &pictures);
+    extract(&dog[..12320], &pictures[..7392]);
 }

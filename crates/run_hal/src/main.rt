@@ -1,27 +1,10 @@
 // Holds the routines to the true values that an independent program worked out (host/vectors/hal.py): the angle within 0.01 degree, the others within 2^-16 of the value,
 // sine and cosine of 1. Says of each routine how many points were tried and how many lie outside the bound. A record is five words of 32 bits, most significant byte first:
 // what is asked, x and y by their f32 bits, and the value as an f64's bits.
-ghost use Prim.Native.Nat.{_+_, _<_, _≤_};
-use libc::STDOUT_FILENO;
+ghost use Prim.Native.Nat.{_<_};
 
-// The word that starts at byte `at` of a record.
-fn word(r: &[u8; 20], at: usize) -> u32
-    requires { ⌜ at + 4 ≤ 20 ⌝ }
-{
-    let high = wide(r[at]) * 256 + wide(r[at + 1]);
-    let low = wide(r[at + 2]) * 256 + wide(r[at + 3]);
-    high * 65536 + low
-}
-
-fn wide(b: u8) -> u32
-    ensures { λ r. ⌜ r ≤ 255 ⌝ }
-{
-    b as u32
-}
-
-fn join(high: u32, low: u32) -> u64 {
-    high as u64 * 4294967296 + low as u64
-}
+// The row of what is not asked.
+const NONE: usize = 13;
 
 // The size of a - b: a not-a-number where either is one, which no bound holds.
 fn apart(a: f64, b: f64) -> f64 {
@@ -76,95 +59,59 @@ fn good(op: u32, x: f32, y: f32, v: f64) -> bool {
     }
 }
 
-// Its place in the tables: 0 for what is not asked.
+// Its row among the counts: 8 is nothing that is asked.
 fn row(op: u32) -> usize
-    ensures { λ r. ⌜ r < 15 ⌝ }
+    ensures { λ r. ⌜ r < 14 ⌝ }
 {
-    if op < 15 { op as usize } else { 0 }
-}
-
-// Reads a record and tries it. Answers how many bytes it read: 20 if there was a whole record.
-fn step(fd: i32, tried: &mut [u64; 15], bad: &mut [u64; 15]) -> usize {
-    let mut r = [0u8; 20];
-    let got = io::read_full(fd, &mut r);
-    if got < 20 {
-        return got;
+    match op {
+        1..=7 => op as usize - 1,
+        9..=14 => op as usize - 2,
+        _ => NONE,
     }
-    let op = word(&r, 0);
-    let x = ieee::of_bits(word(&r, 4));
-    let y = ieee::of_bits(word(&r, 8));
-    let v = ieee::of_bits64(join(word(&r, 12), word(&r, 16)));
-    let i = row(op);
-    tried[i] = std::num::wrapping_add_u64(tried[i], 1);
-    if !good(op, x, y, v) {
-        bad[i] = std::num::wrapping_add_u64(bad[i], 1);
-    }
-    got
 }
 
 // Tries records until the file ends, and answers how many bytes were left over. The count of turns is more than any file here has.
-fn replay(fd: i32, tried: &mut [u64; 15], bad: &mut [u64; 15]) -> usize {
+fn replay(fd: i32, counts: &mut [u64; 32]) -> usize {
     let mut turns: u32 = 10_000_000;
-    let mut got: usize = 20;
-    while turns > 0 && got == 20 {
-        got = step(fd, tried, bad);
+    while turns > 0 {
+        let r = run_vectors::next(fd);
+        if r.got < 20 {
+            return r.got;
+        }
+        let v = ieee::of_bits64(run_vectors::join(r.c, r.d));
+        let fine = good(r.op, ieee::of_bits(r.a), ieee::of_bits(r.b), v);
+        run_vectors::count(counts, row(r.op), fine);
         turns -= 1;
     }
-    got
-}
-
-fn print(text: &[u8]) {
-    io::write_all(STDOUT_FILENO, text);
-}
-
-fn line(name: &[u8], tried: u64, bad: u64, what: &[u8]) {
-    print(name);
-    print(b": ");
-    io::print_decimal(STDOUT_FILENO, tried);
-    print(b" tried, ");
-    io::print_decimal(STDOUT_FILENO, bad);
-    print(what);
-}
-
-fn inside(name: &[u8], tried: u64, bad: u64) {
-    line(name, tried, bad, b" outside the bound\n");
-}
-
-fn refused(name: &[u8], tried: u64, bad: u64) {
-    line(name, tried, bad, b" answered with a number\n");
+    20
 }
 
 fn main() {
-    let path = b"points.bin";
-    let fd = os::open_read(path);
+    let fd = run_io::open(b"points.bin");
     if fd < 0 {
-        os::fail(path);
         return;
     }
-    let mut tried = [0u64; 15];
-    let mut bad = [0u64; 15];
-    let rest = replay(fd, &mut tried, &mut bad);
+    let mut counts = [0u64; 32];
+    let rest = replay(fd, &mut counts);
     libc::close(fd);
-    inside(b"exp2", tried[1], bad[1]);
-    inside(b"exp", tried[2], bad[2]);
-    inside(b"sine", tried[3], bad[3]);
-    inside(b"cosine", tried[4], bad[4]);
-    inside(b"angle", tried[5], bad[5]);
-    inside(b"magnitude", tried[6], bad[6]);
-    line(
-        b"tiny magnitude",
-        tried[7],
-        bad[7],
-        b" not the root of the fused sum\n",
+    counts[28] = rest as u64;
+    run_io::report_counts(
+        b"exp2: # tried, # outside the bound
+exp: # tried, # outside the bound
+sine: # tried, # outside the bound
+cosine: # tried, # outside the bound
+angle: # tried, # outside the bound
+magnitude: # tried, # outside the bound
+tiny magnitude: # tried, # not the root of the fused sum
+outside exp2's range: # tried, # answered with a number
+outside exp's range: # tried, # answered with a number
+outside the sine's range: # tried, # answered with a number
+outside the cosine's range: # tried, # answered with a number
+outside the angle's range: # tried, # answered with a number
+outside the magnitude's range: # tried, # answered with a number
+of no routine: # tried, # of them
+bytes left over: #
+",
+        &counts,
     );
-    refused(b"outside exp2's range", tried[9], bad[9]);
-    refused(b"outside exp's range", tried[10], bad[10]);
-    refused(b"outside the sine's range", tried[11], bad[11]);
-    refused(b"outside the cosine's range", tried[12], bad[12]);
-    refused(b"outside the angle's range", tried[13], bad[13]);
-    refused(b"outside the magnitude's range", tried[14], bad[14]);
-    line(b"of no routine", tried[0], bad[0], b" of them\n");
-    print(b"bytes left over: ");
-    io::print_decimal(STDOUT_FILENO, rest as u64);
-    print(b"\n");
 }

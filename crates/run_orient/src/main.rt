@@ -18,7 +18,7 @@ struct Case {
     samples: usize,
 }
 
-fn next_keypoint(fd: i32, counts: &mut [u64; 9]) -> RawKeypoint {
+fn next_keypoint(fd: i32, counts: &mut [u64; 32]) -> RawKeypoint {
     let x = run_replay::next_float(fd, counts);
     let y = run_replay::next_float(fd, counts);
     let size = run_replay::next_float(fd, counts);
@@ -43,7 +43,7 @@ fn next_keypoint(fd: i32, counts: &mut [u64; 9]) -> RawKeypoint {
     }
 }
 
-fn next_case(fd: i32, counts: &mut [u64; 9]) -> Case {
+fn next_case(fd: i32, counts: &mut [u64; 32]) -> Case {
     let width = run_replay::next_size(fd, counts);
     let height = run_replay::next_size(fd, counts);
     let keypoint = next_keypoint(fd, counts);
@@ -65,14 +65,14 @@ fn next_case(fd: i32, counts: &mut [u64; 9]) -> Case {
     }
 }
 
-fn compare_cells(counts: &mut [u64; 9], read: usize, want: usize) {
+fn compare_cells(counts: &mut [u64; 32], read: usize, want: usize) {
     if read != want {
         run_replay::add(counts, run_replay::CELLS_DIFFER, 1);
     }
 }
 
 // Replays a case of n samples, whose head is read.
-fn replay_case(fd: i32, counts: &mut [u64; 9], c: Case, n: usize, room: usize)
+fn replay_case(fd: i32, counts: &mut [u64; 32], c: Case, n: usize, room: usize)
     requires { ⌜ (n ≤ 65536) × (room ≤ 4096) ⌝ }
 {
     let samples = run_replay::read_samples(fd, counts, n);
@@ -87,7 +87,7 @@ fn replay_case(fd: i32, counts: &mut [u64; 9], c: Case, n: usize, room: usize)
 }
 
 // Reads a case and replays it, if it fits the buffers.
-fn step(fd: i32, counts: &mut [u64; 9]) {
+fn step(fd: i32, counts: &mut [u64; 32]) {
     let c = next_case(fd, counts);
     let s = c.size;
     let n = run_replay::product(s.width, s.height);
@@ -104,7 +104,7 @@ fn step(fd: i32, counts: &mut [u64; 9]) {
 }
 
 // Replays so many cases, or fewer if the file can't be read on.
-fn replay_all(fd: i32, counts: &mut [u64; 9], cases: u32) {
+fn replay_all(fd: i32, counts: &mut [u64; 32], cases: u32) {
     let mut left = cases;
     while left > 0 && run_replay::readable(counts) {
         step(fd, counts);
@@ -113,15 +113,16 @@ fn replay_all(fd: i32, counts: &mut [u64; 9], cases: u32) {
 }
 
 fn main() {
-    let path = b"cases.bin";
-    let fd = os::open_read(path);
+    let fd = run_io::open(b"cases.bin");
     if fd < 0 {
-        os::fail(path);
         return;
     }
-    let mut counts = [0u64; 9];
+    let mut counts = [0u64; 32];
     let cases = run_replay::begin(fd, &mut counts, MARK);
     replay_all(fd, &mut counts, cases);
-    run_replay::end(fd, cases, &counts);
-    run_replay::line(b"numbers of cells read that differ", counts[8]);
+    run_replay::end(fd, cases, &mut counts);
+    run_io::line(
+        b"numbers of cells read that differ",
+        counts[run_replay::CELLS_DIFFER],
+    );
 }

@@ -1,34 +1,37 @@
 // What the programs share that replay a list of the published Rust's answers: its words, least significant byte first, read one after the other, the samples and the
 // lent words of a case, what is counted, and the report. A file that is too short, too long, or has what does not fit the buffers is told as such.
 ghost use Prim.Native.Nat.{_<_, _≤_};
-use libc::STDOUT_FILENO;
 use params::Answer;
 
 pub const MOST_SAMPLES: usize = 65536;
 
 pub const MOST_ROOM: usize = 4096;
 
-// What is counted, by its place in the counts.
-pub const CASES: usize = 0;
+// What is counted, by its place in the counts, which is that in the report.
+const IN_THE_FILE: usize = 0;
 
-pub const KEYPOINTS: usize = 1;
+pub const CASES: usize = 1;
 
-pub const WORDS: usize = 2;
+pub const KEYPOINTS: usize = 2;
 
-pub const NUMBERS_DIFFER: usize = 3;
+pub const WORDS: usize = 3;
 
-pub const COUNTS_DIFFER: usize = 4;
+pub const NUMBERS_DIFFER: usize = 4;
 
-pub const WORDS_DIFFER: usize = 5;
+pub const COUNTS_DIFFER: usize = 5;
 
-pub const MISSING: usize = 6;
+pub const WORDS_DIFFER: usize = 6;
 
-pub const UNREADABLE: usize = 7;
+const MISSING: usize = 7;
 
-pub const CELLS_DIFFER: usize = 8;
+pub const UNREADABLE: usize = 8;
 
-pub fn add(counts: &mut [u64; 9], at: usize, n: u64)
-    requires { ⌜ at < 9 ⌝ }
+const LEFT_OVER: usize = 9;
+
+pub const CELLS_DIFFER: usize = 10;
+
+pub fn add(counts: &mut [u64; 32], at: usize, n: u64)
+    requires { ⌜ at < 32 ⌝ }
 {
     counts[at] = std::num::wrapping_add_u64(counts[at], n);
 }
@@ -47,7 +50,7 @@ fn joined(b: &[u8; 4]) -> u32 {
 }
 
 // The file's next word. One that is not there is counted, and is 0.
-pub fn next(fd: i32, counts: &mut [u64; 9]) -> u32 {
+pub fn next(fd: i32, counts: &mut [u64; 32]) -> u32 {
     let mut b = [0u8; 4];
     let got = io::read_full(fd, &mut b);
     if got < 4 {
@@ -57,16 +60,16 @@ pub fn next(fd: i32, counts: &mut [u64; 9]) -> u32 {
     joined(&b)
 }
 
-pub fn next_size(fd: i32, counts: &mut [u64; 9]) -> usize {
+pub fn next_size(fd: i32, counts: &mut [u64; 32]) -> usize {
     next(fd, counts) as usize
 }
 
-pub fn next_float(fd: i32, counts: &mut [u64; 9]) -> f32 {
+pub fn next_float(fd: i32, counts: &mut [u64; 32]) -> f32 {
     ieee::of_bits(next(fd, counts))
 }
 
 // The file's next n samples.
-pub fn read_samples(fd: i32, counts: &mut [u64; 9], n: usize) -> [f32; 65536]
+pub fn read_samples(fd: i32, counts: &mut [u64; 32], n: usize) -> [f32; 65536]
     requires { ⌜ n ≤ 65536 ⌝ }
 {
     let mut to = [0.0f32; 65536];
@@ -77,7 +80,7 @@ pub fn read_samples(fd: i32, counts: &mut [u64; 9], n: usize) -> [f32; 65536]
 }
 
 // Compares the n lent words, as they stand after the call, with the file's.
-pub fn compare_words(fd: i32, counts: &mut [u64; 9], out: &[u32; 4096], n: usize)
+pub fn compare_words(fd: i32, counts: &mut [u64; 32], out: &[u32; 4096], n: usize)
     requires { ⌜ n ≤ 4096 ⌝ }
 {
     for i in 0..n {
@@ -89,27 +92,11 @@ pub fn compare_words(fd: i32, counts: &mut [u64; 9], out: &[u32; 4096], n: usize
     add(counts, WORDS, n as u64);
 }
 
-fn number_of(a: Answer) -> u32 {
-    match a {
-        Answer::Done(_) => 0,
-        Answer::Short(_) => 7,
-        Answer::Refused(k) => k,
-    }
-}
-
-fn count_of(a: Answer) -> usize {
-    match a {
-        Answer::Done(n) => n,
-        Answer::Short(n) => n,
-        Answer::Refused(_) => 0,
-    }
-}
-
-pub fn compare_answer(counts: &mut [u64; 9], a: Answer, number: u32, count: usize) {
-    if number_of(a) != number {
+pub fn compare_answer(counts: &mut [u64; 32], a: Answer, number: u32, count: usize) {
+    if params::number_of(a) != number {
         add(counts, NUMBERS_DIFFER, 1);
     }
-    if count_of(a) != count {
+    if params::count_of(a) != count {
         add(counts, COUNTS_DIFFER, 1);
     }
     add(counts, KEYPOINTS, count as u64);
@@ -137,42 +124,37 @@ pub fn product(a: usize, b: usize) -> usize {
 }
 
 // Whether the file can be read on.
-pub fn readable(counts: &[u64; 9]) -> bool {
-    (counts[6] == 0) & (counts[7] == 0)
+pub fn readable(counts: &[u64; 32]) -> bool {
+    (counts[MISSING] == 0) & (counts[UNREADABLE] == 0)
 }
 
 // The number of cases, behind the mark that the list begins with.
-pub fn begin(fd: i32, counts: &mut [u64; 9], mark: u32) -> u32 {
+pub fn begin(fd: i32, counts: &mut [u64; 32], mark: u32) -> u32 {
     if next(fd, counts) != mark {
         add(counts, UNREADABLE, 1);
     }
     next(fd, counts)
 }
 
-fn print(text: &[u8]) {
-    io::write_all(STDOUT_FILENO, text);
-}
-
-pub fn line(name: &[u8], n: u64) {
-    print(name);
-    print(b": ");
-    io::print_decimal(STDOUT_FILENO, n);
-    print(b"\n");
-}
-
 // Closes the list and says what was counted. Nothing may stand behind the last case: four bytes are tried for, and 4 left over may be more.
-pub fn end(fd: i32, cases: u32, counts: &[u64; 9]) {
+pub fn end(fd: i32, cases: u32, counts: &mut [u64; 32]) {
     let mut after = [0u8; 4];
     let rest = io::read_full(fd, &mut after);
     libc::close(fd);
-    line(b"cases in the file", cases as u64);
-    line(b"cases compared", counts[0]);
-    line(b"keypoints compared", counts[1]);
-    line(b"words compared", counts[2]);
-    line(b"numbers that differ", counts[3]);
-    line(b"counts that differ", counts[4]);
-    line(b"words that differ", counts[5]);
-    line(b"words missing from the file", counts[6]);
-    line(b"marks, cases and rooms that can't be read", counts[7]);
-    line(b"bytes left over", rest as u64);
+    add(counts, IN_THE_FILE, cases as u64);
+    add(counts, LEFT_OVER, rest as u64);
+    run_io::report_counts(
+        b"cases in the file: #
+cases compared: #
+keypoints compared: #
+words compared: #
+numbers that differ: #
+counts that differ: #
+words that differ: #
+words missing from the file: #
+marks, cases and rooms that can't be read: #
+bytes left over: #
+",
+        counts,
+    );
 }

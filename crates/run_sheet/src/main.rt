@@ -1,8 +1,10 @@
 // Replays cases that an independent program made (host/vectors/sheet.py says how they are laid out) through `write_sheet` and `read_sheet`, and says how many were
 // tried and how many differ. What is lent is longer than the room and filled with a pattern, which has to stand behind the expected output.
 ghost use Prim.Native.Nat.{_<_, _≤_};
-use libc::STDOUT_FILENO;
-use params::Answer;
+use run_vectors::byte_at;
+use run_vectors::half_at;
+use run_vectors::long_at;
+use run_vectors::word_at;
 
 // What is lent, in bytes or words: more than the three records of the largest case take, 8 + 3 × 154 bytes or 3 × 139 words.
 const ROOM: usize = 512;
@@ -24,39 +26,6 @@ struct Case {
     layers: usize,
 }
 
-fn wide(b: u8) -> u64
-    ensures { λ r. ⌜ r ≤ 255 ⌝ }
-{
-    b as u64
-}
-
-// The byte at a place, 0 past the end.
-fn byte_at(s: &[u8], at: usize) -> u64
-    ensures { λ r. ⌜ r ≤ 255 ⌝ }
-{
-    if at < s.len() { wide(s[at]) } else { 0 }
-}
-
-// The 16, 32 or 64 bits from a place on, most significant byte first. The bounds on places are only there so that no sum wraps; a case ends before 4,096.
-fn half_at(s: &[u8], at: usize) -> u64
-    requires { ⌜ at ≤ 100000 ⌝ }
-    ensures { λ r. ⌜ r ≤ 65535 ⌝ }
-{
-    byte_at(s, at) * 256 + byte_at(s, at + 1)
-}
-
-fn word_at(s: &[u8], at: usize) -> u32
-    requires { ⌜ at ≤ 90000 ⌝ }
-{
-    (half_at(s, at) * 65536 + half_at(s, at + 2)) as u32
-}
-
-fn long_at(s: &[u8], at: usize) -> usize
-    requires { ⌜ at ≤ 80000 ⌝ }
-{
-    (word_at(s, at) as u64 * 4294967296 + word_at(s, at + 4) as u64) as usize
-}
-
 fn case_of(h: &[u8]) -> Case {
     Case {
         kind: byte_at(h, 0) as u8,
@@ -65,25 +34,9 @@ fn case_of(h: &[u8]) -> Case {
         given: half_at(h, 4) as usize,
         expected: half_at(h, 6) as usize,
         count: word_at(h, 8) as usize,
-        width: long_at(h, 12),
-        height: long_at(h, 20),
-        layers: long_at(h, 28),
-    }
-}
-
-fn number_of(a: Answer) -> u32 {
-    match a {
-        Answer::Done(_) => 0,
-        Answer::Short(_) => 7,
-        Answer::Refused(k) => k,
-    }
-}
-
-fn count_of(a: Answer) -> usize {
-    match a {
-        Answer::Done(n) => n,
-        Answer::Short(n) => n,
-        Answer::Refused(_) => 0,
+        width: long_at(h, 12) as usize,
+        height: long_at(h, 20) as usize,
+        layers: long_at(h, 28) as usize,
     }
 }
 
@@ -101,7 +54,7 @@ fn bytes_agree(out: &[u8; 512], want: &[u8], n: usize) -> bool {
     let mut same = true;
     for i in 0..512 {
         if i < n {
-            same = same & (wide(out[i]) == byte_at(want, i));
+            same = same & (run_vectors::wide(out[i]) == byte_at(want, i));
         } else {
             same = same & (out[i] == PATTERN_BYTE);
         }
@@ -134,8 +87,8 @@ fn writer_agrees(c: Case, given: &[u8], want: &[u8]) -> bool {
     let words = words_in(given);
     let mut out = [PATTERN_BYTE; 512];
     let a = sheet_write::write_sheet(c.width, c.height, c.layers, &words[..n], &mut out[..room]);
-    (number_of(a) == c.number)
-        & (count_of(a) == c.count)
+    (params::number_of(a) == c.number)
+        & (params::count_of(a) == c.count)
         & (want.len() == c.expected)
         & bytes_agree(&out, want, c.expected)
 }
@@ -148,8 +101,8 @@ fn reader_agrees(c: Case, given: &[u8], want: &[u8]) -> bool {
     let mut out = [PATTERN_WORD; 512];
     let r = sheet_read::read_sheet(given, &mut out[..room]);
     let a = r.answer;
-    (number_of(a) == c.number)
-        & (count_of(a) == c.count)
+    (params::number_of(a) == c.number)
+        & (params::count_of(a) == c.count)
         & ((r.width == c.width) & (r.height == c.height) & (r.layers == c.layers))
         & words_agree(&out, want, c.expected)
 }
@@ -198,68 +151,48 @@ fn agrees(fd: i32, c: Case) -> bool {
     false
 }
 
-// The entry's place in the tables: 0 for a kind of which there is none.
+// The entry's row among the counts, the last for a kind of which there is none.
 fn row(kind: u8) -> usize
     ensures { λ r. ⌜ r < 3 ⌝ }
 {
-    if kind < 3 { kind as usize } else { 0 }
-}
-
-// Reads a case and replays it. Answers how many bytes of its head there were: 36 if it was one.
-fn step(fd: i32, tried: &mut [u64; 3], differ: &mut [u64; 3]) -> usize {
-    let mut h = [0u8; 36];
-    let got = io::read_full(fd, &mut h);
-    if got < 36 {
-        return got;
+    match kind {
+        1 => 0,
+        2 => 1,
+        _ => 2,
     }
-    let c = case_of(&h);
-    let k = row(c.kind);
-    tried[k] = std::num::wrapping_add_u64(tried[k], 1);
-    if !agrees(fd, c) {
-        differ[k] = std::num::wrapping_add_u64(differ[k], 1);
-    }
-    got
 }
 
 // Replays cases until the file ends, and answers how many bytes were left over. The count of turns is more than any file here has.
-fn replay(fd: i32, tried: &mut [u64; 3], differ: &mut [u64; 3]) -> usize {
+fn replay(fd: i32, counts: &mut [u64; 32]) -> usize {
     let mut turns: u32 = 1_000_000;
-    let mut got: usize = 36;
-    while turns > 0 && got == 36 {
-        got = step(fd, tried, differ);
+    while turns > 0 {
+        let mut h = [0u8; 36];
+        let got = io::read_full(fd, &mut h);
+        if got < 36 {
+            return got;
+        }
+        let c = case_of(&h);
+        run_vectors::count(counts, row(c.kind), agrees(fd, c));
         turns -= 1;
     }
-    got
-}
-
-fn print(text: &[u8]) {
-    io::write_all(STDOUT_FILENO, text);
-}
-
-fn line(name: &[u8], tried: u64, differ: u64) {
-    print(name);
-    print(b": ");
-    io::print_decimal(STDOUT_FILENO, tried);
-    print(b" tried, ");
-    io::print_decimal(STDOUT_FILENO, differ);
-    print(b" differ\n");
+    36
 }
 
 fn main() {
-    let path = b"cases.bin";
-    let fd = os::open_read(path);
+    let fd = run_io::open(b"cases.bin");
     if fd < 0 {
-        os::fail(path);
         return;
     }
-    let mut tried = [0u64; 3];
-    let mut differ = [0u64; 3];
-    let rest = replay(fd, &mut tried, &mut differ);
+    let mut counts = [0u64; 32];
+    let rest = replay(fd, &mut counts);
     libc::close(fd);
-    line(b"write_sheet", tried[1], differ[1]);
-    line(b"read_sheet", tried[2], differ[2]);
-    line(b"of no entry", tried[0], differ[0]);
-    print(b"bytes left over: ");
-    io::print_decimal(STDOUT_FILENO, rest as u64);
-    print(b"\n");
+    counts[6] = rest as u64;
+    run_io::report_counts(
+        b"write_sheet: # tried, # differ
+read_sheet: # tried, # differ
+of no entry: # tried, # differ
+bytes left over: #
+",
+        &counts,
+    );
 }

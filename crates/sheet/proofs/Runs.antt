@@ -14,12 +14,10 @@ use Rattle.lists.proofs.Pasted.{length-pasted, pasted-append}
 use Rattle.params.specs.Limits.{valueCount}
 use Rattle.sheet.specs.Pack.{Slot, slot, bits, number, bytes, pack, value, fields, unpack, sound, Held, Bytes}
 use Rattle.sheet.specs.Pack.Held.{none, one}
-use Rattle.sheet.specs.Layout.{Layout, Frame, edition1, headSize, frontSize, largestFinite, leastPositive, largestAngle, headSlots, floatSlots, valueSlots, recordSlots}
+use Rattle.sheet.specs.Layout.{Layout, Frame, headSize, frontSize, largestFinite, leastPositive, largestAngle, headSlots, floatSlots, valueSlots, recordSlots}
 use Rattle.sheet.specs.Sheet.{recordRight}
-use Rattle.sheet.specs.Fields.{headValues, HeadFits}
-use Rattle.sheet.specs.declared.Head.{Head}
 use Rattle.sheet.specs.Words.{plainWords, headWords, floatWords, frontWords, headFields, frontFields, filled, blankOf, worded}
-use Rattle.sheet.proofs.Packed.{held-head, held-tail, bits-append, Each, each-bits, pack-append, pack-each, pack-bytes}
+use Rattle.sheet.proofs.Packed.{bits-append, Each, each-bits, pack-append, pack-each, pack-bytes}
 use Rattle.sheet.proofs.Cut.{bytes-take, bytes-drop, both-bytes, one-value, unpack-append, unpack-step}
 use Rattle.sheet.specs.Trip.{Lawful}
 use Rattle.sheet.proofs.Words.{drop-take, past}
@@ -267,13 +265,3 @@ module _ (l : Layout) (k : Lawful l) (a : l .angled ≡ true) (f : Frame) where
       ∙ ap (λ (t : List ℕ). value (take 4 (drop (at + 8) bs)) ∷ t) (four-bytes _ _ 4 (at + 12) (at + 16) bs refl rest-bits (omega arith) g (omega arith)
       ∙ ap (λ (t : List ℕ). value (take 4 (drop (at + 12) bs)) ∷ t) (four-bytes _ [] 0 (at + 16) (at + 20) bs (float-bits (l .angled) a) refl (omega arith) g (omega arith)
       ∙ ap (λ (t : List ℕ). value (take 4 (drop (at + 16) bs)) ∷ t) (unpack-none (take 0 (drop (at + 20) bs)))))))
-
--- edition 1's whole numbers have room in their slots says that each has in its bits
-pub head-fits : (h : Head) (f : Frame) → Held (headSlots edition1 f) (headValues h) → HeadFits h
-head-fits h f k =
-    let k2 = held-tail k in
-    let k3 = held-tail k2 in
-    let k4 = held-tail k3 in
-    let k5 = held-tail k4 in
-    let k7 = held-tail (held-tail k5) in
-    record { row = held-head k; column = held-head k2; octave = held-head k3; layer = held-head k4; code = held-head k5; zero = held-head k7 }

@@ -5,4 +5,3 @@ pub mod Words
 pub mod Writes
 pub mod Reads
 pub mod Trip
-pub mod Fields

@@ -1,81 +1,31 @@
--- What the reader's code finds and gives is what the definitions say. Assumes nothing.
+-- What the walk over a sheet's bytes finds and gives is what the definitions say. Assumes nothing.
 use mathlib.Core.Path.{_≡_, refl, sym, ap, _∙_, subst}
 use mathlib.Core.Bool.{Bool, true, false, _&&_, not}
-use mathlib.Core.List.{List, [], _∷_, _++_, flatMap, append-assoc}
-use Prim.Native.Nat.{ℕ, _+_, _-_, _*_, _/_, _%_, _≤_, _<_}
-use native.Mathlib.Nat.{div-eq-of-lt, mod-lt, mod-eq-of-lt, div-one}
+use mathlib.Core.List.{List, [], _∷_, flatMap}
+use Prim.Native.Nat.{ℕ, _+_, _*_, _≤_, _<_}
 use native.Mathlib.Omega.{arith}
 use borrow.Author.Tests.{le-leb, lt-leb, eq-eqb, ne-eqb}
 use lib.Dec.{leb, eqb}
-use lib.ListN.{length, set, take, drop, length-append, length-take, length-drop}
+use lib.ListN.{length, drop}
 use Rattle.lists.specs.Pasted.{pasted}
-use Rattle.lists.proofs.Pasted.{length-pasted, pasted-append, pasted-one}
-use Rattle.params.specs.Limits.{valueCount}
 use Rattle.params.specs.Table.{line, firstFault}
 use Rattle.params.specs.declared.Answer.{Answer}
 use Rattle.params.specs.declared.Answer.the-variants.{Done, Short, Refused}
-use Rattle.sheet.specs.Pack.{unpack, sound, Bytes}
-use Rattle.sheet.specs.Layout.{Frame, edition1, headerSize, headerSlots, headSize, frontSize, headSlots, floatSlots, recordSlots, recordSize}
+use Rattle.sheet.specs.Pack.{unpack, sound}
+use Rattle.sheet.specs.Layout.{Frame, edition1, headerSize, headerSlots, recordSlots, recordSize}
 use Rattle.sheet.specs.Sheet.{parts, allPass, recordRight, headerIn, readFrame, readCount, recordsIn, readSheet, bytesRight}
-use Rattle.sheet.specs.Words.{plainWords, readWords, headWords, frontWords, blankOf, worded}
-use Rattle.sheet.specs.Fields.{headerList, headValues, floatValues, anyFrame, bytesFront, bytesWords, recordBytesRight}
+use Rattle.sheet.specs.Words.{readWords, worded}
+use Rattle.sheet_fields.specs.Fields.{headerList, anyFrame, bytesWords, recordBytesRight}
 use Rattle.sheet.specs.Writes.{frameOf}
 use Rattle.sheet.specs.Reads.{readFault, wordsIn, readNumber, readAnswer, readOut}
-use Rattle.sheet.specs.declared.Header.{Header}
-use Rattle.sheet.specs.declared.Head.{Head}
-use Rattle.sheet.specs.declared.Floats.{Floats}
+use Rattle.sheet_fields.specs.declared.Header.{Header}
 use Rattle.sheet.specs.declared.Read.{Read}
-use Rattle.sheet.proofs.Lawful.{lawful1}
 use Rattle.sheet.proofs.Parts.{pass-map, flat-map}
-use Rattle.sheet.proofs.Runs.{bytes-runs, words-runs, triple, length-unpack}
-use Rattle.sheet.proofs.Alike.{fields-any, head-any, flat-same}
+use Rattle.sheet.proofs.Runs.{length-unpack}
+use Rattle.sheet.proofs.Alike.{fields-any, flat-same}
 use Rattle.sheet.proofs.Words.{length-worded}
 use Rattle.sheet.proofs.Return.{read-fault}
 use Rattle.sheet.proofs.Answered.{answer-refused, answer-short, answer-done}
-
--- a field of no bits, and the one behind it
-pub no-bits : (d m : ℕ) → 0 < m → d % m / m ≡ 0
-no-bits d m h = div-eq-of-lt (mod-lt d h)
-
-pub last-bits : (d m : ℕ) → 0 < m → d % m % m / 1 ≡ d % m
-last-bits d m h = div-one (d % m % m) ∙ mod-eq-of-lt (mod-lt d h)
-
--- a record's bytes
-module _ (bs : List ℕ) (n : length bs ≡ recordSize edition1) (g : Bytes bs) where
-  pub right-parts : (f : Frame) (h : Head) (x : Floats) → unpack (headSlots edition1 anyFrame) (take headSize bs) ≡ headValues h →
-      unpack (floatSlots edition1) (take (frontSize - headSize) (drop headSize bs)) ≡ floatValues x →
-      recordBytesRight f bs ≡ (sound (headSlots edition1 f) (headValues h) && sound (floatSlots edition1) (floatValues x))
-  right-parts f h x p q =
-      bytes-runs edition1 lawful1 refl f bs n g
-      ∙ ap (λ (v : List ℕ). sound (headSlots edition1 f) v && sound (floatSlots edition1) (unpack (floatSlots edition1) (take (frontSize - headSize) (drop headSize bs)))) (head-any edition1 f anyFrame (take headSize bs) ∙ p)
-      ∙ ap (λ (v : List ℕ). sound (headSlots edition1 f) (headValues h) && sound (floatSlots edition1) v) q
-
-  -- its first ten words, in two writes
-  pub front-set : (h : Head) (x : Floats) → unpack (headSlots edition1 anyFrame) (take headSize bs) ≡ headValues h →
-      unpack (floatSlots edition1) (take (frontSize - headSize) (drop headSize bs)) ≡ floatValues x →
-      (to : ℕ) (d : List ℕ) → to + frontWords ≤ length d →
-      pasted (to + headWords) (floatValues x) (pasted to (take headWords (headValues h)) d) ≡ pasted to (bytesFront bs) d
-  front-set h x p q to d room =
-      sym (ap (λ (v : List ℕ). pasted to (take headWords v ++ unpack (floatSlots edition1) (take (frontSize - headSize) (drop headSize bs))) d) p
-      ∙ ap (λ (v : List ℕ). pasted to (take headWords (headValues h) ++ v) d) q
-      ∙ pasted-append to (take headWords (headValues h)) (floatValues x) d room)
-
-  front-length : length (bytesFront bs) ≡ frontWords
-  front-length = rw (length-append, length-take, length-unpack, length-unpack)
-
-  -- all of them, in three
-  pub words-set : (to : ℕ) (d : List ℕ) → to + readWords ≤ length d →
-      set (pasted (to + frontWords) (drop frontSize bs) (pasted to (bytesFront bs) d)) (to + plainWords) (blankOf (drop frontSize bs)) ≡ pasted to (bytesWords bs) d
-  words-set to d room =
-      let lv : length (drop frontSize bs) ≡ valueCount = rw length-drop (omega arith) in
-      let lf = front-length in
-      let w = blankOf (drop frontSize bs) in
-      let d1 : length (pasted to (bytesFront bs) d) ≡ length d = length-pasted to (bytesFront bs) d (omega arith) in
-      let d2 : length (pasted (to + frontWords) (drop frontSize bs) (pasted to (bytesFront bs) d)) ≡ length (pasted to (bytesFront bs) d) = length-pasted (to + frontWords) (drop frontSize bs) (pasted to (bytesFront bs) d) (omega arith) in
-      sym (ap (λ (t : List ℕ). pasted to t d) (words-runs edition1 lawful1 refl anyFrame bs n g
-      ∙ sym (append-assoc (take headWords (unpack (headSlots edition1 anyFrame) (take headSize bs))) (unpack (floatSlots edition1) (take (frontSize - headSize) (drop headSize bs))) (drop frontSize bs ++ (w ∷ []))))
-      ∙ triple to (bytesFront bs) (drop frontSize bs) (w ∷ []) d frontWords valueCount lf lv room
-      ∙ pasted-one (to + plainWords) w (pasted (to + frontWords) (drop frontSize bs) (pasted to (bytesFront bs) d)) (omega arith))
 
 -- a record's words are as many as are given
 pub words-length : (bs : List ℕ) → length (bytesWords bs) ≡ readWords

@@ -1,85 +1,32 @@
 -- What the writer's code puts down is what the definitions say. Assumes nothing.
-use mathlib.Core.Path.{_≡_, refl, sym, ap, _∙_, subst}
-use mathlib.Core.Bool.{Bool, true, false, _&&_, _||_, not}
-use mathlib.Core.List.{List, [], _∷_, _++_, flatMap}
-use Prim.Native.Nat.{ℕ, _+_, _-_, _*_, _%_, _≤_, _<_}
+use mathlib.Core.Path.{_≡_, refl, sym, ap, _∙_}
+use mathlib.Core.Bool.{Bool, true, false, _||_, not}
+use mathlib.Core.List.{List, _++_, flatMap}
+use Prim.Native.Nat.{ℕ, _+_, _*_, _%_, _≤_, _<_}
 use native.Mathlib.Nat.{zero-add}
 use native.Mathlib.Omega.{arith}
 use lib.Dec.{ltb, eqb}
-use lib.ListN.{length, getD, take, drop, length-append, length-take, length-drop, List·getD-eq-default}
-use lib.Seq.{getD-take, getD-drop}
+use lib.ListN.{length, take, drop, length-append}
 use Rattle.lists.specs.Pasted.{pasted}
 use Rattle.lists.proofs.Pasted.{pasted-append}
-use Rattle.params.specs.Limits.{maxSide, maxLayers, valueCount}
+use Rattle.params.specs.Limits.{maxSide, maxLayers}
 use Rattle.params.specs.Table.{shapeWrong}
 use Rattle.params.specs.Answers.{landed}
 use Rattle.params.specs.declared.Answer.{Answer}
 use Rattle.params.specs.declared.Answer.the-variants.{Done, Short, Refused}
-use Rattle.sheet.specs.Pack.{bits, bytes, number, pack, sound, Held}
-use Rattle.sheet.specs.Layout.{Frame, edition1, headerSize, maxCount, headerSlots, headerValues, headSize, frontSize, headSlots, floatSlots, valueSlots, recordSlots, recordSize}
-use Rattle.sheet.specs.Sheet.{parts, allPass, recordRight}
-use Rattle.sheet.specs.Words.{plainWords, headWords, floatWords, frontWords, headFields, filled}
-use Rattle.sheet.specs.Fields.{headValues, HeadFits, anyFrame, wordsBytes}
+use Rattle.sheet.specs.Pack.{bits, bytes, number, Held}
+use Rattle.sheet.specs.Layout.{Frame, edition1, headerSize, maxCount, headerSlots, headerValues, recordSlots, recordSize}
+use Rattle.sheet.specs.Sheet.{parts, allPass}
+use Rattle.sheet.specs.Words.{plainWords, filled}
+use Rattle.sheet_fields.specs.Fields.{anyFrame, wordsBytes}
 use Rattle.sheet.specs.Writes.{countIn, recordsOf, layerRight, sidesWrong, layerWrong, wordsRight, wordsWrong, writeFault, written, writeSize, writeAnswer, writeOut}
-use Rattle.sheet.specs.declared.Head.{Head}
 use Rattle.sheet.proofs.Packed.{length-bytes, length-pack}
 use Rattle.sheet.proofs.Lawful.{Framed, lawful1, right-held}
 use Rattle.sheet.proofs.Parts.{pass-at}
-use Rattle.sheet.proofs.Steps.{length-all, length-bytes-all}
-use Rattle.sheet.proofs.Runs.{filled-runs, held-head-run, value-lt, pack-runs, right-runs, head-fits, triple}
+use Rattle.sheet.proofs.Steps.{length-all}
 use Rattle.sheet.proofs.Alike.{held-any, written-is}
 use Rattle.sheet.proofs.Faults.{Sound}
 use Rattle.sheet.proofs.Answered.{answer-refused, answer-short, answer-done}
-
--- of a record's words: the values of its head's slots, its floats, its values
-abbrev pub heads : List ℕ → List ℕ
-heads w = take headWords w ++ (0 ∷ 0 ∷ [])
-
-abbrev floats : List ℕ → List ℕ
-floats w = take floatWords (drop headWords w)
-
-abbrev values : List ℕ → List ℕ
-values w = take valueCount (drop frontWords w)
-
-module _ (w : List ℕ) (n : length w ≡ plainWords) where
-  runs : filled w ≡ heads w ++ (floats w ++ values w)
-  runs = filled-runs w (omega arith) ∙ ap (λ (b : ℕ). (take headWords w ++ (b ∷ 0 ∷ [])) ++ (floats w ++ values w)) (List·getD-eq-default w 0 (omega arith))
-
-  heads-length : length (heads w) ≡ headFields
-  heads-length = rw (length-append, length-take) (omega arith)
-
-  floats-length : length (floats w) ≡ floatWords
-  floats-length = rw (length-take, length-drop) (omega arith)
-
-  values-length : length (values w) ≡ valueCount
-  values-length = rw (length-take, length-drop) (omega arith)
-
-  -- a record's words are right, by its runs
-  pub right-parts : (f : Frame) → wordsRight edition1 f w ≡ (sound (headSlots edition1 f) (heads w) && (sound (floatSlots edition1) (floats w) && sound valueSlots (values w)))
-  right-parts f = ap (recordRight edition1 f) runs ∙ right-runs edition1 lawful1 refl f (heads w) (floats w) (values w) heads-length floats-length
-
-  module _ (h : Held (recordSlots edition1 anyFrame) (filled w)) where
-    held-runs : Held (recordSlots edition1 anyFrame) (heads w ++ (floats w ++ values w))
-    held-runs = subst (Held (recordSlots edition1 anyFrame)) runs h
-
-    pub head-room : (k : Head) → headValues k ≡ heads w → HeadFits k
-    head-room k e = head-fits k anyFrame (subst (Held (headSlots edition1 anyFrame)) (sym e) (held-head-run edition1 lawful1 refl anyFrame (heads w) (floats w) (values w) heads-length floats-length held-runs))
-
-    pub value-byte : (i : ℕ) → i < valueCount → getD w (frontWords + i) 0 < 256
-    value-byte i r =
-        let e : getD (values w) i 0 ≡ getD w (frontWords + i) 0 = getD-take valueCount (drop frontWords w) i 0 r ∙ getD-drop frontWords w i 0 in
-        rw e at (value-lt edition1 lawful1 refl anyFrame (heads w) (floats w) (values w) heads-length floats-length held-runs i (rw values-length r))
-
-    -- the three writes of a record are one
-    pub three : (at : ℕ) (d : List ℕ) → at + recordSize edition1 ≤ length d →
-        pasted (at + frontSize) (values w) (pasted (at + headSize) (flatMap (bytes 4) (floats w)) (pasted at (bytes headSize (number (headSlots edition1 anyFrame) (heads w))) d))
-        ≡ pasted at (wordsBytes w) d
-    three at d room =
-        let b = flatMap (bytes 4) (floats w) in
-        let lb : length (flatMap (bytes 4) (floats w)) ≡ frontSize - headSize = length-bytes-all 4 (floats w) ∙ ap (λ (m : ℕ). 4 * m) floats-length in
-        let lv = values-length in
-        sym (ap (λ (t : List ℕ). pasted at t d) (ap (pack (recordSlots edition1 anyFrame)) runs ∙ pack-runs edition1 lawful1 refl anyFrame (heads w) (floats w) (values w) heads-length floats-length held-runs)
-        ∙ triple at (bytes headSize (number (headSlots edition1 anyFrame) (heads w))) b (values w) d headSize (frontSize - headSize) (length-bytes headSize _) lb (omega arith))
 
 pub record-length : (w : List ℕ) → length (wordsBytes w) ≡ recordSize edition1
 unfolding recordSlots bits
@@ -117,7 +64,7 @@ module _ (f : Frame) (ws : List ℕ) where
       held-any edition1 f anyFrame (filled w) (right-held edition1 f r (filled w) (pass-at (wordsRight edition1 f) plainWords (countIn edition1 ws) i ws (s .records) h))
 
 -- the header and the records, one after the other
-pub two : (f : Frame) (ws out : List ℕ) → writeSize edition1 ws ≤ length out →
+two : (f : Frame) (ws out : List ℕ) → writeSize edition1 ws ≤ length out →
     pasted headerSize (flatMap wordsBytes (parts plainWords (countIn edition1 ws) ws))
     (pasted 0 (bytes headerSize (number (headerSlots edition1) (headerValues edition1 f (countIn edition1 ws)))) out)
     ≡ pasted 0 (written edition1 f ws) out
@@ -149,3 +96,11 @@ module _ (f : Frame) (ws out : List ℕ) where
   pub out-is : (a : Answer) → a ≡ writeAnswer edition1 f ws (length out) → landed a (written edition1 f ws) out ≡ writeOut edition1 f ws out
   unfolding writeOut
   out-is a e = ap (λ (x : Answer). landed x (written edition1 f ws) out) e
+
+  pub two-are : (n : ℕ) (d e : List ℕ) → writeFault edition1 f ws ≡ 0 → writeSize edition1 ws ≤ length out → n ≡ number (headerSlots edition1) (headerValues edition1 f (countIn edition1 ws)) →
+      d ≡ pasted 0 (bytes headerSize n) out → e ≡ pasted headerSize (flatMap wordsBytes (parts plainWords (countIn edition1 ws) ws)) d → e ≡ writeOut edition1 f ws out
+  two-are n d e z room h p q =
+      q
+      ∙ ap (pasted headerSize (flatMap wordsBytes (parts plainWords (countIn edition1 ws) ws))) (p ∙ ap (λ (m : ℕ). pasted 0 (bytes headerSize m) out) h)
+      ∙ two f ws out room
+      ∙ out-is (Done (writeSize edition1 ws)) (says-done z room)

@@ -25,8 +25,8 @@ compute-descriptor-requires c κs = search needs
 compare-answer-requires : tie.Need-compare-answer-requires
 compare-answer-requires c κs = search needs
 
-compare-values-requires : tie.Need-compare-values-requires
-compare-values-requires c κs = search needs
+compare-words-requires : tie.Need-compare-words-requires
+compare-words-requires c κs = search needs
 
 returns : tie.Need-returns
 returns c = search needs
@@ -42,5 +42,5 @@ replay-case-spec =
     slice-aggregate-compute-descriptor-2
     compute-descriptor-requires
     compare-answer-requires
-    compare-values-requires
+    compare-words-requires
     returns)

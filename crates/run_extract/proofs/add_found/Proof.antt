@@ -1,19 +1,37 @@
-use borrow.Author.Needs.{needs}
 use Prim.Native.Nat.{_-_, _≤_}
+use borrow.Author.Needs.{needs}
 use Rattle.run_extract.proofs.add_found.Statement.{statement}
 use Rattle.run_extract.proofs.add_found.Tie as tie
 
 abbrev Inv-loop : tie.InvT-loop
-Inv-loop pictures found count records₀ written n₀ i₀ records n i = (i ≤ count) × (n ≤ 64)
+Inv-loop pictures found count records₀ written all n₀ i₀ records n i = (i ≤ count) × (n ≤ 64)
 
 abbrev μ-loop : tie.MeasureT-loop
-μ-loop pictures found count records₀ written n₀ i₀ records n i = count - i
+μ-loop pictures found count records₀ written all n₀ i₀ records n i = count - i
 
 loop-holds : tie.Need-loop-holds Inv-loop μ-loop
 loop-holds c = search needs
 
-keypoint-at-requires : tie.Need-keypoint-at-requires Inv-loop μ-loop
-keypoint-at-requires c κs = search needs
+mul-from : tie.Need-mul-from Inv-loop μ-loop
+mul-from c = search needs
+
+add-to : tie.Need-add-to Inv-loop μ-loop
+add-to c = search needs
+
+mul-keypoint-in : tie.Need-mul-keypoint-in Inv-loop μ-loop
+mul-keypoint-in c = search needs
+
+sub-keypoint-in : tie.Need-sub-keypoint-in Inv-loop μ-loop
+sub-keypoint-in c = search needs
+
+part-keypoint-in-start : tie.Need-part-keypoint-in-start Inv-loop μ-loop
+part-keypoint-in-start c = search needs
+
+part-keypoint-in-end : tie.Need-part-keypoint-in-end Inv-loop μ-loop
+part-keypoint-in-end c = search needs
+
+keypoint-in-requires : tie.Need-keypoint-in-requires Inv-loop μ-loop
+keypoint-in-requires c κs = search needs
 
 add-keypoint-requires : tie.Need-add-keypoint-requires Inv-loop μ-loop
 add-keypoint-requires c κs = search needs
@@ -37,7 +55,13 @@ add-found-spec =
     Inv-loop
     μ-loop
     loop-holds
-    keypoint-at-requires
+    mul-from
+    add-to
+    mul-keypoint-in
+    sub-keypoint-in
+    part-keypoint-in-start
+    part-keypoint-in-end
+    keypoint-in-requires
     add-keypoint-requires
     add-i
     loop-less

@@ -1,19 +1,37 @@
-use borrow.Author.Needs.{needs}
 use Prim.Native.Nat.{_-_, _≤_}
+use borrow.Author.Needs.{needs}
 use Rattle.run_extract.proofs.add_peaks.Statement.{statement}
 use Rattle.run_extract.proofs.add_peaks.Tie as tie
 
 abbrev Inv-loop : tie.InvT-loop
-Inv-loop picture k out peaks records₀ written n₀ j₀ records n j = (j ≤ 18) × (n ≤ 64)
+Inv-loop picture k out peaks records₀ written all n₀ j₀ records n j = (j ≤ 18) × (n ≤ 64)
 
 abbrev μ-loop : tie.MeasureT-loop
-μ-loop picture k out peaks records₀ written n₀ j₀ records n j = 18 - j
+μ-loop picture k out peaks records₀ written all n₀ j₀ records n j = 18 - j
 
 loop-holds : tie.Need-loop-holds Inv-loop μ-loop
 loop-holds c = search needs
 
-oriented-at-requires : tie.Need-oriented-at-requires Inv-loop μ-loop
-oriented-at-requires c κs = search needs
+mul-from : tie.Need-mul-from Inv-loop μ-loop
+mul-from c = search needs
+
+add-to : tie.Need-add-to Inv-loop μ-loop
+add-to c = search needs
+
+mul-oriented-in : tie.Need-mul-oriented-in Inv-loop μ-loop
+mul-oriented-in c = search needs
+
+sub-oriented-in : tie.Need-sub-oriented-in Inv-loop μ-loop
+sub-oriented-in c = search needs
+
+part-oriented-in-start : tie.Need-part-oriented-in-start Inv-loop μ-loop
+part-oriented-in-start c = search needs
+
+part-oriented-in-end : tie.Need-part-oriented-in-end Inv-loop μ-loop
+part-oriented-in-end c = search needs
+
+oriented-in-requires : tie.Need-oriented-in-requires Inv-loop μ-loop
+oriented-in-requires c κs = search needs
 
 add-record-requires : tie.Need-add-record-requires Inv-loop μ-loop
 add-record-requires c κs = search needs
@@ -37,7 +55,13 @@ add-peaks-spec =
     Inv-loop
     μ-loop
     loop-holds
-    oriented-at-requires
+    mul-from
+    add-to
+    mul-oriented-in
+    sub-oriented-in
+    part-oriented-in-start
+    part-oriented-in-end
+    oriented-in-requires
     add-record-requires
     add-j
     loop-less

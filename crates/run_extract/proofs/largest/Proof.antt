@@ -1,13 +1,13 @@
-use borrow.Author.Needs.{needs}
 use Prim.Native.Nat.{_-_, _≤_}
+use borrow.Author.Needs.{needs}
 use Rattle.run_extract.proofs.largest.Statement.{statement}
 use Rattle.run_extract.proofs.largest.Tie as tie
 
 abbrev Inv-loop : tie.InvT-loop
-Inv-loop words at most₀ i₀ most i = i ≤ 128
+Inv-loop row most₀ i₀ most i = i ≤ 128
 
 abbrev μ-loop : tie.MeasureT-loop
-μ-loop words at most₀ i₀ most i = 128 - i
+μ-loop row most₀ i₀ most i = 128 - i
 
 loop-holds : tie.Need-loop-holds Inv-loop μ-loop
 loop-holds c = search needs
@@ -15,26 +15,20 @@ loop-holds c = search needs
 add-if1 : tie.Need-add-if1 Inv-loop μ-loop
 add-if1 c = search needs
 
-add-if1-2 : tie.Need-add-if1-2 Inv-loop μ-loop
-add-if1-2 c = search needs
-
 mul-if1 : tie.Need-mul-if1 Inv-loop μ-loop
 mul-if1 c = search needs
 
-element-copy-out-if1 : tie.Need-element-copy-out-if1 Inv-loop μ-loop
-element-copy-out-if1 c = search needs
+shared-slice-read-if1 : tie.Need-shared-slice-read-if1 Inv-loop μ-loop
+shared-slice-read-if1 c = search needs
 
 add-most : tie.Need-add-most Inv-loop μ-loop
 add-most c = search needs
 
-add-most-2 : tie.Need-add-most-2 Inv-loop μ-loop
-add-most-2 c = search needs
-
 mul-most : tie.Need-mul-most Inv-loop μ-loop
 mul-most c = search needs
 
-element-copy-out-most : tie.Need-element-copy-out-most Inv-loop μ-loop
-element-copy-out-most c = search needs
+shared-slice-read-most : tie.Need-shared-slice-read-most Inv-loop μ-loop
+shared-slice-read-most c = search needs
 
 add-i : tie.Need-add-i Inv-loop μ-loop
 add-i c = search needs
@@ -56,13 +50,11 @@ largest-spec =
     μ-loop
     loop-holds
     add-if1
-    add-if1-2
     mul-if1
-    element-copy-out-if1
+    shared-slice-read-if1
     add-most
-    add-most-2
     mul-most
-    element-copy-out-most
+    shared-slice-read-most
     add-i
     loop-less
     loop-again

@@ -1,20 +1,34 @@
--- `replay` ends: the count of turns falls. Assumes nothing.
+use Prim.Native.Nat.{_≤_}
 use borrow.Author.Needs.{needs}
-use Prim.Native.Nat.{_-_, _≤_}
 use Rattle.run_ieee.proofs.replay.Statement.{statement}
 use Rattle.run_ieee.proofs.replay.Tie as tie
 
 abbrev Inv-loop : tie.InvT-loop
-Inv-loop fd tried₀ differ₀ turns₀ got₀ tried differ turns got = turns ≤ 10000000
+Inv-loop fd counts₀ turns₀ counts turns = 0 ≤ turns
 
 abbrev μ-loop : tie.MeasureT-loop
-μ-loop fd tried₀ differ₀ turns₀ got₀ tried differ turns got = turns
+μ-loop fd counts₀ turns₀ counts turns = turns
 
 loop-holds : tie.Need-loop-holds Inv-loop μ-loop
 loop-holds c = search needs
 
-step-requires : tie.Need-step-requires Inv-loop μ-loop
-step-requires c κs = search needs
+next-requires : tie.Need-next-requires Inv-loop μ-loop
+next-requires c κs = search needs
+
+returns : tie.Need-returns Inv-loop μ-loop
+returns c = search needs
+
+same-requires : tie.Need-same-requires Inv-loop μ-loop
+same-requires c κs = search needs
+
+row-requires : tie.Need-row-requires Inv-loop μ-loop
+row-requires c κs = search needs
+
+count-requires : tie.Need-count-requires Inv-loop μ-loop
+count-requires c κs = search needs
+
+count-requires-2 : tie.Need-count-requires-2 Inv-loop μ-loop
+count-requires-2 c κs = search needs
 
 sub-turns : tie.Need-sub-turns Inv-loop μ-loop
 sub-turns c = search needs
@@ -24,9 +38,6 @@ loop-less c = search needs
 
 loop-again : tie.Need-loop-again Inv-loop μ-loop
 loop-again c = search needs
-
-returns : tie.Need-returns Inv-loop μ-loop
-returns c = search needs
 
 returns-2 : tie.Need-returns-2 Inv-loop μ-loop
 returns-2 c = search needs
@@ -38,9 +49,13 @@ replay-spec =
     Inv-loop
     μ-loop
     loop-holds
-    step-requires
+    next-requires
+    returns
+    same-requires
+    row-requires
+    count-requires
+    count-requires-2
     sub-turns
     loop-less
     loop-again
-    returns
     returns-2)

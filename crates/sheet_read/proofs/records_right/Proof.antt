@@ -7,7 +7,7 @@ use lib.ListN.{take, drop, length-take, length-drop}
 use lib.Seq.{drop-drop}
 use Rattle.sheet.specs.Layout.{edition1, headerSize, recordSize}
 use Rattle.sheet.specs.Sheet.{parts, allPass}
-use Rattle.sheet.specs.Fields.{recordBytesRight}
+use Rattle.sheet_fields.specs.Fields.{recordBytesRight}
 use Rattle.sheet.specs.Writes.{frameOf}
 use Rattle.sheet.proofs.Steps.{pass-good, pass-bad, pass-end, pass-start}
 use Rattle.sheet_read.proofs.records_right.Statement.{statement}

@@ -10,7 +10,7 @@ use Rattle.lists.specs.Pasted.{pasted}
 use Rattle.sheet.specs.Layout.{edition1, headerSize, recordSize}
 use Rattle.sheet.specs.Sheet.{parts}
 use Rattle.sheet.specs.Words.{readWords}
-use Rattle.sheet.specs.Fields.{bytesWords}
+use Rattle.sheet_fields.specs.Fields.{bytesWords}
 use Rattle.sheet.proofs.Steps.{parts-begin, parts-put, parts-end}
 use Rattle.sheet_read.proofs.Taken.{words-length}
 use Rattle.sheet_read.proofs.take_records.Statement.{statement}

@@ -8,7 +8,7 @@ use Rattle.lists.specs.Pasted.{pasted}
 use Rattle.sheet.specs.Layout.{edition1, headerSize, recordSize}
 use Rattle.sheet.specs.Sheet.{parts}
 use Rattle.sheet.specs.Words.{plainWords}
-use Rattle.sheet.specs.Fields.{wordsBytes}
+use Rattle.sheet_fields.specs.Fields.{wordsBytes}
 use Rattle.sheet.proofs.Steps.{parts-begin, parts-put, parts-end}
 use Rattle.sheet_write.proofs.Written.{record-length}
 use Rattle.sheet_write.proofs.put_records.Statement.{statement}

@@ -4,7 +4,7 @@ use borrow.Author.Needs.{needs}
 use Rattle.sheet.specs.Layout.{edition1}
 use Rattle.sheet.specs.Writes.{frameOf}
 use Rattle.sheet.proofs.Faults.{sound-of}
-use Rattle.sheet_write.proofs.Written.{held-each, two, says-refused, says-short, says-done, out-is}
+use Rattle.sheet_write.proofs.Written.{held-each, two-are, says-refused, says-short, says-done, out-is}
 use Rattle.sheet_write.proofs.write_sheet.Statement.{statement}
 use Rattle.sheet_write.proofs.write_sheet.Tie as tie
 
@@ -66,8 +66,8 @@ returns-3 c =
     let ws = s .args .words .now in
     let out = s .args .out .now in
     let e = sym (c .before .before .before .before .before .before .before .before .before .before .before .write-fault .ensures) ∙ c .before .before .before .before .before .before .before .before .before .before .if1 .left in
-    let a = says-done f ws out e (c .before .before .before .before .before .before .before .before .before .if2 .left) in
-    (a, cc (two f ws out (c .before .before .before .before .before .before .before .before .before .if2 .left), out-is f ws out _ a))
+    let room = c .before .before .before .before .before .before .before .before .before .if2 .left in
+    (says-done f ws out e room, two-are f ws out _ _ _ e room (c .before .before .before .before .before .before .before .before .header-number .ensures) (c .before .before .before .before .before .before .put .ensures) (c .before .before .put-records .ensures))
 
 pub write-sheet-spec : {M : Type 1} → statement M
 write-sheet-spec =

@@ -1,0 +1,41 @@
+use Prim.Native.Nat.{zero}
+use borrow.Author.Needs.{needs}
+use Rattle.sheet.specs.Pack.{sound}
+use mathlib.Core.Bool.{and-true}
+use Rattle.sheet_fields.proofs.header_right.Statement.{statement}
+use Rattle.sheet_fields.proofs.header_right.Tie as tie
+
+between-requires : tie.Need-between-requires
+between-requires c κs = search needs
+
+between-requires-2 : tie.Need-between-requires-2
+between-requires-2 c κs = search needs
+
+between-requires-3 : tie.Need-between-requires-3
+between-requires-3 c κs = search needs
+
+between-requires-4 : tie.Need-between-requires-4
+between-requires-4 c κs = search needs
+
+between-requires-5 : tie.Need-between-requires-5
+between-requires-5 c κs = search needs
+
+between-requires-6 : tie.Need-between-requires-6
+between-requires-6 c κs = search needs
+
+returns : tie.Need-returns
+unfolding sound
+returns c =
+    rw (c .between6 .ensures, c .before .between5 .ensures, c .before .before .between4 .ensures, c .before .before .before .between3 .ensures, c .before .before .before .before .between2 .ensures, c .before .before .before .before .before .between .ensures, and-true)
+
+pub header-right-spec : {M : Type 1} → statement M
+header-right-spec =
+    tie.close
+    (tie.spec
+    between-requires
+    between-requires-2
+    between-requires-3
+    between-requires-4
+    between-requires-5
+    between-requires-6
+    returns)

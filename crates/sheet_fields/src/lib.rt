@@ -1,11 +1,14 @@
-// The fields of a sheet's header, and of one record before its values, at edition 1: as one number, cut out of it again, and tested.
+// A number and its bytes; and the fields of a sheet's header, and of one record before its values, at edition 1: as one number, cut out of it again, and tested.
 ghost use mathlib.Core.Path.{_≡_};
 ghost use mathlib.Core.Bool.{_&&_};
-ghost use Prim.Native.Nat.{_*_, _^_, _<_, _≤_};
+ghost use Prim.Native.Nat.{_+_, _*_, _^_, _<_, _≤_};
 ghost use lib.Dec.{leb};
+ghost use lib.ListN.{length, take, drop};
+ghost use Rattle.lists.specs.Pasted.{pasted};
 ghost use Rattle.params.specs.Limits.{maxSide, maxLayers};
-ghost use Rattle.sheet.specs.Pack.{number, fields, sound};
-ghost use Rattle.sheet.specs.Layout.{edition1, maxCount, headerSlots, headerValues, headSize, headSlots, floatSlots};
+ghost use Rattle.sheet.specs.Pack.{bytes, number, value, fields, sound};
+ghost use Rattle.sheet.specs.Layout.{edition1, headerSize, maxCount, headerSlots, headerValues, headSize, headSlots, floatSlots};
+ghost use Rattle.sheet.specs.Sheet.{headerIn};
 ghost use Rattle.sheet.specs.Writes.{frameOf};
 ghost use Rattle.sheet_fields.specs.Fields.{headerList, HeaderFits, headValues, HeadFits, floatValues, anyFrame};
 
@@ -36,6 +39,42 @@ pub struct Floats {
     pub size: u64,
     pub response: u64,
     pub angle: u64,
+}
+
+const HEADER_BYTES: usize = 8;
+
+// Writes the last k bytes of n at the place `at`, the most significant first.
+pub fn put(out: &mut [u8], at: usize, n: u64, k: usize)
+    requires { ⌜ at + k ≤ length (now out) ⌝ }
+    ensures { λ _. ⌜ now (out .exit) ≡ pasted at (bytes k n) (now (out .entry)) ⌝ }
+{
+    let mut i = k;
+    let mut m = n;
+    while 0 < i {
+        i -= 1;
+        out[at + i] = (m % 256) as u8;
+        m = m / 256;
+    }
+}
+
+fn wide_byte(x: u8) -> u64
+    ensures { λ r. ⌜ r ≡ x ⌝ }
+{
+    x as u64
+}
+
+// The k bytes at `at` as a number, the first most significant.
+pub fn get(bytes: &[u8], at: usize, k: usize) -> u64
+    requires { ⌜ (at + k ≤ length (now bytes)) × (k ≤ 8) ⌝ }
+    ensures { λ r. ⌜ r ≡ value (take k (drop at (now (bytes .entry)))) ⌝ }
+{
+    let mut acc: u64 = 0;
+    let mut i = 0;
+    while i < k {
+        acc = acc * 256 + wide_byte(bytes[at + i]);
+        i += 1;
+    }
+    acc
 }
 
 // A word, as a number to reckon with.
@@ -78,6 +117,15 @@ pub fn cut_header(n: u64) -> Header
         count: d / 0x400,
         zero: d % 0x400,
     }
+}
+
+// The header's fields, of a sheet's bytes.
+pub fn header_in(sheet: &[u8]) -> Header
+    requires { ⌜ headerSize ≤ length (now sheet) ⌝ }
+    ensures { λ r. ⌜ headerIn edition1 (now (sheet .entry)) ≡ headerList r ⌝ }
+    ensures { λ r. ⌜ HeaderFits r ⌝ }
+{
+    cut_header(get(sheet, 0, HEADER_BYTES))
 }
 
 // Whether a header's fields keep the rules; width, height and count have no value that breaks one (8191 is all of 13 bits, 1048575 all of 20).

@@ -13,20 +13,6 @@ ghost use Rattle.sheet_fields.specs.Fields.{headValues, floatValues, anyFrame, 
 use sheet_fields::Floats;
 use sheet_fields::Head;
 
-// Writes the last k bytes of n at the place `at`, the most significant first.
-pub fn put(out: &mut [u8], at: usize, n: u64, k: usize)
-    requires { ⌜ at + k ≤ length (now out) ⌝ }
-    ensures { λ _. ⌜ now (out .exit) ≡ pasted at (bytes k n) (now (out .entry)) ⌝ }
-{
-    let mut i = k;
-    let mut m = n;
-    while 0 < i {
-        i -= 1;
-        out[at + i] = (m % 256) as u8;
-        m = m / 256;
-    }
-}
-
 // Writes a record's 128 values at the place `at`.
 fn put_values(words: &[u32], out: &mut [u8], at: usize)
     requires { ⌜ plainWords ≤ length (now words) ⌝ }
@@ -50,7 +36,7 @@ fn put_floats(words: &[u32], out: &mut [u8], at: usize)
     let mut i = 0;
     while i < 5 {
         let w = sheet_fields::wide(words[5 + i]);
-        put(out, at + 4 * i, w, 4);
+        sheet_fields::put(out, at + 4 * i, w, 4);
         i += 1;
     }
 }
@@ -92,7 +78,7 @@ pub fn put_record(words: &[u32], out: &mut [u8], at: usize)
     ensures { λ _. ⌜ now (out .exit) ≡ pasted at (wordsBytes (now (words .entry))) (now (out .entry)) ⌝ }
 {
     let head = sheet_fields::head_number(head_of(words));
-    put(out, at, head, 6);
+    sheet_fields::put(out, at, head, 6);
     put_floats(words, out, at + 6);
     put_values(words, out, at + 26);
 }

@@ -45,7 +45,7 @@ fn sheet_right(sheet: &[u8]) -> bool
     if sheet.len() < HEADER_BYTES {
         return false;
     }
-    let h = sheet_unpack::header_in(sheet);
+    let h = sheet_fields::header_in(sheet);
     if !sheet_fields::header_right(h) {
         return false;
     }
@@ -90,7 +90,7 @@ pub fn read_sheet(sheet: &[u8], out: &mut [u32]) -> Read
     if !sheet_right(sheet) {
         return refusal(Answer::Refused(8));
     }
-    let h = sheet_unpack::header_in(sheet);
+    let h = sheet_fields::header_in(sheet);
     let n = h.count as usize;
     if out.len() < READ_WORDS * n {
         return refusal(Answer::Short(n));

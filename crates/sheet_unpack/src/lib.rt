@@ -1,19 +1,17 @@
-// One record, and the header, out of a sheet's bytes, edition 1: their fields, whether a record keeps the rules, and its words.
+// One record out of a sheet's bytes, edition 1: its fields, whether it keeps the rules, and its words.
 ghost use mathlib.Core.Path.{_≡_};
 ghost use mathlib.Core.List.{_∷_, []};
 ghost use Prim.Native.Nat.{_+_, _-_, _<_, _≤_};
 ghost use lib.ListN.{length, getD, take, drop};
 ghost use Rattle.lists.specs.Pasted.{pasted};
 ghost use Rattle.params.specs.Limits.{valueCount};
-ghost use Rattle.sheet.specs.Pack.{value, unpack};
-ghost use Rattle.sheet.specs.Layout.{edition1, headerSize, recordSize, headSize, frontSize, headSlots, floatSlots};
-ghost use Rattle.sheet.specs.Sheet.{headerIn};
+ghost use Rattle.sheet.specs.Pack.{unpack};
+ghost use Rattle.sheet.specs.Layout.{edition1, recordSize, headSize, frontSize, headSlots, floatSlots};
 ghost use Rattle.sheet.specs.Words.{readWords, headWords, floatWords, frontWords, blankOf};
 ghost use Rattle.sheet.specs.Writes.{frameOf};
-ghost use Rattle.sheet_fields.specs.Fields.{headerList, HeaderFits, headValues, HeadFits, floatValues, FloatsFit, anyFrame, bytesFront, bytesWords, recordBytesRight};
+ghost use Rattle.sheet_fields.specs.Fields.{headValues, HeadFits, floatValues, FloatsFit, anyFrame, bytesFront, bytesWords, recordBytesRight};
 use sheet_fields::Floats;
 use sheet_fields::Head;
-use sheet_fields::Header;
 
 // Of the words of a record the whole numbers, they and the floats, and all but the blank word.
 const HEAD_WORDS: usize = 5;
@@ -22,41 +20,10 @@ const FRONT_WORDS: usize = 10;
 
 const PLAIN_WORDS: usize = 138;
 
-const HEADER_BYTES: usize = 8;
-
 // The bytes of a record's whole numbers and floats, and the number of its values.
 const FRONT_BYTES: usize = 26;
 
 const VALUES: usize = 128;
-
-fn wide_byte(x: u8) -> u64
-    ensures { λ r. ⌜ r ≡ x ⌝ }
-{
-    x as u64
-}
-
-// The k bytes at `at` as a number, the first most significant.
-fn get(bytes: &[u8], at: usize, k: usize) -> u64
-    requires { ⌜ (at + k ≤ length (now bytes)) × (k ≤ 8) ⌝ }
-    ensures { λ r. ⌜ r ≡ value (take k (drop at (now (bytes .entry)))) ⌝ }
-{
-    let mut acc: u64 = 0;
-    let mut i = 0;
-    while i < k {
-        acc = acc * 256 + wide_byte(bytes[at + i]);
-        i += 1;
-    }
-    acc
-}
-
-// The header's fields, of a sheet's bytes.
-pub fn header_in(sheet: &[u8]) -> Header
-    requires { ⌜ headerSize ≤ length (now sheet) ⌝ }
-    ensures { λ r. ⌜ headerIn edition1 (now (sheet .entry)) ≡ headerList r ⌝ }
-    ensures { λ r. ⌜ HeaderFits r ⌝ }
-{
-    sheet_fields::cut_header(get(sheet, 0, HEADER_BYTES))
-}
 
 // The whole numbers of a record's bytes.
 fn head_in(bytes: &[u8]) -> Head
@@ -64,7 +31,7 @@ fn head_in(bytes: &[u8]) -> Head
     ensures { λ r. ⌜ unpack (headSlots edition1 anyFrame) (take headSize (now (bytes .entry))) ≡ headValues r ⌝ }
     ensures { λ r. ⌜ HeadFits r ⌝ }
 {
-    sheet_fields::cut_head(get(bytes, 0, 6))
+    sheet_fields::cut_head(sheet_fields::get(bytes, 0, 6))
 }
 
 // Its floats.
@@ -74,11 +41,11 @@ fn floats_in(bytes: &[u8]) -> Floats
     ensures { λ r. ⌜ FloatsFit r ⌝ }
 {
     Floats {
-        x: get(bytes, 6, 4),
-        y: get(bytes, 10, 4),
-        size: get(bytes, 14, 4),
-        response: get(bytes, 18, 4),
-        angle: get(bytes, 22, 4),
+        x: sheet_fields::get(bytes, 6, 4),
+        y: sheet_fields::get(bytes, 10, 4),
+        size: sheet_fields::get(bytes, 14, 4),
+        response: sheet_fields::get(bytes, 18, 4),
+        angle: sheet_fields::get(bytes, 22, 4),
     }
 }
 

@@ -112,7 +112,7 @@ pub fn write_sheet(
         return Answer::Short(size);
     }
     let header = sheet_fields::header_number(width as u64, height as u64, layers as u64, n as u64);
-    sheet_pack::put(out, 0, header, 8);
+    sheet_fields::put(out, 0, header, 8);
     put_records(words, n, out);
     Answer::Done(size)
 }

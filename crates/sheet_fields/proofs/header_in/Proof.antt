@@ -1,8 +1,8 @@
 use borrow.Author.Needs.{needs}
 use Rattle.sheet.specs.Pack.{unpack}
 use Rattle.sheet.specs.Sheet.{headerIn}
-use Rattle.sheet_unpack.proofs.header_in.Statement.{statement}
-use Rattle.sheet_unpack.proofs.header_in.Tie as tie
+use Rattle.sheet_fields.proofs.header_in.Statement.{statement}
+use Rattle.sheet_fields.proofs.header_in.Tie as tie
 
 get-requires : tie.Need-get-requires
 get-requires c κs = search needs

@@ -6,8 +6,8 @@ use lib.ListN.{length}
 use Rattle.lists.specs.Pasted.{pasted}
 use Rattle.sheet.specs.Pack.{bytes}
 use Rattle.sheet.proofs.Steps.{put-turn, put-end}
-use Rattle.sheet_pack.proofs.put.Statement.{statement}
-use Rattle.sheet_pack.proofs.put.Tie as tie
+use Rattle.sheet_fields.proofs.put.Statement.{statement}
+use Rattle.sheet_fields.proofs.put.Tie as tie
 
 abbrev Inv-loop : tie.InvT-loop
 Inv-loop out₀ at n k i₀ m₀ out i m = (i ≤ k) × (length out ≡ length out₀) × (pasted at (bytes i m) out ≡ pasted at (bytes k n) out₀)

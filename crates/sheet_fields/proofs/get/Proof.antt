@@ -5,8 +5,8 @@ use borrow.Author.Needs.{needs}
 use lib.ListN.{getD, take, drop}
 use Rattle.sheet.specs.Pack.{bytes, value}
 use Rattle.sheet.proofs.Cut.{get-value, get-lt, get-fits}
-use Rattle.sheet_unpack.proofs.get.Statement.{statement}
-use Rattle.sheet_unpack.proofs.get.Tie as tie
+use Rattle.sheet_fields.proofs.get.Statement.{statement}
+use Rattle.sheet_fields.proofs.get.Tie as tie
 
 abbrev Inv-loop : tie.InvT-loop
 Inv-loop bytes at k acc₀ i₀ acc i = (i ≤ k) × (acc ≡ value (take i (drop at bytes))) × (acc < 2 ^ (8 * i))

@@ -2,7 +2,7 @@
 
 ghost use mathlib.Core.Path.{_≡_};
 ghost use mathlib.Core.Bool.{true, false, cond};
-ghost use Prim.Native.Nat.{_-_, _*_, _^_, _<_, _≤_};
+ghost use Prim.Native.Nat.{_+_, _-_, _*_, _^_, _<_, _≤_};
 ghost use lib.ListN.{length};
 ghost use lib.Seq.{sets};
 ghost use Rattle.params.specs.Limits.{border, maxLayers};
@@ -89,13 +89,13 @@ fn rest_hints(dog: &[f32], t: Shape, s: Search, from: usize) -> usize
     n
 }
 
-// Searches rows and tests their samples, and holds the cells of the keypoints, until all rows are searched, those of a row can't all be held, or a sample is bad.
+// Searches rows, tests the samples of the row below each, and holds the cells of the keypoints, until all rows are searched, those of a row can't all be held, or a sample is bad.
 fn held_rows(dog: &[f32], t: Shape, s: Search, hold: &mut [u32]) -> Front
     requires { ⌜ Searched (length (now dog)) t s ⌝ }
     requires { ⌜ (2 * border < t .width) × (2 * border < t .height) ⌝ }
     requires { ⌜ length (now hold) < 2 ^ 38 ⌝ }
     ensures { λ f. ⌜ Held (now (dog .entry)) t s (f .row) (f .count) (now (hold .exit)) ⌝ }
-    ensures { λ f. ⌜ (f .good ≡ true → rowsGood t border (f .row) (now (dog .entry)) ≡ true) ⌝ }
+    ensures { λ f. ⌜ (f .good ≡ true → rowsGood t (border + 1) (f .row + 1) (now (dog .entry)) ≡ true) ⌝ }
     ensures { λ f. ⌜ (f .good ≡ false → allGood (now (dog .entry)) ≡ false) ⌝ }
 {
     let end = t.height - BORDER;
@@ -137,7 +137,7 @@ fn held_rows(dog: &[f32], t: Shape, s: Search, hold: &mut [u32]) -> Front
     }
 }
 
-// The rows that are held, and the test of all samples: those of the searched rows as they are searched, while they are at hand, and the rest before and after.
+// The rows that are held, and the test of all samples: below each row that is searched as it is searched, and the rest before and after.
 fn front_of(dog: &[f32], t: Shape, s: Search, hold: &mut [u32]) -> Front
     requires { ⌜ Searched (length (now dog)) t s ⌝ }
     requires { ⌜ (2 * border < t .width) × (2 * border < t .height) ⌝ }
@@ -145,9 +145,9 @@ fn front_of(dog: &[f32], t: Shape, s: Search, hold: &mut [u32]) -> Front
     ensures { λ f. ⌜ Held (now (dog .entry)) t s (f .row) (f .count) (now (hold .exit)) ⌝ }
     ensures { λ f. ⌜ f .good ≡ allGood (now (dog .entry)) ⌝ }
 {
-    let top = samples::rows_good(dog, t, 0, BORDER);
+    let top = samples::rows_good(dog, t, 0, BORDER + 1);
     let f = held_rows(dog, t, s, hold);
-    let rest = samples::rows_good(dog, t, f.row, t.height);
+    let rest = samples::rows_good(dog, t, f.row + 1, t.height);
     Front {
         row: f.row,
         count: f.count,

@@ -17,12 +17,13 @@ use Rattle.lists.proofs.Ranges.{joined-none, joined-start, joined-more, sets-ap
 use Rattle.picture.specs.Stack.{sample}
 use Rattle.picture.specs.declared.Shape.{Shape}
 use Rattle.detect_keypoint.specs.declared.Search.{Search}
-use Rattle.detect_extrema.specs.Neighbours.{tied, loud}
+use Rattle.detect_extrema.specs.Neighbours.{tied}
 use Rattle.detect_extrema.specs.Scan.{cellsOf}
-use Rattle.detect_look.specs.Hints.{hintAt, someCell, anyLoud, anyHint, looks}
+use Rattle.detect_look.specs.Hints.{hintAt, beyond, someCell, anyLoud, anyHint, looks}
 use Rattle.detect_look.specs.Place.{group}
 use Rattle.detect_look.specs.declared.Run.{Run}
 use Rattle.detect_extrema.proofs.Cells.{found-quiet}
+use Rattle.detect_look.proofs.Sides.{loud-beyond}
 use Rattle.detect_look.proofs.Hints.{not-yes, unseen}
 
 or-not : (a b : Bool) → (not a || b) ≡ not (a && not b)
@@ -94,7 +95,7 @@ blank lo (suc hi) f e =
 
 module _ (d : List Float) (t : Shape) (s : Search) (r lo : ℕ) where
   abbrev loudAt : ℕ → Bool
-  loudAt c = loud (s .threshold) (sample d t (s .layer) r c)
+  loudAt c = beyond (s .threshold) (sample d t (s .layer) r c)
 
   abbrev look : ℕ → Bool
   look c = hintAt (s .threshold) d t (s .layer) r c
@@ -111,7 +112,7 @@ module _ (d : List Float) (t : Shape) (s : Search) (r lo : ℕ) where
   -- where none is, they give nothing
   pub quiet-cells : (hi : ℕ) → anyLoud d t s r lo hi ≡ false → cellsOf tied d t s r lo hi ≡ []
   unfolding anyLoud
-  quiet-cells hi e = blank lo hi _ (λ c a b. found-quiet d t s r c (none-passes loudAt lo hi e c a b))
+  quiet-cells hi e = blank lo hi _ (λ c a b. found-quiet d t s r c (loud-beyond _ _ (none-passes loudAt lo hi e c a b)))
 
   -- ---- whether a cell of the run has a hint
   pub hint-none : false ≡ anyHint d t s r lo lo

@@ -15,7 +15,9 @@ use Rattle.ieee.specs.Numbers.{nought}
 use Rattle.ieee_laws.specs.Sign.{turned, Opp, of-nan, of-inf, of-fin}
 use Rattle.ieee_laws.specs.Sign as sign
 use Rattle.ieee_laws.proofs.Turned.{zero-left, lt-turned, neg-opp}
+use Rattle.lists.proofs.Bools.{or-true}
 use Rattle.detect_extrema.specs.Neighbours.{loud}
+use Rattle.detect_look.specs.Hints.{beyond}
 
 pub clash : {A : Type 0} → false ≡ true → A
 clash e = absurd (subst T (sym e) tt)
@@ -55,3 +57,12 @@ module _ (threshold v : Float) (l : loud threshold v ≡ true) where
   pub loud-under : (nought <ᶠ v) ≡ false → (v <ᶠ neg threshold) ≡ true
   unfolding loud
   loud-under e = lt-turned (abs-under v e) (neg-opp threshold) ∙ l
+
+-- what is not beyond the threshold is not loud
+pub loud-beyond : (threshold v : Float) → beyond threshold v ≡ false → loud threshold v ≡ false
+loud-beyond threshold v e = go (loud threshold v) refl (nought <ᶠ v) refl
+  where
+    go : (l : Bool) → loud threshold v ≡ l → (u : Bool) → (nought <ᶠ v) ≡ u → l ≡ false
+    go false p u q = refl
+    go true p true q = rw (loud-above threshold v p q) at e
+    go true p false q = rw (loud-under threshold v p q, or-true) at e

@@ -41,9 +41,13 @@ hintAt threshold d t p r c =
 unfoldable pub someCell : ℕ → ℕ → (ℕ → Bool) → Bool
 someCell lo hi test = not (every (hi - lo) (λ i. not (test (lo + i))))
 
--- some cell of the row r, from column lo to below hi, is loud
+-- above the threshold, or below its negative, as every loud cell is
+abbrev pub beyond : Float → Float → Bool
+beyond threshold v = (threshold <ᶠ v) || (v <ᶠ neg threshold)
+
+-- some cell of the row r, from column lo to below hi, is beyond the threshold
 unfoldable pub anyLoud : List Float → Shape → Search → ℕ → ℕ → ℕ → Bool
-anyLoud d t s r lo hi = someCell lo hi (λ c. loud (s .threshold) (sample d t (s .layer) r c))
+anyLoud d t s r lo hi = someCell lo hi (λ c. beyond (s .threshold) (sample d t (s .layer) r c))
 
 -- some cell of them has a hint
 unfoldable pub anyHint : List Float → Shape → Search → ℕ → ℕ → ℕ → Bool

@@ -9,7 +9,7 @@ ghost use Rattle.detect_fit.specs.Place.{Around};
 ghost use Rattle.detect_refine.specs.Place.{Searched, Placed};
 ghost use Rattle.detect_extrema.specs.Neighbours.{tied};
 ghost use Rattle.detect_extrema.specs.Scan.{kept, cellOf, found};
-ghost use Rattle.detect_look.specs.Hints.{greaterOf, lesserOf, hintAt, anyLoud, anyHint, looks, hinted};
+ghost use Rattle.detect_look.specs.Hints.{greaterOf, lesserOf, hintAt, beyond, anyLoud, anyHint, looks, hinted};
 ghost use Rattle.detect_look.specs.Place.{group, Along};
 use detect_keypoint::Search;
 use detect_refine::Refined;
@@ -66,6 +66,13 @@ fn may_be(dog: &[f32], t: Shape, threshold: f32, p: usize, r: usize, c: usize) -
     ((v > threshold) & (v >= hi)) | ((v < -threshold) & (v <= lo))
 }
 
+// Whether a sample is above the threshold, or below its negative: two comparisons, and no magnitude.
+fn is_beyond(threshold: f32, v: f32) -> bool
+    ensures { λ b. ⌜ b ≡ beyond threshold v ⌝ }
+{
+    (v > threshold) | (v < -threshold)
+}
+
 // Whether one of a run's cells is loud. No branch depends on a sample, so that the machine looks at several at once; so in `any_hint`, `mark` and `hint_count`.
 pub fn any_loud(dog: &[f32], t: Shape, s: Search, u: Run) -> bool
     requires { ⌜ Searched (length (now dog)) t s ⌝ }
@@ -74,7 +81,7 @@ pub fn any_loud(dog: &[f32], t: Shape, s: Search, u: Run) -> bool
 {
     let mut any = false;
     for c in u.lo..u.hi {
-        any = any | detect_extrema::is_loud(s.threshold, picture::at(dog, t, s.layer, u.row, c));
+        any = any | is_beyond(s.threshold, picture::at(dog, t, s.layer, u.row, c));
     }
     any
 }

@@ -27,7 +27,7 @@ pub struct Place {
     pub cells: bool,
 }
 
-// What the search of a row gives: how many words, and whether the row's samples are good in every plane.
+// What the search of a row gives: how many words, and whether the samples of the row below are good in every plane.
 pub struct Row {
     pub words: usize,
     pub good: bool,
@@ -184,24 +184,25 @@ fn block_words(dog: &[f32], t: Shape, s: Search, u: Run, p: Place, out: &mut [u3
     n
 }
 
-// Finds a row's keypoints, writes what is left of them, as far as there is room, and counts its words. On the way it tests the row's samples in every plane, those of a
-// block just before the block is searched: the memory that the test waits for is read ahead while cells are searched. The search is right for any samples, so that
-// what it gives does not hang on the test.
+// Finds a row's keypoints, writes what is left of them, as far as there is room, and counts its words. On the way it tests the samples of the row below in every plane, those
+// below a block just before the block is searched: the memory that the test waits for is read while cells are searched, and is at hand when the next row is. The search is
+// right for any samples, so that what it gives does not hang on the test.
 pub fn row_words(dog: &[f32], t: Shape, s: Search, r: usize, p: Place, out: &mut [u32]) -> Row
     requires { ⌜ Searched (length (now dog)) t s ⌝ }
     requires { ⌜ (2 * border < t .width) × (border ≤ r) × (r < t .height - border) ⌝ }
     requires { ⌜ p .from < 2 ^ 39 ⌝ }
     ensures { λ w. ⌜ w .words ≡ length (rowLeaves (p .cells) (now (dog .entry)) t s r) ⌝ }
-    ensures { λ w. ⌜ w .good ≡ spanGood t r 0 (t .width) (now (dog .entry)) ⌝ }
+    ensures { λ w. ⌜ w .good ≡ spanGood t (r + 1) 0 (t .width) (now (dog .entry)) ⌝ }
     ensures { λ w. ⌜ now (out .exit) ≡ sets (now (out .entry)) (p .from) (rowLeaves (p .cells) (now (dog .entry)) t s r) ⌝ }
 {
+    let below = r + 1;
     let end = t.width - detect_refine::BORDER;
     let mut n: usize = 0;
     let mut c = detect_refine::BORDER;
-    let mut ok = samples::span_good(dog, t, r, 0, c);
+    let mut ok = samples::span_good(dog, t, below, 0, c);
     while c < end {
         let to = run_end(c, end, detect_look::BLOCK);
-        ok = ok & samples::span_good(dog, t, r, c, to);
+        ok = ok & samples::span_good(dog, t, below, c, to);
         n += block_words(
             dog,
             t,
@@ -219,7 +220,7 @@ pub fn row_words(dog: &[f32], t: Shape, s: Search, r: usize, p: Place, out: &mut
         );
         c = to;
     }
-    ok = ok & samples::span_good(dog, t, r, end, t.width);
+    ok = ok & samples::span_good(dog, t, below, end, t.width);
     Row { words: n, good: ok }
 }
 

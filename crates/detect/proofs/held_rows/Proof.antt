@@ -17,7 +17,7 @@ use Rattle.detect.proofs.held_rows.Tie as tie
 
 abbrev Inv-loop : tie.InvT-loop
 Inv-loop dog t s hold₀ end n₀ r₀ hold n r =
-    (length hold ≡ length hold₀) × (end ≡ t .height - border) × Held dog t s r n hold × (rowsGood t border r dog ≡ true)
+    (length hold ≡ length hold₀) × (end ≡ t .height - border) × Held dog t s r n hold × (rowsGood t (border + 1) (r + 1) dog ≡ true)
 
 abbrev μ-loop : tie.MeasureT-loop
 μ-loop dog t s hold₀ end n₀ r₀ hold n r = t .height - r
@@ -36,7 +36,7 @@ loop-holds : tie.Need-loop-holds Inv-loop μ-loop
 unfolding rowsGood
 loop-holds c =
     let a = c .before .before .before .args in
-    (refl, refl, held-none _ _ _ _ (omega arith), rows-none (now (a .dog)) (a .t) border)
+    (refl, refl, held-none _ _ _ _ (omega arith), rows-none (now (a .dog)) (a .t) (border + 1))
 
 row-words-requires : tie.Need-row-words-requires Inv-loop μ-loop
 row-words-requires c κs =
@@ -51,7 +51,7 @@ returns c =
     let w = c .before .before .before .before in
     let l = w .before .before .before .loop in
     let b = w .before .before .before .before .before .before .before in
-    (kept w, (λ e. absurd (true≢false (sym e)), λ _. row-bad (now (b .args .dog)) (b .args .t) (b .pre .0 .whole) (l .r) (omega arith) (sym (w .row-words .ensures .1 .0) ∙ not-true _ (c .if1 .taken))))
+    (kept w, (λ e. absurd (true≢false (sym e)), λ _. row-bad (now (b .args .dog)) (b .args .t) (b .pre .0 .whole) (l .r + 1) (omega arith) (sym (w .row-words .ensures .1 .0) ∙ not-true _ (c .if1 .taken))))
 
 sub-if2 : tie.Need-sub-if2 Inv-loop μ-loop
 sub-if2 c = omega (arith, kept (c .before .before .before .before) .fits)
@@ -79,7 +79,7 @@ loop-again c =
     let w = c .before .before .before .before .before .before .before in
     let l = w .before .before .before .loop in
     let a = w .before .before .before .before .before .before .before .args in
-    (length-of w, refl, held-more _ _ _ _ _ _ _ _ (l .inv .2) (w .row-words .ensures .1 .1) (omega arith) (w .row-words .ensures .0) (omega (arith, length-of w, l .inv .0)), rows-more (now (a .dog)) (a .t) border (l .r) (l .inv .2 .above) _ (w .row-words .ensures .1 .0) (not-false _ (c .before .before .before .if1 .left)) (l .inv .3))
+    (length-of w, refl, held-more _ _ _ _ _ _ _ _ (l .inv .2) (w .row-words .ensures .1 .1) (omega arith) (w .row-words .ensures .0) (omega (arith, length-of w, l .inv .0)), rows-more (now (a .dog)) (a .t) (border + 1) (l .r + 1) (omega (arith, l .inv .2 .above)) _ (w .row-words .ensures .1 .0) (not-false _ (c .before .before .before .if1 .left)) (l .inv .3))
 
 same-length-3 : tie.Need-same-length-3 Inv-loop μ-loop
 same-length-3 c = c .before .loop .inv .0

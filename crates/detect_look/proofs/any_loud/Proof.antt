@@ -2,8 +2,7 @@ use Prim.Native.Nat.{_≤_, _-_}
 use mathlib.Core.Path.{_≡_, refl, ap, _∙_}
 use native.Mathlib.Omega.{arith}
 use borrow.Author.Needs.{needs}
-use Rattle.detect_extrema.specs.Neighbours.{loud}
-use Rattle.detect_look.specs.Hints.{anyLoud}
+use Rattle.detect_look.specs.Hints.{beyond, anyLoud}
 use Rattle.detect_look.proofs.Looks.{loud-none, loud-more}
 use Rattle.detect_look.proofs.any_loud.Statement.{statement}
 use Rattle.detect_look.proofs.any_loud.Tie as tie
@@ -21,8 +20,8 @@ loop-holds c = (omega arith, omega arith, refl, loud-none _ _ _ _ _)
 at-requires : tie.Need-at-requires Inv-loop μ-loop
 at-requires c κs = search needs
 
-is-loud-requires : tie.Need-is-loud-requires Inv-loop μ-loop
-is-loud-requires c κs = search needs
+is-beyond-requires : tie.Need-is-beyond-requires Inv-loop μ-loop
+is-beyond-requires c κs = search needs
 
 add-c : tie.Need-add-c Inv-loop μ-loop
 add-c c = search needs
@@ -33,7 +32,7 @@ loop-less c = search needs
 loop-again : tie.Need-loop-again Inv-loop μ-loop
 loop-again c =
     let l = c .before .before .before .loop in
-    (omega arith, omega arith, refl, loud-more _ _ _ _ _ (l .c) _ _ (l .inv .0) (l .inv .3) (c .is-loud .ensures ∙ ap (loud _) (c .before .at .ensures)))
+    (omega arith, omega arith, refl, loud-more _ _ _ _ _ (l .c) _ _ (l .inv .0) (l .inv .3) (c .is-beyond .ensures ∙ ap (beyond _) (c .before .at .ensures)))
 
 returns : tie.Need-returns Inv-loop μ-loop
 returns c =
@@ -49,7 +48,7 @@ any-loud-spec =
     μ-loop
     loop-holds
     at-requires
-    is-loud-requires
+    is-beyond-requires
     add-c
     loop-less
     loop-again

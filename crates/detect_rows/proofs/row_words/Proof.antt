@@ -1,4 +1,4 @@
-use Prim.Native.Nat.{ℕ, _*_, _≤_, _-_}
+use Prim.Native.Nat.{ℕ, _+_, _*_, _≤_, _-_}
 use mathlib.Core.Path.{_≡_, refl, ap, _∙_}
 use mathlib.Core.Bool.{Bool, _&&_}
 use mathlib.Core.List.{List}
@@ -22,12 +22,12 @@ use Rattle.detect_rows.proofs.row_words.Statement.{statement}
 use Rattle.detect_rows.proofs.row_words.Tie as tie
 
 abbrev Inv-loop : tie.InvT-loop
-Inv-loop dog t s r p out₀ end n₀ c₀ ok₀ out n c ok =
+Inv-loop dog t s r p out₀ below end n₀ c₀ ok₀ out n c ok =
     (border ≤ c) × (c ≤ end) × (end ≡ t .width - border)
-    × Filled out₀ (p .from) (runLeaves (p .cells) dog t s r border c) out n × (ok ≡ spanGood t r 0 c dog)
+    × Filled out₀ (p .from) (runLeaves (p .cells) dog t s r border c) out n × (ok ≡ spanGood t (r + 1) 0 c dog)
 
 abbrev μ-loop : tie.MeasureT-loop
-μ-loop dog t s r p out₀ end n₀ c₀ ok₀ out n c ok = t .width - c
+μ-loop dog t s r p out₀ below end n₀ c₀ ok₀ out n c ok = t .width - c
 
 -- so few words that no sum of places wraps
 bounded : (c : tie.At-loop Inv-loop μ-loop) → c .loop .n ≤ keypointWords * (c .loop .c - border)
@@ -38,6 +38,9 @@ bounded c =
 -- the columns tested so far, and the next
 tested : (d : List Float) (t : Shape) (r c to : ℕ) (ok x : Bool) → ok ≡ spanGood t r 0 c d → x ≡ spanGood t r c to d → c ≤ to → (ok && x) ≡ spanGood t r 0 to d
 tested d t r c to ok x e f h = rw (e, f) (span-join t r 0 c to d (omega arith) h)
+
+add-below : tie.Need-add-below Inv-loop μ-loop
+add-below c = search needs
 
 sub-end : tie.Need-sub-end Inv-loop μ-loop
 sub-end c = search needs
@@ -54,8 +57,8 @@ run-end-requires c κs = search needs
 span-good-requires-2 : tie.Need-span-good-requires-2 Inv-loop μ-loop
 span-good-requires-2 c κs = search needs
 
-add-t15 : tie.Need-add-t15 Inv-loop μ-loop
-add-t15 c = omega (arith, bounded (c .before .before .before .before))
+add-t16 : tie.Need-add-t16 Inv-loop μ-loop
+add-t16 c = omega (arith, bounded (c .before .before .before .before))
 
 block-words-requires : tie.Need-block-words-requires Inv-loop μ-loop
 block-words-requires c κs = (search needs, (search needs, omega (arith, bounded (c .before .before .before .before .before))))
@@ -77,7 +80,7 @@ loop-again c =
     let a = b .before .before .before .before .before .args in
     let to = c .before .before .before .before .before .before .run-end .result in
     let f : ℕ → List ℕ = λ i. leaves (a .p .cells) (a .r) i (found tied (now (a .dog)) (a .t) (a .s) (a .r) i) in
-    (omega arith, omega arith, refl, filled-parts _ (a .p .from) border (l .c) f _ _ _ _ (l .inv .0) (l .inv .3) to (omega arith) (c .before .before .block-words .ensures), tested (now (a .dog)) (a .t) (a .r) (l .c) to _ _ (l .inv .4) (c .before .before .before .before .before .span-good2 .ensures) (omega arith))
+    (omega arith, omega arith, refl, filled-parts _ (a .p .from) border (l .c) f _ _ _ _ (l .inv .0) (l .inv .3) to (omega arith) (c .before .before .block-words .ensures), tested (now (a .dog)) (a .t) (a .r + 1) (l .c) to _ _ (l .inv .4) (c .before .before .before .before .before .span-good2 .ensures) (omega arith))
 
 span-good-requires-3 : tie.Need-span-good-requires-3 Inv-loop μ-loop
 span-good-requires-3 c κs = search needs
@@ -93,7 +96,7 @@ returns c =
     let e : l .c ≡ a .t .width - border = omega arith in
     let w = rw e at (l .inv .3) in
     let g = rw e at (l .inv .4) in
-    (w .0, (tested (now (a .dog)) (a .t) (a .r) _ (a .t .width) _ _ g (c .span-good3 .ensures) (omega arith), w .1))
+    (w .0, (tested (now (a .dog)) (a .t) (a .r + 1) _ (a .t .width) _ _ g (c .span-good3 .ensures) (omega arith), w .1))
 
 pub row-words-spec : {M : Type 1} → statement M
 row-words-spec =
@@ -101,12 +104,13 @@ row-words-spec =
     (tie.spec
     Inv-loop
     μ-loop
+    add-below
     sub-end
     span-good-requires
     loop-holds
     run-end-requires
     span-good-requires-2
-    add-t15
+    add-t16
     block-words-requires
     add-n
     loop-less

@@ -90,6 +90,7 @@ fn rest_hints(dog: &[f32], t: Shape, s: Search, from: usize) -> usize
 }
 
 // Searches rows, tests the samples of the row below each, and holds the cells of the keypoints, until all rows are searched, those of a row can't all be held, or a sample is bad.
+// Which row that is stays open: all that is asked of it is what is held, and which samples are known to be good.
 fn held_rows(dog: &[f32], t: Shape, s: Search, hold: &mut [u32]) -> Front
     requires { ⌜ Searched (length (now dog)) t s ⌝ }
     requires { ⌜ (2 * border < t .width) × (2 * border < t .height) ⌝ }

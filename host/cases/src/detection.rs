@@ -168,11 +168,11 @@ pub fn accepted(r: &mut Rng, kind: Kind) -> Case {
     c
 }
 
-/// A square of noise at the settings that the source starts with: some 65 of a thousand cells are keypoints.
-pub fn dense(r: &mut Rng, side: usize) -> Case {
+/// A square stack of zeros, its second layer searched with the settings that are usual.
+fn square(side: usize) -> Case {
     let settings = Settings::default();
     let planes = settings.layers + 2;
-    let mut c = Case {
+    Case {
         samples: vec![0.0; planes * side * side],
         width: side,
         height: side,
@@ -180,7 +180,12 @@ pub fn dense(r: &mut Rng, side: usize) -> Case {
         layer: 2,
         octave: 0,
         settings,
-    };
+    }
+}
+
+/// A square of noise at the settings that the source starts with: some 65 of a thousand cells are keypoints.
+pub fn dense(r: &mut Rng, side: usize) -> Case {
+    let mut c = square(side);
     c.fill(|_, _, _| 255.0 * r.signed());
     c
 }
@@ -188,18 +193,7 @@ pub fn dense(r: &mut Rng, side: usize) -> Case {
 /// So many lone bright cells, four apart, in a square with room for them: as many keypoints.
 pub fn spikes(many: usize) -> Case {
     let row = many.isqrt() + 1;
-    let side = 4 * row + 10;
-    let settings = Settings::default();
-    let planes = settings.layers + 2;
-    let mut c = Case {
-        samples: vec![0.0; planes * side * side],
-        width: side,
-        height: side,
-        planes,
-        layer: 2,
-        octave: 0,
-        settings,
-    };
+    let mut c = square(4 * row + 10);
     for k in 0..many {
         c.put(2, 6 + 4 * (k / row), 6 + 4 * (k % row), 100.0);
     }

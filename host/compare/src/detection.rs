@@ -46,12 +46,13 @@ fn every_cell(c: &Case) -> usize {
 const HELD: usize = 2048;
 
 /// The ways that detection goes, by the room and the number of keypoints.
-pub const WAYS: [&str; 6] = [
+pub const WAYS: [&str; 7] = [
     "detection: room for every cell",
     "detection: no more keypoints than are held",
     "detection: as many keypoints as are held",
     "detection: one more than are held",
     "detection: more than are held, and too little room",
+    "detection: more than are held, and exactly the room",
     "detection: more than are held, and room to spare",
 ];
 
@@ -66,8 +67,10 @@ fn way(c: &Case, room: usize, found: usize) -> &'static str {
         WAYS[3]
     } else if room < 10 * found {
         WAYS[4]
-    } else {
+    } else if room == 10 * found {
         WAYS[5]
+    } else {
+        WAYS[6]
     }
 }
 

@@ -42,6 +42,10 @@ good-none d to =
     let h : length (take to d) ≤ to = rw length-take (omega arith) in
     rw (drop-of-length-le (take to d) h)
 
+-- a run of one sample
+pub good-one : (d : List Float) (i : ℕ) → i < length d → goodFrom i (i + 1) d ≡ goodSample (getD d i nan)
+good-one d i h = good-next d i (i + 1) (omega arith) (omega arith) ∙ rw (good-none d (i + 1), and-true)
+
 -- a tested sample more
 pub good-more : (d : List Float) (i to : ℕ) (ok b all : Bool) → i < to → to ≤ length d → b ≡ goodSample (getD d i nan)
     → (ok && goodFrom i to d) ≡ all → ((ok && b) && goodFrom (i + 1) to d) ≡ all

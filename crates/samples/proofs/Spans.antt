@@ -1,21 +1,22 @@
--- The cells of a row in every plane: where they lie, one plane more, and how two spans join. Assumes nothing.
+-- The cells of a row in every plane: where they lie, one plane more, one column more, and how two spans join. Assumes nothing.
 use Prim.Native.Nat.{ℕ, zero, suc, _+_, _*_, _<_, _≤_}
-use mathlib.Core.Path.{_≡_, refl, sym, _∙_}
+use mathlib.Core.Path.{_≡_, refl, sym, ap, _∙_}
 use mathlib.Core.Bool.{Bool, true, false, _&&_}
 use mathlib.Core.Logic.{⊎-elim}
 use mathlib.Core.List.{List}
 use native.Mathlib.Nat.{mul-le-mul-right, suc-mul, add-mul, mul-assoc}
 use native.Mathlib.Omega.{arith}
-use lib.ListN.{length, take, length-take}
+use lib.ListN.{length, getD, take, length-take}
 use lib.Seq.{take-all, take-take}
-use lib.Ieee.{Float}
+use lib.Ieee.{Float, nan}
 use Rattle.lists.specs.Ranges.{every}
 use Rattle.lists.proofs.Bools.{and-true, and-false}
-use Rattle.lists.proofs.Every.{every-step}
+use Rattle.lists.proofs.Every.{every-step, all-every}
 use Rattle.lists.proofs.Naturals.{le-or-lt, packed}
+use Rattle.params.specs.Table.{goodSample}
 use Rattle.samples.specs.Samples.{goodFrom, spanGood}
 use Rattle.picture.specs.declared.Shape.{Shape}
-use Rattle.samples.proofs.Runs.{good-run, good-end}
+use Rattle.samples.proofs.Runs.{good-none, good-one, good-run, good-end}
 
 -- ---- where a row lies
 
@@ -65,6 +66,18 @@ spanIn t r lo hi d p = goodFrom ((p * t .height + r) * t .width + lo) ((p * t .h
 pub span-more : (t : Shape) (r lo hi : ℕ) (d : List Float) (p from : ℕ) (ok b : Bool) → from ≡ (p * t .height + r) * t .width → ok ≡ every p (spanIn t r lo hi d)
     → b ≡ goodFrom (from + lo) (from + hi) d → (ok && b) ≡ every (p + 1) (spanIn t r lo hi d)
 span-more t r lo hi d p from ok b e o q = rw (o, q, e) (every-step p (spanIn t r lo hi d))
+
+-- one plane more of one column
+pub column-more : (t : Shape) (r c : ℕ) (d : List Float) (p from : ℕ) (ok b : Bool) → from ≡ (p * t .height + r) * t .width → from + c < length d → ok ≡ every p (spanIn t r c (c + 1) d)
+    → b ≡ goodSample (getD d (from + c) nan) → (ok && b) ≡ every (p + 1) (spanIn t r c (c + 1) d)
+column-more t r c d p from ok b e h o q =
+    let z : from + c + 1 ≡ from + (c + 1) = omega arith in
+    span-more t r c (c + 1) d p from ok b e o (q ∙ sym (good-one d (from + c) h) ∙ ap (λ (k : ℕ). goodFrom (from + c) k d) z)
+
+-- no column
+pub span-none : (t : Shape) (r c : ℕ) (d : List Float) → spanGood t r c c d ≡ true
+unfolding spanGood
+span-none t r c d = all-every (t .planes) _ (λ p h. good-none d _)
 
 -- columns a to below b, and b to below c
 pub span-join : (t : Shape) (r a b c : ℕ) (d : List Float) → a ≤ b → b ≤ c → (spanGood t r a b d && spanGood t r b c d) ≡ spanGood t r a c d

@@ -12,6 +12,10 @@ use Rattle.picture.specs.declared.Shape.{Shape}
 abbrev pub block : ℕ
 block = 1024
 
+-- the planes of three layers: so many are tested a column of cells at a time
+abbrev pub usual : ℕ
+usual = 5
+
 -- the samples from place `from` to below place `to` are good
 unfoldable pub goodFrom : ℕ → ℕ → List Float → Bool
 goodFrom from to d = allGood (drop from (take to d))

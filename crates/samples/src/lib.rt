@@ -8,7 +8,7 @@ ghost use lib.ListN.{length};
 ghost use Rattle.params.specs.Table.{goodSample, allGood};
 ghost use Rattle.picture.specs.Picture.{fourAt};
 ghost use Rattle.picture.specs.Place.{Around};
-ghost use Rattle.samples.specs.Samples.{block, goodFrom, spanGood, rowsGood};
+ghost use Rattle.samples.specs.Samples.{block, usual, goodFrom, spanGood, rowsGood};
 ghost use Rattle.samples.specs.Area.{Inset, areaGood};
 
 // The largest magnitude of a sample, 2^20.
@@ -17,6 +17,9 @@ const LIMIT: f32 = 1048576.0;
 // So many samples are tested between two looks at what came out: enough that the look costs nothing beside them, and few enough that a stack that is bad early is left early.
 // Any number above 0 would do.
 const BLOCK: usize = 1024;
+
+// The planes of three layers, which most stacks have: their cells are tested a column of cells at a time, in one run through the row. Any number would do.
+const USUAL: usize = 5;
 
 // The cells from row `top` to before row `bottom` and from column `left` to before column `right`.
 pub struct Area {
@@ -105,11 +108,38 @@ pub fn all_good(d: &[f32]) -> bool
     true
 }
 
+// Whether the cell (r, c) is good in each of the usual planes.
+fn column_good(d: &[f32], t: Shape, r: usize, c: usize) -> bool
+    requires { ⌜ (length (now d) ≡ t .planes * t .height * t .width) × ((t .planes ≡ usual) × ((r < t .height) × (c < t .width))) ⌝ }
+    ensures { λ b. ⌜ b ≡ spanGood t r c (c + 1) (now (d .entry)) ⌝ }
+{
+    let mut ok = true;
+    for p in 0..USUAL {
+        ok = ok & good_sample(d[p * (t.height * t.width) + r * t.width + c]);
+    }
+    ok
+}
+
+// Whether the cells of row r from column lo to below hi are: one run through the row, which the machine makes several columns at a time.
+fn columns_good(d: &[f32], t: Shape, r: usize, lo: usize, hi: usize) -> bool
+    requires { ⌜ (length (now d) ≡ t .planes * t .height * t .width) × ((t .planes ≡ usual) × ((r < t .height) × ((lo ≤ hi) × (hi ≤ t .width)))) ⌝ }
+    ensures { λ b. ⌜ b ≡ spanGood t r lo hi (now (d .entry)) ⌝ }
+{
+    let mut ok = true;
+    for c in lo..hi {
+        ok = ok & column_good(d, t, r, c);
+    }
+    ok
+}
+
 // Whether the cells of row r from column lo to below hi are good in every plane. The place is worked out from products that are no longer than the list, whatever the shape.
 pub fn span_good(d: &[f32], t: Shape, r: usize, lo: usize, hi: usize) -> bool
     requires { ⌜ (length (now d) ≡ t .planes * t .height * t .width) × ((r < t .height) × ((lo ≤ hi) × (hi ≤ t .width))) ⌝ }
     ensures { λ b. ⌜ b ≡ spanGood t r lo hi (now (d .entry)) ⌝ }
 {
+    if t.planes == USUAL {
+        return columns_good(d, t, r, lo, hi);
+    }
     let mut ok = true;
     for p in 0..t.planes {
         let from = p * (t.height * t.width) + r * t.width;

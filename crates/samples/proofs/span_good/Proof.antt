@@ -17,10 +17,16 @@ abbrev μ-loop : tie.MeasureT-loop
 μ-loop d t r lo hi ok₀ p₀ p-end ok p = t .planes - p
 
 -- where the row lies in the plane at hand
-here : (c : tie.In-loop Inv-loop μ-loop) → let a = c .before .before .before .args in Line (a .t .planes) (a .t .height) (a .t .width) (c .before .loop .p) (a .r)
+here : (c : tie.In-loop Inv-loop μ-loop) → let a = c .before .before .before .before .before .args in Line (a .t .planes) (a .t .height) (a .t .width) (c .before .loop .p) (a .r)
 here c =
-    let a = c .before .before .before .args in
+    let a = c .before .before .before .before .before .args in
     line (a .t .planes) (a .t .height) (a .t .width) (c .before .loop .p) (a .r) (omega arith) (omega arith)
+
+columns-good-requires : tie.Need-columns-good-requires Inv-loop μ-loop
+columns-good-requires c κs = let q = c .before .before .before .pre in (q .0, (c .if1 .taken, q .1))
+
+returns : tie.Need-returns Inv-loop μ-loop
+returns c = c .columns-good .ensures
 
 loop-holds : tie.Need-loop-holds Inv-loop μ-loop
 loop-holds c = (omega arith, refl, sym (every-none _))
@@ -55,14 +61,14 @@ loop-less c = search needs
 loop-again : tie.Need-loop-again Inv-loop μ-loop
 loop-again c =
     let l = c .before .before .before .before .loop in
-    let a = c .before .before .before .before .before .before .args in
+    let a = c .before .before .before .before .before .before .before .before .args in
     (omega arith, refl, span-more (a .t) (a .r) (a .lo) (a .hi) (now (a .d)) (l .p) _ _ _ (here (c .before .before .before) .is) (l .inv .2) (c .block-good .ensures))
 
-returns : tie.Need-returns Inv-loop μ-loop
+returns-2 : tie.Need-returns-2 Inv-loop μ-loop
 unfolding spanGood
-returns c =
+returns-2 c =
     let l = c .before .loop in
-    let a = c .before .before .before .args in
+    let a = c .before .before .before .before .before .args in
     let e : l .p ≡ a .t .planes = omega arith in
     rw e at (l .inv .2)
 
@@ -72,6 +78,8 @@ span-good-spec =
     (tie.spec
     Inv-loop
     μ-loop
+    columns-good-requires
+    returns
     loop-holds
     mul-from
     mul-from-2
@@ -83,4 +91,4 @@ span-good-spec =
     add-p
     loop-less
     loop-again
-    returns)
+    returns-2)

@@ -19,7 +19,7 @@ use Rattle.detect_extrema.specs.Scan.{keypointWords, words}
 use Rattle.detect.specs.Entry.{faultOf, listOf, extremaAnswer, extremaOut}
 use Rattle.detect.specs.Room.{formFault, sampleFault, roomAnswer, sampleAnswer}
 use Rattle.detect.proofs.Faults.{fault-in-turn}
-use Rattle.detect_rows.proofs.Words.{length-words, words-none, sets-pasted}
+use Rattle.detect_words.proofs.Words.{length-words, words-none, sets-pasted}
 
 module _ (k room : ℕ) where
   pub short : room < keypointWords * k → Short k ≡ answerOf 0 k (keypointWords * k) room

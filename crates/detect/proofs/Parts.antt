@@ -21,7 +21,7 @@ use Rattle.detect_extrema.specs.Scan.{rowOf, keypoints, keypointWords, words}
 use Rattle.detect_look.specs.Hints.{hinted}
 use Rattle.detect_look.proofs.Counted.{hinted-bound, cells-hinted}
 use Rattle.detect_rows.specs.Forms.{rowLeaves, rowsLeave, allAgain}
-use Rattle.detect_rows.proofs.Words.{length-words, words-append}
+use Rattle.detect_words.proofs.Words.{length-words, words-append}
 use Rattle.detect_rows.proofs.Forms.{rowsOf, rows-left, rows-count, rows-again}
 use Rattle.detect.specs.Front.{Held, rowsHinted}
 use Rattle.detect.proofs.Few.{keypoints-few}

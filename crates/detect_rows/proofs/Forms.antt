@@ -1,14 +1,14 @@
 -- What the search leaves of the keypoints that it finds, part for part: how long it is, that it is their words, and that the cells left give their words again.
 -- Assumes nothing.
-use Prim.Native.Nat.{ℕ, _+_, _-_, _*_, _/_, _%_, _<_, _≤_}
+use Prim.Native.Nat.{ℕ, _+_, _-_, _*_, _<_, _≤_}
 use mathlib.Core.Path.{_≡_, refl, sym, ap, _∙_}
 use mathlib.Core.Bool.{Bool, true, false, cond}
 use mathlib.Core.List.{List, [], _∷_, _++_, append-assoc, append-nil}
 use native.Mathlib.Nat.{le-trans, mul-le-mul}
 use native.Mathlib.Numerals.{add-one}
 use native.Mathlib.Omega.{arith}
-use lib.ListN.{length, getD, take, set, length-append}
-use lib.Seq.{sets, take-suc, getD-take}
+use lib.ListN.{length, getD, take, length-append}
+use lib.Seq.{take-suc, getD-take}
 use lib.Ieee.{Float}
 use Rattle.lists.specs.Each.{Each, none}
 use Rattle.lists.specs.Ranges.{joined}
@@ -24,41 +24,12 @@ use Rattle.detect_keypoint.specs.declared.RawKeypoint.{RawKeypoint}
 use Rattle.detect_refine.specs.declared.Refined.{Refined}
 use Rattle.detect_refine.specs.declared.Refined.the-variants.{Dropped, At}
 use Rattle.detect_extrema.specs.Neighbours.{tied, candidate}
-use Rattle.detect_extrema.specs.Scan.{kept, cellOf, found, cellsOf, rowOf, keypointWords, words, wordsOf}
+use Rattle.detect_extrema.specs.Scan.{kept, cellOf, found, cellsOf, rowOf, keypointWords, words}
 use Rattle.detect_extrema.proofs.Rows.{cells-bound}
-use Rattle.detect_rows.specs.Forms.{cellWord, cellAt, leaves, runLeaves, rowLeaves, rowsLeave, again, allAgain, Cells}
-use Rattle.detect_rows.proofs.Words.{Filled, filled-none, words-append, words-none}
-
--- ---- what one cell leaves
-pub leaves-none : (cells : Bool) (r c : ℕ) → leaves cells r c [] ≡ []
-unfolding words
-leaves-none true r c = refl
-leaves-none false r c = refl
-
-pub leaves-one : (r c : ℕ) (k : RawKeypoint) → leaves false r c (k ∷ []) ≡ wordsOf k
-unfolding words
-leaves-one r c k = refl
-
-few-one : (cells : Bool) (r c : ℕ) (k : RawKeypoint) → length (leaves cells r c (k ∷ [])) ≤ keypointWords
-few-one true r c k = omega arith
-few-one false r c k = rw (leaves-one r c k) (omega arith)
-
-module _ (cells : Bool) (r c : ℕ) (x : Refined) (old : List ℕ) (from : ℕ) where
-  pub left-dropped : x ≡ Dropped → Filled old from (leaves cells r c (kept x)) old 0
-  left-dropped e = filled-none old (leaves cells r c (kept x)) from (rw e (leaves-none cells r c))
-
-  pub left-cell : (out : List ℕ) (k : RawKeypoint) (w : ℕ) → cells ≡ true → x ≡ At k → w ≡ cellWord r c → out ≡ set old from w → Filled old from (leaves cells r c (kept x)) out 1
-  left-cell out k w b e v o = rw (b, e) (refl, rw v at o)
-
-  pub left-words : (out : List ℕ) (k : RawKeypoint) → cells ≡ false → x ≡ At k → out ≡ sets old from (wordsOf k) → Filled old from (leaves cells r c (kept x)) out keypointWords
-  left-words out k b e o = rw (b, e, leaves-one r c k) (refl, o)
-
--- a cell's word is read as that cell
-pub cell-back : (s : Search) (r c : ℕ) → c < maxSide → cellAt s (cellWord r c) ≡ cellOf s r c
-cell-back s r c l =
-    let a : cellWord r c / maxSide ≡ r = omega arith in
-    let b : cellWord r c % maxSide ≡ c = omega arith in
-    rw (a, b)
+use Rattle.detect_words.specs.Leaves.{cellWord, cellAt, leaves}
+use Rattle.detect_rows.specs.Forms.{runLeaves, rowLeaves, rowsLeave, again, allAgain, Cells}
+use Rattle.detect_words.proofs.Words.{words-append, words-none}
+use Rattle.detect_words.proofs.Leaves.{leaves-none, few-one, cell-back}
 
 -- the keypoints of the rows from lo to below hi
 abbrev pub rowsOf : List Float → Shape → Search → ℕ → ℕ → List RawKeypoint

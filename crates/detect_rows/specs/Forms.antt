@@ -1,31 +1,18 @@
--- Inner: what the search leaves of the keypoints that it finds, their words or the cells where they began; no part of a public contract. Definitions only.
-use Prim.Native.Nat.{ℕ, _+_, _-_, _*_, _/_, _%_, _<_}
-use mathlib.Core.Bool.{Bool, true, false}
-use mathlib.Core.List.{List, [], _∷_, _++_, map}
+-- Inner: what runs and rows of cells leave of the keypoints found there, and what held cells give again; no part of a public contract. Definitions only.
+use Prim.Native.Nat.{ℕ, _-_, _<_}
+use mathlib.Core.Bool.{Bool}
+use mathlib.Core.List.{List, [], _∷_, _++_}
 use lib.ListN.{getD}
 use lib.Ieee.{Float}
 use Rattle.lists.specs.Ranges.{joined}
-use Rattle.params.specs.Limits.{border, maxSide}
+use Rattle.params.specs.Limits.{border}
 use Rattle.picture.specs.declared.Shape.{Shape}
 use Rattle.detect_refine.specs.Settle.{refineOf}
 use Rattle.detect_refine.specs.Place.{Placed}
-use Rattle.detect_keypoint.specs.declared.Cell.{Cell}
 use Rattle.detect_keypoint.specs.declared.Search.{Search}
-use Rattle.detect_keypoint.specs.declared.RawKeypoint.{RawKeypoint}
 use Rattle.detect_extrema.specs.Neighbours.{tied}
-use Rattle.detect_extrema.specs.Scan.{kept, cellOf, found, words}
-
--- a cell of the layer as one word, and back
-abbrev pub cellWord : ℕ → ℕ → ℕ
-cellWord r c = r * maxSide + c
-
-abbrev pub cellAt : Search → ℕ → Cell
-cellAt s w = cellOf s (w / maxSide) (w % maxSide)
-
--- what the keypoints found at row r, column c, leave: the word of that cell for each, or their words
-abbrev pub leaves : Bool → ℕ → ℕ → List RawKeypoint → List ℕ
-leaves true r c ks = map (λ _. cellWord r c) ks
-leaves false r c ks = words ks
+use Rattle.detect_extrema.specs.Scan.{kept, found, words}
+use Rattle.detect_words.specs.Leaves.{cellAt, leaves}
 
 -- what the cells of a row from column lo to below hi leave
 abbrev pub runLeaves : Bool → List Float → Shape → Search → ℕ → ℕ → ℕ → List ℕ

@@ -10,7 +10,7 @@ use Rattle.lists.proofs.Ranges.{joined-start}
 use Rattle.params.specs.Limits.{border, maxSide}
 use Rattle.detect_extrema.specs.Scan.{keypointWords}
 use Rattle.detect_rows.specs.Forms.{rowLeaves, rowsLeave}
-use Rattle.detect_rows.proofs.Words.{Filled, filled-none, filled-part}
+use Rattle.detect_words.proofs.Words.{Filled, filled-none, filled-part}
 use Rattle.detect_rows.proofs.Forms.{row-bound, rows-few}
 use Rattle.detect.proofs.rest_words.Statement.{statement}
 use Rattle.detect.proofs.rest_words.Tie as tie

@@ -8,7 +8,7 @@ use borrow.Author.Tests.{not-true, not-false}
 use Rattle.params.specs.Limits.{border}
 use Rattle.detect_extrema.specs.Neighbours.{tied}
 use Rattle.detect_extrema.specs.Scan.{keypoints, keypointWords}
-use Rattle.detect_rows.proofs.Words.{length-words}
+use Rattle.detect_words.proofs.Words.{length-words}
 use Rattle.detect.proofs.Answers.{gave, bad, good}
 use Rattle.detect.proofs.Few.{few-cells, cells-few}
 use Rattle.detect.proofs.Parts.{all-left}

@@ -3,7 +3,7 @@ use borrow.Author.Needs.{needs}
 use borrow.Author.Tests.{not-true}
 use denote.Ref.{now}
 use Rattle.detect_look.proofs.Looks.{unseen-cells}
-use Rattle.detect_rows.proofs.Words.{filled-none}
+use Rattle.detect_words.proofs.Words.{filled-none}
 use Rattle.detect_rows.proofs.Forms.{run-quiet}
 use Rattle.detect_rows.proofs.group_words.Statement.{statement}
 use Rattle.detect_rows.proofs.group_words.Tie as tie

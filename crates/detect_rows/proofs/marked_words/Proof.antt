@@ -10,8 +10,9 @@ use Rattle.lists.proofs.Ranges.{joined-start}
 use Rattle.detect_extrema.specs.Neighbours.{tied}
 use Rattle.detect_extrema.specs.Scan.{found, keypointWords}
 use Rattle.detect_look.proofs.Looks.{marks-read}
-use Rattle.detect_rows.specs.Forms.{leaves, runLeaves}
-use Rattle.detect_rows.proofs.Words.{Filled, filled-none, filled-part}
+use Rattle.detect_words.specs.Leaves.{leaves}
+use Rattle.detect_rows.specs.Forms.{runLeaves}
+use Rattle.detect_words.proofs.Words.{Filled, filled-none, filled-part}
 use Rattle.detect_rows.proofs.Forms.{cell-bound, run-bound}
 use Rattle.detect_rows.proofs.marked_words.Statement.{statement}
 use Rattle.detect_rows.proofs.marked_words.Tie as tie

@@ -8,7 +8,7 @@ use lib.ListN.{length, take, getD}
 use lib.Seq.{length-sets}
 use Rattle.detect_extrema.specs.Scan.{keypointWords}
 use Rattle.detect_rows.specs.Forms.{again, allAgain}
-use Rattle.detect_rows.proofs.Words.{Filled, filled-none, filled-more}
+use Rattle.detect_words.proofs.Words.{Filled, filled-none, filled-more}
 use Rattle.detect_rows.proofs.Forms.{again-none, again-more, again-bound}
 use Rattle.detect_rows.proofs.refined_words.Statement.{statement}
 use Rattle.detect_rows.proofs.refined_words.Tie as tie

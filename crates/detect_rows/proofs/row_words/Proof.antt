@@ -15,8 +15,9 @@ use Rattle.picture.specs.declared.Shape.{Shape}
 use Rattle.samples.proofs.Spans.{span-join}
 use Rattle.detect_extrema.specs.Neighbours.{tied}
 use Rattle.detect_extrema.specs.Scan.{found, keypointWords}
-use Rattle.detect_rows.specs.Forms.{leaves, runLeaves, rowLeaves}
-use Rattle.detect_rows.proofs.Words.{Filled, filled-none, filled-parts}
+use Rattle.detect_words.specs.Leaves.{leaves}
+use Rattle.detect_rows.specs.Forms.{runLeaves, rowLeaves}
+use Rattle.detect_words.proofs.Words.{Filled, filled-none, filled-parts}
 use Rattle.detect_rows.proofs.Forms.{run-bound}
 use Rattle.detect_rows.proofs.row_words.Statement.{statement}
 use Rattle.detect_rows.proofs.row_words.Tie as tie

@@ -1,8 +1,8 @@
 use mathlib.Core.Path.{sym}
 use lib.Seq.{set-out}
 use borrow.Author.Needs.{needs}
-use Rattle.detect_rows.proofs.put_word.Statement.{statement}
-use Rattle.detect_rows.proofs.put_word.Tie as tie
+use Rattle.detect_words.proofs.put_word.Statement.{statement}
+use Rattle.detect_words.proofs.put_word.Tie as tie
 
 mul-out : tie.Need-mul-out
 mul-out c = search needs

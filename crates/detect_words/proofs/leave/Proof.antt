@@ -1,7 +1,7 @@
 use borrow.Author.Needs.{needs}
-use Rattle.detect_rows.proofs.Forms.{left-dropped, left-cell, left-words}
-use Rattle.detect_rows.proofs.leave.Statement.{statement}
-use Rattle.detect_rows.proofs.leave.Tie as tie
+use Rattle.detect_words.proofs.Leaves.{left-dropped, left-cell, left-words}
+use Rattle.detect_words.proofs.leave.Statement.{statement}
+use Rattle.detect_words.proofs.leave.Tie as tie
 
 enum-known-x : tie.Need-enum-known-x
 enum-known-x c = search needs

@@ -1,7 +1,7 @@
 use mathlib.Core.Path.{_∙_}
 use borrow.Author.Needs.{needs}
-use Rattle.detect_rows.proofs.put.Statement.{statement}
-use Rattle.detect_rows.proofs.put.Tie as tie
+use Rattle.detect_words.proofs.put.Statement.{statement}
+use Rattle.detect_words.proofs.put.Tie as tie
 
 bits-of-requires : tie.Need-bits-of-requires
 bits-of-requires c κs = search needs

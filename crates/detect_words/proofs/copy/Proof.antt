@@ -5,9 +5,9 @@ use native.Mathlib.Omega.{arith}
 use lib.ListN.{length, take}
 use lib.Seq.{sets, length-sets}
 use borrow.Author.Needs.{needs}
-use Rattle.detect_rows.proofs.Words.{sets-more}
-use Rattle.detect_rows.proofs.copy.Statement.{statement}
-use Rattle.detect_rows.proofs.copy.Tie as tie
+use Rattle.detect_words.proofs.Words.{sets-more}
+use Rattle.detect_words.proofs.copy.Statement.{statement}
+use Rattle.detect_words.proofs.copy.Tie as tie
 
 abbrev Inv-loop : tie.InvT-loop
 Inv-loop from m out₀ at i₀ out i = (i ≤ m) × (out ≡ sets out₀ at (take i from))

@@ -1,12 +1,12 @@
 -- Keypoints as words: how long they are, and how lists are written one behind the other. Assumes nothing.
-use Prim.Native.Nat.{ℕ, zero, suc, _+_, _*_, _<_, _≤_}
-use mathlib.Core.Path.{_≡_, refl, sym, ap, _∙_}
+use Prim.Native.Nat.{ℕ, _+_, _*_, _<_, _≤_}
+use mathlib.Core.Path.{_≡_, refl, sym, _∙_}
 use mathlib.Core.List.{List, [], _∷_, _++_}
 use native.Mathlib.Nat.{zero-add}
 use native.Mathlib.Numerals.{add-one}
 use native.Mathlib.Omega.{arith}
 use lib.ListN.{length, getD, take, set, length-append}
-use lib.Seq.{sets, take-suc, take-length, length-take-le, length-sets}
+use lib.Seq.{sets, take-suc, length-take-le}
 use Rattle.lists.specs.Ranges.{joined}
 use Rattle.lists.specs.Pasted.{pasted}
 use Rattle.lists.proofs.Ranges.{joined-more, joined-split, sets-append, sets-front}
@@ -36,18 +36,6 @@ module _ {A : Type 0} where
       let q = sets-append (take i s) (getD s i z ∷ []) l at in
       rw e (rw n at q)
 
-  sets-tail : (x : A) (l vs : List A) (i : ℕ) → sets (x ∷ l) (suc i) vs ≡ x ∷ sets l i vs
-  sets-tail x l [] i = refl
-  sets-tail x l (v ∷ vs) i = sets-tail x (set l i v) vs (suc i)
-
-  -- the front of what was written over the front
-  pub take-sets : (n : ℕ) (l vs : List A) → n ≤ length l → n ≤ length vs → take n (sets l 0 vs) ≡ take n vs
-  take-sets zero l vs a b = refl
-  take-sets (suc n) [] vs a b = absurd (omega arith)
-  take-sets (suc n) (x ∷ l) [] a b = absurd (omega arith)
-  take-sets (suc n) (x ∷ l) (v ∷ vs) a b =
-      rw (sets-tail v l vs 0, take-sets n l vs (omega arith) (omega arith))
-
   pub sets-pasted : (l vs : List A) → length vs ≤ length l → sets l 0 vs ≡ pasted 0 vs l
   unfolding pasted
   sets-pasted l vs h = rw zero-add (sets-front l vs h)
@@ -70,9 +58,3 @@ module _ (old : List ℕ) (from lo mid : ℕ) (f : ℕ → List ℕ) (out out' :
 
   pub filled-parts : (hi : ℕ) → mid ≤ hi → Filled out (from + n) (joined mid hi f) out' x → Filled old from (joined lo hi f) out' (n + x)
   filled-parts hi b q = filled-more old from (joined lo mid f) (joined mid hi f) (joined lo hi f) out out' n x (sym (joined-split lo mid hi f a b)) p q
-
--- what is written over a list that has room for it is its front
-pub held : (ws old out : List ℕ) (n : ℕ) → Filled old 0 ws out n → n ≤ length out → take n out ≡ ws
-held ws old out n p room =
-    let r : length out ≡ length old = ap length (p .1) ∙ simp length-sets in
-    rw (p .1, p .0) (take-sets (length ws) old ws (omega arith) (omega arith) ∙ take-length ws)

@@ -24,7 +24,7 @@ use Rattle.detect_extrema.specs.Scan.{kept, cellOf, found, rowOf, keypoints}
 use Rattle.lists.proofs.Each.{each-at}
 use Rattle.detect.specs.Rules.{DetectRule}
 use Rattle.detect.proofs.Faults.{Right, right}
-use Rattle.detect.proofs.Few.{few-cells}
+use Rattle.detect_hold.proofs.Few.{few-cells}
 
 -- ---- what holds of each keypoint that a cell of the border's inside is refined to holds of every one of the list
 abbrev Held : (RawKeypoint → Type 0) → List Float → Shape → Search → Type 0

@@ -1,5 +1,4 @@
 pub mod Entry
 pub mod Room
-pub mod Front
 pub mod SignLaw
 pub mod Rules

@@ -8,8 +8,8 @@ use Rattle.params.specs.Limits.{border, maxSide}
 use Rattle.detect_extrema.specs.Neighbours.{tied}
 use Rattle.detect_extrema.specs.Scan.{keypoints}
 use Rattle.detect.proofs.Answers.{gave, lacked}
-use Rattle.detect.proofs.Few.{keypoints-few}
-use Rattle.detect.proofs.Parts.{hints-few, held-few, held-most, held-all}
+use Rattle.detect_hold.proofs.Few.{keypoints-few}
+use Rattle.detect_hold.proofs.Parts.{hints-few, held-few, held-most, held-all}
 use Rattle.detect.proofs.land.Statement.{statement}
 use Rattle.detect.proofs.land.Tie as tie
 
@@ -70,7 +70,7 @@ mul-if2 c =
 returns-2 : tie.Need-returns-2
 returns-2 c =
     let a = c .before .before .before .before .before .before .before .before .before .before .before .args in
-    let g = lacked (keypoints tied (now (a .dog)) (a .t) (a .s)) _ _ (counted (c .before .before .before)) (c .if2 .taken) in
+    let g = lacked (keypoints tied (now (a .dog)) (a .t) (a .s)) (now (a .out)) _ (counted (c .before .before .before)) (omega (arith, c .if2 .taken)) in
     (g .answer, g .left)
 
 write-requires-2 : tie.Need-write-requires-2

@@ -10,8 +10,8 @@ use Rattle.detect_extrema.specs.Neighbours.{tied}
 use Rattle.detect_extrema.specs.Scan.{keypoints, keypointWords}
 use Rattle.detect_words.proofs.Words.{length-words}
 use Rattle.detect.proofs.Answers.{gave, bad, good}
-use Rattle.detect.proofs.Few.{few-cells, cells-few}
-use Rattle.detect.proofs.Parts.{all-left}
+use Rattle.detect_hold.proofs.Few.{few-cells, cells-few}
+use Rattle.detect_hold.proofs.Parts.{all-left}
 use Rattle.detect.proofs.search.Statement.{statement}
 use Rattle.detect.proofs.search.Tie as tie
 

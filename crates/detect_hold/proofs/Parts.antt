@@ -23,8 +23,8 @@ use Rattle.detect_look.proofs.Counted.{hinted-bound, cells-hinted}
 use Rattle.detect_rows.specs.Forms.{rowLeaves, rowsLeave, allAgain}
 use Rattle.detect_words.proofs.Words.{length-words, words-append}
 use Rattle.detect_rows.proofs.Forms.{rowsOf, rows-left, rows-count, rows-again}
-use Rattle.detect.specs.Front.{Held, rowsHinted}
-use Rattle.detect.proofs.Few.{keypoints-few}
+use Rattle.detect_hold.specs.Front.{Holds, rowsHinted}
+use Rattle.detect_hold.proofs.Few.{keypoints-few}
 
 module _ (d : List Float) (t : Shape) (s : Search) where
   -- ---- hints of rows
@@ -35,6 +35,10 @@ module _ (d : List Float) (t : Shape) (s : Search) where
   pub hints-more : (from r n x : ℕ) → from ≤ r → n ≡ length (rowsHinted d t s from r) → x ≡ length (hinted d t s r border (t .width - border)) → n + x ≡ length (rowsHinted d t s from (r + 1))
   unfolding rowsHinted
   hints-more from r n x l p q = rw (joined-more from r (λ r. hinted d t s r border (t .width - border)) l, length-append, p, q)
+
+  -- a row has no more of them than cells
+  pub row-hints : (r lo hi x : ℕ) → x ≡ length (hinted d t s r lo hi) → x ≤ hi - lo
+  row-hints r lo hi x e = rw e (hinted-bound d t s r lo hi)
 
   pub hints-few : (from r : ℕ) → r ≤ maxSide → t .width ≤ maxSide → length (rowsHinted d t s from r) ≤ maxSide * maxSide
   unfolding rowsHinted
@@ -84,18 +88,18 @@ take-with {A} n l vs h =
     ∙ take-at (take n l ++ vs) rest (n + length vs) (rw (length-append, z))
 
 module _ (d : List Float) (t : Shape) (s : Search) where
-  pub held-none : (hold : List ℕ) → 2 * border < t .height → Held d t s border 0 hold
+  pub held-none : (hold : List ℕ) → 2 * border < t .height → Holds d t s border 0 hold
   unfolding rowsLeave
   held-none hold h =
       let e = joined-start border (λ r. rowLeaves true d t s r) in
       record { above = omega arith; below = omega arith; count = rw e; fits = omega arith; cells = rw e }
 
-  module _ (r n m : ℕ) (hold new : List ℕ) (k : Held d t s r n hold) (e : new ≡ sets hold n (rowLeaves true d t s r)) where
-    pub held-kept : Held d t s r n new
+  module _ (r n m : ℕ) (hold new : List ℕ) (k : Holds d t s r n hold) (e : new ≡ sets hold n (rowLeaves true d t s r)) where
+    pub held-kept : Holds d t s r n new
     held-kept =
         record { above = k .above; below = k .below; count = k .count; fits = rw (e, length-sets) (k .fits); cells = rw e (take-behind n hold (rowLeaves true d t s r) n (omega arith)) ∙ k .cells }
 
-    pub held-more : r < t .height - border → m ≡ length (rowLeaves true d t s r) → m ≤ length hold - n → Held d t s (r + 1) (n + m) new
+    pub held-more : r < t .height - border → m ≡ length (rowLeaves true d t s r) → m ≤ length hold - n → Holds d t s (r + 1) (n + m) new
     unfolding rowsLeave
     held-more l q f =
         let j = joined-more border r (λ r. rowLeaves true d t s r) (k .above) in
@@ -108,7 +112,7 @@ module _ (d : List Float) (t : Shape) (s : Search) where
         }
 
   -- ---- all of them written: the cells that are held refined again, and the rest searched
-  module _ (len : ℕ) (q : Searched len t s) (r k : ℕ) (hold : List ℕ) (h : Held d t s r k hold) where
+  module _ (len : ℕ) (q : Searched len t s) (r k : ℕ) (hold : List ℕ) (h : Holds d t s r k hold) where
     pub held-count : k ≡ length (rowsOf d t s border r)
     held-count = h .count ∙ rows-count d t s border r
 

@@ -13,7 +13,7 @@ use Rattle.detect_look.specs.Hints.{hinted}
 use Rattle.detect_rows.specs.Forms.{rowsLeave}
 
 -- the cells of all keypoints of the rows above r, n of them, are the first words of what is held
-pub record Held (d : List Float) (t : Shape) (s : Search) (r n : ℕ) (hold : List ℕ) : Type 0 where
+pub record Holds (d : List Float) (t : Shape) (s : Search) (r n : ℕ) (hold : List ℕ) : Type 0 where
   pub above : border ≤ r
   pub below : r ≤ t .height - border
   pub count : n ≡ length (rowsLeave true d t s border r)

@@ -3,9 +3,9 @@ use native.Mathlib.Omega.{arith}
 use denote.Ref.{now}
 use borrow.Author.Needs.{needs}
 use Rattle.params.specs.Limits.{border}
-use Rattle.detect.proofs.Tested.{tested}
-use Rattle.detect.proofs.front_of.Statement.{statement}
-use Rattle.detect.proofs.front_of.Tie as tie
+use Rattle.detect_hold.proofs.Tested.{tested}
+use Rattle.detect_hold.proofs.front_of.Statement.{statement}
+use Rattle.detect_hold.proofs.front_of.Tie as tie
 
 add-rows-good : tie.Need-add-rows-good
 add-rows-good c = search needs

@@ -12,8 +12,8 @@ use Rattle.detect_extrema.specs.Scan.{keypointWords}
 use Rattle.detect_rows.specs.Forms.{rowLeaves, rowsLeave}
 use Rattle.detect_words.proofs.Words.{Filled, filled-none, filled-part}
 use Rattle.detect_rows.proofs.Forms.{row-bound, rows-few}
-use Rattle.detect.proofs.rest_words.Statement.{statement}
-use Rattle.detect.proofs.rest_words.Tie as tie
+use Rattle.detect_hold.proofs.rest_words.Statement.{statement}
+use Rattle.detect_hold.proofs.rest_words.Tie as tie
 
 abbrev Inv-loop : tie.InvT-loop
 Inv-loop dog t s from p out₀ n₀ r₀ r-end out n r =

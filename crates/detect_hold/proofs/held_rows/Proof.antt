@@ -10,20 +10,21 @@ use borrow.Author.Tests.{not-true, not-false}
 use Rattle.params.specs.Limits.{border}
 use Rattle.samples.specs.Samples.{rowsGood}
 use Rattle.samples.proofs.Rows.{rows-none, rows-more, row-bad}
-use Rattle.detect.specs.Front.{Held}
-use Rattle.detect.proofs.Parts.{held-none, held-kept, held-more}
-use Rattle.detect.proofs.held_rows.Statement.{statement}
-use Rattle.detect.proofs.held_rows.Tie as tie
+use Rattle.detect_rows.proofs.Forms.{row-bound}
+use Rattle.detect_hold.specs.Front.{Holds}
+use Rattle.detect_hold.proofs.Parts.{held-none, held-kept, held-more}
+use Rattle.detect_hold.proofs.held_rows.Statement.{statement}
+use Rattle.detect_hold.proofs.held_rows.Tie as tie
 
 abbrev Inv-loop : tie.InvT-loop
 Inv-loop dog t s hold₀ end n₀ r₀ hold n r =
-    (length hold ≡ length hold₀) × (end ≡ t .height - border) × Held dog t s r n hold × (rowsGood t (border + 1) (r + 1) dog ≡ true)
+    (length hold ≡ length hold₀) × (end ≡ t .height - border) × Holds dog t s r n hold × (rowsGood t (border + 1) (r + 1) dog ≡ true)
 
 abbrev μ-loop : tie.MeasureT-loop
 μ-loop dog t s hold₀ end n₀ r₀ hold n r = t .height - r
 
 -- what is held after a row was searched, as far as it was held before; and how long the list is that holds it
-kept : (w : tie.After-row-words Inv-loop μ-loop) → let a = w .before .before .before .before .before .before .before .args in let l = w .before .before .before .loop in Held (now (a .dog)) (a .t) (a .s) (l .r) (l .n) (w .row-words .last .1 .1 .1 .1 .1 .0)
+kept : (w : tie.After-row-words Inv-loop μ-loop) → let a = w .before .before .before .before .before .before .before .args in let l = w .before .before .before .loop in Holds (now (a .dog)) (a .t) (a .s) (l .r) (l .n) (w .row-words .last .1 .1 .1 .1 .1 .0)
 kept w = held-kept _ _ _ _ _ 0 _ _ (w .before .before .before .loop .inv .2) (w .row-words .ensures .1 .1)
 
 length-of : (w : tie.After-row-words Inv-loop μ-loop) → length (w .row-words .last .1 .1 .1 .1 .1 .0) ≡ length (now (w .before .before .before .before .before .before .before .args .hold))
@@ -65,7 +66,11 @@ returns-2 c =
     (kept w, (λ _. w .before .before .before .loop .inv .3, λ e. absurd (true≢false e)))
 
 add-n : tie.Need-add-n Inv-loop μ-loop
-add-n c = omega (arith, kept (c .before .before .before .before .before .before .before) .fits, c .before .if2 .left)
+add-n c =
+    let w = c .before .before .before .before .before .before .before in
+    let l = w .before .before .before .loop in
+    let a = w .before .before .before .before .before .before .before .args in
+    omega (arith, kept w .fits, w .row-words .ensures .0, row-bound (now (a .dog)) (a .t) (a .s) true (l .r))
 
 add-r : tie.Need-add-r Inv-loop μ-loop
 add-r c = search needs

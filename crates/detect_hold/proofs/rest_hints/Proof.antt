@@ -5,11 +5,10 @@ use denote.Ref.{now}
 use lib.ListN.{length}
 use borrow.Author.Needs.{needs}
 use Rattle.params.specs.Limits.{border, maxSide}
-use Rattle.detect.specs.Front.{rowsHinted}
-use Rattle.detect.proofs.Parts.{hints-none, hints-more, hints-few}
-use Rattle.detect_look.proofs.Counted.{hinted-bound}
-use Rattle.detect.proofs.rest_hints.Statement.{statement}
-use Rattle.detect.proofs.rest_hints.Tie as tie
+use Rattle.detect_hold.specs.Front.{rowsHinted}
+use Rattle.detect_hold.proofs.Parts.{hints-none, hints-more, row-hints, hints-few}
+use Rattle.detect_hold.proofs.rest_hints.Statement.{statement}
+use Rattle.detect_hold.proofs.rest_hints.Tie as tie
 
 abbrev Inv-loop : tie.InvT-loop
 Inv-loop dog t s from n₀ r₀ r-end n r =
@@ -38,9 +37,7 @@ hint-count-requires c κs = search needs
 
 add-n : tie.Need-add-n Inv-loop μ-loop
 add-n c =
-    let l = c .before .before .before in
-    let a = l .before .before .before .args in
-    omega (arith, bounded l, c .hint-count .ensures, hinted-bound (now (a .dog)) (a .t) (a .s) (l .loop .r) border (a .t .width - border))
+    omega (arith, bounded (c .before .before .before), row-hints _ _ _ _ _ _ _ (c .hint-count .ensures))
 
 add-r : tie.Need-add-r Inv-loop μ-loop
 add-r c = search needs

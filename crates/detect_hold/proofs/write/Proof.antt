@@ -5,9 +5,9 @@ use denote.Ref.{now}
 use borrow.Author.Needs.{needs}
 use Rattle.params.specs.Limits.{border, maxSide}
 use Rattle.detect_rows.proofs.Forms.{rows-left, held-cells}
-use Rattle.detect.proofs.Parts.{parts-written, held-count, held-again, held-few, all-counted}
-use Rattle.detect.proofs.write.Statement.{statement}
-use Rattle.detect.proofs.write.Tie as tie
+use Rattle.detect_hold.proofs.Parts.{parts-written, held-count, held-again, held-few, all-counted}
+use Rattle.detect_hold.proofs.write.Statement.{statement}
+use Rattle.detect_hold.proofs.write.Tie as tie
 
 -- so few that no sum of places wraps
 few : (c : tie.Start) → c .args .f .count ≤ maxSide * maxSide

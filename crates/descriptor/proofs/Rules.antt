@@ -10,7 +10,7 @@ use Rattle.lists.proofs.Each.{each-weaker}
 use Rattle.params.specs.Limits.{valueCount}
 use Rattle.picture.specs.declared.Size.{Size}
 use Rattle.hal_turn.specs.Turn.{inTurn}
-use Rattle.orient.specs.declared.OrientedKeypoint.{OrientedKeypoint}
+use Rattle.orient_words.specs.declared.OrientedKeypoint.{OrientedKeypoint}
 use Rattle.descriptor_inputs.specs.Inputs.{inputsOf}
 use Rattle.descriptor_inputs.specs.Rules.{Taken}
 use Rattle.descriptor_run.specs.Cells.{samplesOf}

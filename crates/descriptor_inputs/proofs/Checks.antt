@@ -14,7 +14,7 @@ use mir.Val.{SFits, toZ, ofZ}
 use mir.ValLaws.{toZ-ofZ}
 use Rattle.params.specs.Limits.{maxOctave}
 use Rattle.params.specs.Table.{firstFault}
-use Rattle.orient.specs.declared.OrientedKeypoint.{OrientedKeypoint}
+use Rattle.orient_words.specs.declared.OrientedKeypoint.{OrientedKeypoint}
 use Rattle.descriptor_inputs.specs.Inputs.{octaveWrong, octaveOf, orientedWrong, inputsFault, givenOf, refusedWith, inputsOf}
 
 -- ---- the response: only a not-a-number differs from itself

@@ -24,9 +24,10 @@ use Rattle.picture.specs.declared.Size.{Size}
 use Rattle.detect_keypoint.specs.Sound.{Sound}
 use Rattle.detect_keypoint.specs.declared.RawKeypoint.{RawKeypoint}
 use Rattle.lists.proofs.Every.{every-all}
-use Rattle.orient.specs.Entry.{orientedOf, orientedList}
+use Rattle.orient_words.specs.Oriented.{orientedOf}
+use Rattle.orient_words.specs.declared.OrientedKeypoint.{OrientedKeypoint}
+use Rattle.orient.specs.Entry.{orientedList}
 use Rattle.orient.specs.Rules.{Passed}
-use Rattle.orient.specs.declared.OrientedKeypoint.{OrientedKeypoint}
 use Rattle.orient.proofs.Rules.{orient-rule}
 use Rattle.descriptor_inputs.specs.Inputs.{octaveWrong, orientedWrong, shrinkOf, reversedOf, givenOf, inputsOf}
 use Rattle.descriptor_inputs.specs.Rules.{Taken, InputRule}

@@ -11,7 +11,7 @@ use Rattle.ieee.specs.Numbers.{nought, half, one, wholeTurn, epsilon}
 use Rattle.params.specs.Limits.{maxOctave}
 use Rattle.params.specs.Table.{line, firstFault, within}
 use Rattle.params.specs.Answers.{onFault}
-use Rattle.orient.specs.declared.OrientedKeypoint.{OrientedKeypoint}
+use Rattle.orient_words.specs.declared.OrientedKeypoint.{OrientedKeypoint}
 use Rattle.descriptor_inputs.specs.declared.Inputs.{Inputs}
 
 -- 4: octave not in 0 to 15 (rule A7)

@@ -13,8 +13,9 @@ use Rattle.params.specs.declared.Settings.{Settings}
 use Rattle.picture.specs.declared.Size.{Size}
 use Rattle.detect_keypoint.specs.Sound.{Sound}
 use Rattle.detect_keypoint.specs.declared.RawKeypoint.{RawKeypoint}
-use Rattle.orient.specs.Entry.{orientedOf, orientedList}
-use Rattle.orient.specs.declared.OrientedKeypoint.{OrientedKeypoint}
+use Rattle.orient_words.specs.Oriented.{orientedOf}
+use Rattle.orient_words.specs.declared.OrientedKeypoint.{OrientedKeypoint}
+use Rattle.orient.specs.Entry.{orientedList}
 use Rattle.descriptor_inputs.specs.Inputs.{reversedOf, givenOf, inputsOf}
 
 -- the oriented keypoint of that octave is accepted, and its scale and angle lie where the descriptor takes them

@@ -1,6 +1,6 @@
 // What the descriptor is asked with for an oriented keypoint: position and scale in its octave's cells, and the angle turned round.
 
-use orient::OrientedKeypoint;
+use orient_words::OrientedKeypoint;
 ghost use mathlib.Core.Path.{_≡_};
 ghost use Prim.Native.Nat.{_≤_};
 ghost use Rattle.params.specs.Limits.{maxOctave};

@@ -1,53 +1,25 @@
--- The answer and the lent words, by cases: room or none, a fault or none. Assumes nothing.
-use Prim.Native.Nat.{ℕ, zero, suc, _*_, _<_, _≤_, min}
+-- The answer and the lent words, by cases: a fault or none. Assumes nothing.
+use Prim.Native.Nat.{ℕ, zero, suc, _≤_}
 use mathlib.Core.Path.{_≡_, refl, sym, ap, _∙_, subst}
-use mathlib.Core.List.{List, map}
+use mathlib.Core.List.{List}
 use native.Mathlib.Omega.{arith}
-use borrow.Author.Tests.{le-leb, lt-leb}
 use lib.ListN.{length, take, length-take}
 use lib.Ieee.{Float}
-use Rattle.lists.specs.Pasted.{pasted}
-use Rattle.params.specs.Answers.{answerOf, landed, onFault}
-use Rattle.params.specs.declared.Answer.{Answer}
-use Rattle.params.specs.declared.Answer.the-variants.{Done, Short, Refused}
+use Rattle.params.specs.Answers.{answerOf}
+use Rattle.params.specs.declared.Answer.the-variants.{Refused}
 use Rattle.picture.specs.declared.Size.{Size}
 use Rattle.detect_keypoint.specs.declared.RawKeypoint.{RawKeypoint}
 use Rattle.orient_window.specs.Window.{cellsRead}
 use Rattle.orient_tally.specs.Sample.{bins}
 use Rattle.orient_peaks.specs.Found.{Holds}
-use Rattle.orient.specs.Entry.{windowAt, anglesAt, orientFault, orientedOf, orientedList, orientedWords, words, answeredWith, givenBack, orientAnswer, orientOut}
-use Rattle.orient.specs.Given.{directionsOf, roomFor, givenWith, leftWith}
-use Rattle.orient.specs.declared.Directions.{Directions}
-use Rattle.orient.specs.declared.OrientAnswer.{OrientAnswer}
-use Rattle.orient.proofs.Words.{length-map}
+use Rattle.orient_words.specs.Given.{roomFor, givenWith, leftWith}
+use Rattle.orient_words.specs.declared.Directions.{Directions}
+use Rattle.orient_words.specs.declared.OrientAnswer.{OrientAnswer}
+use Rattle.orient_words.proofs.Words.{length-map}
+use Rattle.orient.specs.Entry.{windowAt, anglesAt, orientFault, orientedList, givenBack, orientAnswer, orientOut}
+use Rattle.orient.specs.Given.{directionsOf}
 use Rattle.orient.proofs.Checks.{about-holds, about-read}
 
--- ---- room
-room-yes : (d : Directions) (room : ℕ) → d .angles .count * orientedWords ≤ room → roomFor d room ≡ Done (d .angles .count)
-unfolding roomFor answerOf
-room-yes d room h = rw (le-leb (orientedWords * d .angles .count) room (omega arith))
-
-room-no : (d : Directions) (room : ℕ) → room < d .angles .count * orientedWords → roomFor d room ≡ Short (d .angles .count)
-unfolding roomFor answerOf
-room-no d room h = rw (lt-leb (orientedWords * d .angles .count) room (omega arith))
-
-pub given-done : (d : Directions) (room : ℕ) → d .angles .count * orientedWords ≤ room → record { answer = Done (d .angles .count); samples = d .read } ≡ givenWith d room
-unfolding givenWith
-given-done d room h = rw (room-yes d room h)
-
-pub given-short : (d : Directions) (room : ℕ) → room < d .angles .count * orientedWords → record { answer = Short (d .angles .count); samples = 0 } ≡ givenWith d room
-unfolding givenWith
-given-short d room h = rw (room-no d room h)
-
-pub left-done : (k : RawKeypoint) (d : Directions) (out new : List ℕ) → d .angles .count * orientedWords ≤ length out → new ≡ pasted 0 (words (map (orientedOf k) (take (d .angles .count) (d .angles .all)))) out → new ≡ leftWith k d out
-unfolding leftWith
-left-done k d out new h e = rw (room-yes d (length out) h) e
-
-pub left-short : (k : RawKeypoint) (d : Directions) (out : List ℕ) → length out < d .angles .count * orientedWords → out ≡ leftWith k d out
-unfolding leftWith
-left-short k d out h = rw (room-no d (length out) h)
-
--- ---- the entry
 module _ (img : List Float) (s : Size) (k : RawKeypoint) where
   refused : (fault room : ℕ) → fault ≡ orientFault img s k → (fault ≡ 0 → ⊥) → givenBack img s k room ≡ Refused fault
   unfolding givenBack answerOf

@@ -31,7 +31,6 @@ use Rattle.orient_tally.proofs.Rules.{tally-rule}
 use Rattle.orient.specs.Keypoint.{octaveIn, cellWrong, octaveWrong, floatsWrong, scaleOf, scaleWrong, keypointWrong}
 use Rattle.orient.specs.Entry.{windowAt, anglesAt, orientFault}
 use Rattle.orient.specs.Given.{directionsOf}
-use Rattle.orient.specs.declared.Directions.{Directions}
 use Rattle.orient.specs.Accepted.{Aimed, Ready}
 
 pub sides : (s : Size) → shapeWrong (s .width) (s .height) ≡ false → (s .width ≤ maxSide) × (s .height ≤ maxSide)

@@ -1,4 +1,3 @@
 pub mod Checks
-pub mod Words
 pub mod Answers
 pub mod Rules

@@ -26,11 +26,12 @@ use Rattle.orient_window.proofs.Cells.{read-is}
 use Rattle.lists.proofs.Every.{every-all}
 use Rattle.orient_peaks.specs.Rules.{maxPeaks}
 use Rattle.orient_peaks.proofs.Rules.{peak-rule}
+use Rattle.orient_words.specs.Oriented.{orientedOf}
+use Rattle.orient_words.specs.declared.OrientedKeypoint.{OrientedKeypoint}
+use Rattle.orient_words.proofs.Words.{length-map}
 use Rattle.orient.specs.Keypoint.{octaveIn, layerIn, cellWrong, octaveWrong, floatsWrong, scaleOf, scaleWrong, keypointWrong}
-use Rattle.orient.specs.Entry.{windowAt, anglesAt, orientedOf, orientedList}
+use Rattle.orient.specs.Entry.{windowAt, anglesAt, orientedList}
 use Rattle.orient.specs.Rules.{Passed, OrientRule}
-use Rattle.orient.specs.declared.OrientedKeypoint.{OrientedKeypoint}
-use Rattle.orient.proofs.Words.{length-map}
 
 -- ---- number and fields
 few : (img : List Float) (s : Size) (k : RawKeypoint) → length (orientedList img s k) ≤ maxPeaks

@@ -1,14 +1,12 @@
 -- What `assign_orientations` answers and leaves in the lent words (rules A16 to A19, O11 and O12). Definitions only.
 use Prim.Native.Nat.{ℕ, _*_}
 use mathlib.Core.Bool.{not}
-use mathlib.Core.List.{List, [], _∷_, _++_, map}
+use mathlib.Core.List.{List, [], _∷_, map}
 use lib.ListN.{length}
 use lib.Ieee.{Float}
-use Rattle.ieee.specs.F32.{bitsOf}
 use Rattle.params.specs.Table.{line, firstFault, shapeWrong, lengthWrong}
 use Rattle.params.specs.Answers.{answerOf, landed}
 use Rattle.params.specs.declared.Answer.{Answer}
-use Rattle.params.specs.declared.Answer.the-variants.{Done, Short, Refused}
 use Rattle.picture.specs.declared.Size.{Size}
 use Rattle.detect_keypoint.specs.declared.RawKeypoint.{RawKeypoint}
 use Rattle.orient_window.specs.Window.{windowOf, cellsRead}
@@ -16,9 +14,10 @@ use Rattle.orient_window.specs.Good.{windowGood}
 use Rattle.orient_tally.specs.Tally.{tallyOf}
 use Rattle.orient_window.specs.declared.Window.{Window}
 use Rattle.orient_peaks.specs.Peaks.{anglesOf}
+use Rattle.orient_words.specs.Oriented.{orientedOf, orientedWords, words, answeredWith}
+use Rattle.orient_words.specs.declared.OrientedKeypoint.{OrientedKeypoint}
+use Rattle.orient_words.specs.declared.OrientAnswer.{OrientAnswer}
 use Rattle.orient.specs.Keypoint.{keypointWrong, scaleOf}
-use Rattle.orient.specs.declared.OrientedKeypoint.{OrientedKeypoint}
-use Rattle.orient.specs.declared.OrientAnswer.{OrientAnswer}
 
 -- the window about a keypoint's cell
 unfoldable pub windowAt : Size → RawKeypoint → Window
@@ -38,34 +37,9 @@ orientFault img s k =
 unfoldable pub anglesAt : List Float → Size → RawKeypoint → List Float
 anglesAt img s k = anglesOf (tallyOf img (windowAt s k) .bins)
 
--- the keypoint with an angle: all else passes through
-abbrev pub orientedOf : RawKeypoint → Float → OrientedKeypoint
-orientedOf k angle =
-    record { x = k .x; y = k .y; size = k .size; response = k .response; octave = k .octave; angle = angle }
-
 -- the oriented keypoints; none where there is no peak
 unfoldable pub orientedList : List Float → Size → RawKeypoint → List OrientedKeypoint
 orientedList img s k = map (orientedOf k) (anglesAt img s k)
-
--- an oriented keypoint goes out as so many words: rule A18
-abbrev pub orientedWords : ℕ
-orientedWords = 6
-
-abbrev pub wordsOf : OrientedKeypoint → List ℕ
-wordsOf o = bitsOf (o .x) ∷ bitsOf (o .y) ∷ bitsOf (o .size) ∷ bitsOf (o .response) ∷ o .octave ∷ bitsOf (o .angle) ∷ []
-
-unfoldable pub words : List OrientedKeypoint → List ℕ
-words [] = []
-words (o ∷ os) = wordsOf o ++ words os
-
--- the number of samples beside an answer: the cells read, and 0 on any refusal
-abbrev pub samplesWith : Answer → ℕ → ℕ
-samplesWith (Done n) read = read
-samplesWith (Short n) read = 0
-samplesWith (Refused k) read = 0
-
-abbrev pub answeredWith : Answer → ℕ → OrientAnswer
-answeredWith a read = record { answer = a; samples = samplesWith a read }
 
 -- the number and the count, at `room` words lent: 7 counts oriented keypoints
 unfoldable pub givenBack : List Float → Size → RawKeypoint → ℕ → Answer

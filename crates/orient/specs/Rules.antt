@@ -12,9 +12,10 @@ use Rattle.detect_keypoint.specs.Sound.{Sound}
 use Rattle.detect_keypoint.specs.declared.RawKeypoint.{RawKeypoint}
 use Rattle.orient_window.specs.Window.{cellsRead}
 use Rattle.orient_peaks.specs.Rules.{maxPeaks}
+use Rattle.orient_words.specs.Oriented.{orientedOf}
+use Rattle.orient_words.specs.declared.OrientedKeypoint.{OrientedKeypoint}
 use Rattle.orient.specs.Keypoint.{keypointWrong}
-use Rattle.orient.specs.Entry.{windowAt, orientedOf, orientedList}
-use Rattle.orient.specs.declared.OrientedKeypoint.{OrientedKeypoint}
+use Rattle.orient.specs.Entry.{windowAt, orientedList}
 
 -- all but the angle is the raw keypoint's
 pub record Passed (k : RawKeypoint) (o : OrientedKeypoint) : Type 0 where

@@ -42,12 +42,13 @@ use Rattle.orient_window.proofs.Cells.{cell-around, at-cell}
 use Rattle.orient_window.proofs.Cells as cells
 use Rattle.orient_tally.proofs.Rules.{tally-rule}
 use Rattle.orient_peaks.specs.Peaks.{around, isPeak, leastOf, peakAngle, peakOf, anglesIn, anglesOf, smoothed, wrapped, crestOf}
+use Rattle.orient_words.specs.Oriented.{orientedOf}
+use Rattle.orient_words.specs.declared.OrientedKeypoint.{OrientedKeypoint}
+use Rattle.orient_words.proofs.Words.{length-map}
 use Rattle.orient.specs.Keypoint.{keypointWrong, scaleOf}
 use Rattle.orient.specs.Accepted.{Aimed}
-use Rattle.orient.specs.Entry.{windowAt, orientFault, anglesAt, orientedOf, orientedList}
+use Rattle.orient.specs.Entry.{windowAt, orientFault, anglesAt, orientedList}
 use Rattle.orient.proofs.Checks.{aimed, aimed-fits}
-use Rattle.orient.proofs.Words.{length-map}
-use Rattle.orient.specs.declared.OrientedKeypoint.{OrientedKeypoint}
 use Rattle.orient_laws.specs.Rules.{Turn, Still, AnglesRule}
 use Rattle.orient_laws.proofs.Units.{At, Units, units-of, value-at, at-less}
 use Rattle.orient_laws.proofs.Offset.{offset-in}

@@ -17,7 +17,8 @@ use Rattle.picture.specs.declared.Slope.{Slope}
 use Rattle.detect_keypoint.specs.declared.RawKeypoint.{RawKeypoint}
 use Rattle.orient_tally.specs.Sample.{bins}
 use Rattle.orient_tally.specs.Tally.{tallyOf}
-use Rattle.orient.specs.Entry.{windowAt, orientFault, orientedOf, orientedList}
+use Rattle.orient_words.specs.Oriented.{orientedOf}
+use Rattle.orient.specs.Entry.{windowAt, orientFault, orientedList}
 
 -- in 0 to below 360, and written with bits that a sheet takes: finite, with the sign bit clear, so that no angle is −0
 pub record Turn (angle : Float) : Type 0 where

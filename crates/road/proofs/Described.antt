@@ -25,9 +25,10 @@ use Rattle.picture.specs.declared.Size.{Size}
 use Rattle.samples.proofs.Runs.{good-append, good-four}
 use Rattle.detect_keypoint.specs.Sound.{Sound}
 use Rattle.detect_keypoint.specs.declared.RawKeypoint.{RawKeypoint}
-use Rattle.orient.specs.Entry.{orientedOf, orientedList}
+use Rattle.orient_words.specs.Oriented.{orientedOf}
+use Rattle.orient_words.specs.declared.OrientedKeypoint.{OrientedKeypoint}
+use Rattle.orient.specs.Entry.{orientedList}
 use Rattle.orient.specs.Rules.{Passed}
-use Rattle.orient.specs.declared.OrientedKeypoint.{OrientedKeypoint}
 use Rattle.orient.proofs.Rules.{orient-rule}
 use Rattle.orient_laws.specs.Rules.{Turn}
 use Rattle.descriptor_inputs.specs.Inputs.{shrinkOf, givenOf, inputsOf}

@@ -19,8 +19,8 @@ use Rattle.params.specs.Limits.{border, maxOctave, valueCount}
 use Rattle.params.specs.declared.Settings.{Settings}
 use Rattle.detect_keypoint.specs.Sound.{Sound, Number}
 use Rattle.detect_keypoint.specs.declared.RawKeypoint.{RawKeypoint}
+use Rattle.orient_words.specs.Oriented.{orientedOf}
 use Rattle.orient.specs.Keypoint.{layerIn}
-use Rattle.orient.specs.Entry.{orientedOf}
 use Rattle.orient_laws.specs.Rules.{Turn}
 use Rattle.descriptor_laws.specs.ValuesRules.{Byte}
 use Rattle.sheet.specs.Pack.{Slot, slot, sound}

@@ -13,7 +13,7 @@ use Rattle.detect_keypoint.specs.Sound.{Sound}
 use Rattle.detect_keypoint.specs.declared.RawKeypoint.{RawKeypoint}
 use Rattle.detect_keypoint.specs.Search.{searchOf}
 use Rattle.detect_refine.specs.Place.{Searched}
-use Rattle.orient.specs.declared.OrientedKeypoint.{OrientedKeypoint}
+use Rattle.orient_words.specs.declared.OrientedKeypoint.{OrientedKeypoint}
 use Rattle.orient_laws.specs.Rules.{Turn}
 use Rattle.descriptor_run.specs.Cells.{samplesOf}
 use Rattle.descriptor_grid.specs.Grid.{gathered}

@@ -14,9 +14,10 @@ use Rattle.detect_refine.specs.Place.{Searched}
 use Rattle.detect.proofs.Faults as DetectFaults
 use Rattle.detect.proofs.Rules.{detect-rule}
 use Rattle.orient_window.specs.Good.{windowGood}
+use Rattle.orient_words.specs.Oriented.{orientedOf}
+use Rattle.orient_words.specs.declared.OrientedKeypoint.{OrientedKeypoint}
 use Rattle.orient.specs.Keypoint.{keypointWrong}
-use Rattle.orient.specs.Entry.{windowAt, orientedOf}
-use Rattle.orient.specs.declared.OrientedKeypoint.{OrientedKeypoint}
+use Rattle.orient.specs.Entry.{windowAt}
 use Rattle.orient.proofs.Rules.{orient-rule}
 use Rattle.orient_laws.specs.Rules.{Turn}
 use Rattle.orient_laws.proofs.Rules.{angles-rule}

@@ -10,9 +10,9 @@ use Rattle.params.specs.declared.Settings.{Settings}
 use Rattle.detect_keypoint.specs.declared.RawKeypoint.{RawKeypoint}
 use Rattle.detect_extrema.specs.Scan as Raw
 use Rattle.detect.proofs.Rules.{detect-rule}
-use Rattle.orient.specs.Entry as Oriented
+use Rattle.orient_words.specs.Oriented as Oriented
+use Rattle.orient_words.specs.declared.OrientedKeypoint.{OrientedKeypoint}
 use Rattle.orient.specs.Rules.{Passed}
-use Rattle.orient.specs.declared.OrientedKeypoint.{OrientedKeypoint}
 use Rattle.orient.proofs.Rules.{orient-rule}
 use Rattle.orient_laws.specs.Rules.{Turn}
 use Rattle.orient_laws.proofs.Rules.{angles-rule}

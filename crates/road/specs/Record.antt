@@ -7,9 +7,9 @@ use lib.Ieee.{Float, nan, toUnsigned}
 use Rattle.ieee.specs.F32.{bitsOf}
 use Rattle.params.specs.Limits.{valueCount}
 use Rattle.detect_keypoint.specs.declared.RawKeypoint.{RawKeypoint}
+use Rattle.orient_words.specs.Oriented.{orientedOf}
+use Rattle.orient_words.specs.declared.OrientedKeypoint.{OrientedKeypoint}
 use Rattle.orient.specs.Keypoint.{octaveIn, layerIn}
-use Rattle.orient.specs.Entry.{orientedOf}
-use Rattle.orient.specs.declared.OrientedKeypoint.{OrientedKeypoint}
 use Rattle.descriptor_laws.specs.ValuesRules.{Byte}
 
 -- the code is the octave word's third byte, above which nothing stands (rule A12)

@@ -13,8 +13,8 @@ use Rattle.picture.specs.declared.Shape.{Shape}
 use Rattle.picture.specs.declared.Size.{Size}
 use Rattle.detect_keypoint.specs.declared.RawKeypoint.{RawKeypoint}
 use Rattle.detect.specs.Entry as Detection
+use Rattle.orient_words.specs.declared.OrientedKeypoint.{OrientedKeypoint}
 use Rattle.orient.specs.Entry.{orientFault, orientedList}
-use Rattle.orient.specs.declared.OrientedKeypoint.{OrientedKeypoint}
 use Rattle.descriptor_inputs.specs.Inputs.{inputsOf}
 use Rattle.descriptor_inputs.specs.declared.Inputs.{Inputs}
 use Rattle.descriptor_run.specs.Cells.{readsOf}

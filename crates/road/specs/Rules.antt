@@ -13,9 +13,10 @@ use Rattle.detect_keypoint.specs.declared.RawKeypoint.{RawKeypoint}
 use Rattle.detect_extrema.specs.Scan as Raw
 use Rattle.detect_extrema.specs.Scan.{keypointWords}
 use Rattle.orient_window.specs.Good.{windowGood}
-use Rattle.orient.specs.Entry as Oriented
-use Rattle.orient.specs.Entry.{windowAt, orientedWords}
-use Rattle.orient.specs.declared.OrientedKeypoint.{OrientedKeypoint}
+use Rattle.orient_words.specs.Oriented as Oriented
+use Rattle.orient_words.specs.Oriented.{orientedWords}
+use Rattle.orient_words.specs.declared.OrientedKeypoint.{OrientedKeypoint}
+use Rattle.orient.specs.Entry.{windowAt}
 use Rattle.orient_laws.specs.Rules.{Turn}
 use Rattle.words.specs.Keypoint.{keypointIn}
 use Rattle.words.specs.Oriented.{orientedIn}

@@ -7,7 +7,7 @@ ghost use lib.ListN.{length};
 use descriptor::Described;
 use descriptor::Spot;
 use detect_keypoint::RawKeypoint;
-use orient::OrientedKeypoint;
+use orient_words::OrientedKeypoint;
 use params::Answer;
 use params::Settings;
 use picture::Shape;

@@ -6,8 +6,8 @@ use lib.Dec.{eqb}
 use lib.ListN.{length, getD}
 use lib.Ieee.{nan}
 use Rattle.ieee.specs.F32.{f32}
-use Rattle.orient.specs.Entry.{orientedWords}
-use Rattle.orient.specs.declared.OrientedKeypoint.{OrientedKeypoint}
+use Rattle.orient_words.specs.Oriented.{orientedWords}
+use Rattle.orient_words.specs.declared.OrientedKeypoint.{OrientedKeypoint}
 
 -- the oriented keypoint of six words
 unfoldable pub sixIn : List ℕ → OrientedKeypoint

@@ -10,8 +10,8 @@ use Rattle.params.specs.declared.Settings.{Settings}
 use Rattle.detect_keypoint.specs.Sound.{Sound}
 use Rattle.detect_keypoint.specs.declared.RawKeypoint.{RawKeypoint}
 use Rattle.detect_extrema.specs.Scan as raw
-use Rattle.orient.specs.Entry as orient
-use Rattle.orient.specs.declared.OrientedKeypoint.{OrientedKeypoint}
+use Rattle.orient_words.specs.Oriented as orient
+use Rattle.orient_words.specs.declared.OrientedKeypoint.{OrientedKeypoint}
 use Rattle.words.specs.Keypoint.{keypointIn}
 use Rattle.words.specs.Oriented.{orientedIn}
 

@@ -3,13 +3,13 @@ ghost use mathlib.Core.Path.{_≡_};
 ghost use lib.ListN.{length};
 ghost use lib.Ieee.{nan};
 ghost use Rattle.detect_extrema.specs.Scan.{keypointWords};
-ghost use Rattle.orient.specs.Entry.{orientedWords};
+ghost use Rattle.orient_words.specs.Oriented.{orientedWords};
 ghost use Rattle.words.specs.Keypoint.{wordsIn, broken, keypointIn};
 ghost use Rattle.words.specs.Inputs.{inputWords, wordsOut, inputsNumber, inputsLeft};
 ghost use Rattle.words.specs.Oriented.{sixIn, unoriented, orientedIn};
 use descriptor_inputs::Inputs;
 use detect_keypoint::RawKeypoint;
-use orient::OrientedKeypoint;
+use orient_words::OrientedKeypoint;
 
 // A keypoint goes out as so many words, and an oriented keypoint.
 const KEYPOINT_WORDS: usize = 10;

@@ -3,7 +3,7 @@ use lib.ListN.{length}
 use denote.Ref.{now}
 use Rattle.params.specs.Answers.{numberOf, countOf}
 use Rattle.detect_keypoint.specs.declared.RawKeypoint.{RawKeypoint}
-use Rattle.orient.specs.declared.OrientAnswer.{OrientAnswer}
+use Rattle.orient_words.specs.declared.OrientAnswer.{OrientAnswer}
 use Rattle.orient.specs.Entry.{orientAnswer, orientOut}
 use borrow.Author.Needs.{needs}
 use Rattle.bargeclover.specs.Given.{sizeOf}

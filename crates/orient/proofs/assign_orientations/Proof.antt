@@ -7,7 +7,7 @@ use Rattle.orient.proofs.assign_orientations.Reads as reads
 use Rattle.orient.proofs.assign_orientations.Lts as lts
 use Rattle.orient.proofs.angles_about.Reads as angles-about-reads
 use Rattle.orient.proofs.fault_of.Reads as fault-of-reads
-use Rattle.orient.proofs.give.Reads as give-reads
+use Rattle.orient_words.proofs.give.Reads as give-reads
 
 fault-of-requires : tie.Need-fault-of-requires
 fault-of-requires c κs = search needs

@@ -4,7 +4,7 @@ use mathlib.Core.List.{List}
 use lib.ListN.{length}
 use mathlib.Core.Bool.{Bool, cond}
 use borrow.Author.Tests.{eq-eqb, ne-eqb}
-use Rattle.orient.specs.Entry.{orientedWords}
+use Rattle.orient_words.specs.Oriented.{orientedWords}
 use Rattle.words.specs.Oriented.{sixIn, unoriented, orientedIn}
 use borrow.Author.Needs.{needs}
 use Rattle.words.proofs.oriented_in.Statement.{statement}

@@ -11,8 +11,8 @@ use lib.Ieee.{Float}
 use Rattle.lists.specs.Pasted.{pasted}
 use Rattle.lists.proofs.Pasted.{pasted-none, pasted-one, pasted-cons, pasted-append, length-pasted}
 use Rattle.detect_keypoint.specs.declared.RawKeypoint.{RawKeypoint}
-use Rattle.orient.specs.Entry.{orientedOf, orientedWords, wordsOf, words}
-use Rattle.orient.specs.declared.OrientedKeypoint.{OrientedKeypoint}
+use Rattle.orient_words.specs.Oriented.{orientedOf, orientedWords, wordsOf, words}
+use Rattle.orient_words.specs.declared.OrientedKeypoint.{OrientedKeypoint}
 
 -- six stores in a row
 pub six : (l : List ℕ) (i a b c d e f : ℕ) → i + orientedWords ≤ length l

@@ -1,10 +1,10 @@
-use Rattle.orient.proofs.Answers.{given-done, given-short, left-done, left-short}
+use Rattle.orient_words.proofs.Room.{given-done, given-short, left-done, left-short}
 use borrow.Author.Needs.{needs}
-use Rattle.orient.proofs.give.Statement.{statement}
-use Rattle.orient.proofs.give.Tie as tie
-use Rattle.orient.proofs.give.Reads as reads
-use Rattle.orient.proofs.give.Lts as lts
-use Rattle.orient.proofs.put_all.Reads as put-all-reads
+use Rattle.orient_words.proofs.give.Statement.{statement}
+use Rattle.orient_words.proofs.give.Tie as tie
+use Rattle.orient_words.proofs.give.Reads as reads
+use Rattle.orient_words.proofs.give.Lts as lts
+use Rattle.orient_words.proofs.put_all.Reads as put-all-reads
 
 mul-if1 : tie.Need-mul-if1
 mul-if1 c = search needs

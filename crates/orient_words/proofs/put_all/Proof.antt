@@ -6,13 +6,13 @@ use mathlib.Core.Path.{_≡_}
 use native.Mathlib.Omega.{arith}
 use borrow.Author.Needs.{needs}
 use Rattle.lists.specs.Pasted.{pasted}
-use Rattle.orient.proofs.Words.{wordsTo, words-none, words-more, length-kept}
-use Rattle.orient.proofs.put_all.Statement.{statement}
-use Rattle.orient.proofs.put_all.Tie as tie
-use Rattle.orient.proofs.put_all.Reads as reads
-use Rattle.orient.proofs.put_all.Lts as lts
-use Rattle.orient.proofs.oriented.Reads as oriented-reads
-use Rattle.orient.proofs.put.Reads as put-reads
+use Rattle.orient_words.proofs.Words.{wordsTo, words-none, words-more, length-kept}
+use Rattle.orient_words.proofs.put_all.Statement.{statement}
+use Rattle.orient_words.proofs.put_all.Tie as tie
+use Rattle.orient_words.proofs.put_all.Reads as reads
+use Rattle.orient_words.proofs.put_all.Lts as lts
+use Rattle.orient_words.proofs.oriented.Reads as oriented-reads
+use Rattle.orient_words.proofs.put.Reads as put-reads
 
 abbrev Inv-loop : tie.InvT-loop
 Inv-loop k all count out₀ i₀ out i = (i ≤ count) × (out ≡ pasted 0 (wordsTo k all i) out₀)

@@ -1,11 +1,11 @@
 use native.Mathlib.Omega.{arith}
 use lib.ListN.{length-set}
-use Rattle.orient.proofs.Words.{six}
+use Rattle.orient_words.proofs.Words.{six}
 use borrow.Author.Needs.{needs}
-use Rattle.orient.proofs.put.Statement.{statement}
-use Rattle.orient.proofs.put.Tie as tie
-use Rattle.orient.proofs.put.Reads as reads
-use Rattle.orient.proofs.put.Lts as lts
+use Rattle.orient_words.proofs.put.Statement.{statement}
+use Rattle.orient_words.proofs.put.Tie as tie
+use Rattle.orient_words.proofs.put.Reads as reads
+use Rattle.orient_words.proofs.put.Lts as lts
 use Rattle.ieee.proofs.bits_of.Reads as bits-of-reads
 
 bits-of-requires : tie.Need-bits-of-requires

@@ -4,7 +4,7 @@ use lib.Ieee.{Float}
 use Rattle.params.specs.declared.Settings.{Settings}
 use Rattle.picture.specs.declared.Shape.{Shape}
 use Rattle.picture.specs.declared.Size.{Size}
-use Rattle.descriptor.specs.declared.Spot.{Spot}
+use Rattle.descriptor_words.specs.declared.Spot.{Spot}
 
 abbrev pub settingsOf : Float → Float → Float → ℕ → Settings
 settingsOf contrast edge sigma layers = record { contrast = contrast; edge = edge; sigma = sigma; layers = layers }

@@ -22,7 +22,7 @@ ghost use Rattle.hal.specs.Exp.{exp2Of, expOf};
 ghost use Rattle.hal_turn.specs.Turn.{sinOf, cosOf};
 ghost use Rattle.hal_angle.specs.Angle.{angleOf};
 ghost use Rattle.hal_angle.specs.Magnitude.{magnitudeOf};
-use descriptor::Spot;
+use descriptor_words::Spot;
 use params::Settings;
 use picture::Shape;
 use picture::Size;

@@ -1,35 +1,30 @@
 -- What the checks leave known, and the first fault step by step. Assumes nothing.
-use Prim.Native.Nat.{ℕ, _*_, _<_, _≤_}
-use mathlib.Core.Path.{_≡_, refl, sym, ap, _∙_, subst}
-use mathlib.Core.Bool.{Bool, true, false, not, _&&_, _||_, false≢true}
+use Prim.Native.Nat.{ℕ, _*_, _≤_}
+use mathlib.Core.Path.{_≡_, refl}
+use mathlib.Core.Bool.{Bool, true, false, not, _||_}
 use mathlib.Core.List.{List, [], _∷_}
 use native.Mathlib.Nat.{mul-le-mul}
 use native.Mathlib.Omega.{arith}
 use borrow.Author.Tests.{not-false, eq-eqb, eqb-true, ne-eqb}
 use lib.Dec.{eqb}
 use lib.ListN.{length}
-use lib.Ieee.{Float, ofBits}
+use lib.Ieee.{Float}
 use lib.Ieee.Scale.{finite}
-use Rattle.lists.proofs.Bools.{and-both, or-true}
+use Rattle.lists.proofs.Bools.{and-both}
 use Rattle.ieee.specs.Numbers.{nought, wholeTurn}
-use Rattle.hal_turn.specs.Turn.{inTurn}
 use Rattle.params.specs.Limits.{maxSide, scaleLow, scaleHigh}
 use Rattle.params.specs.Table.{within, line, firstFault, sideWrong, shapeWrong, lengthWrong, allGood}
 use Rattle.params.proofs.Bools.{or-neither, in-range}
 use Rattle.picture.specs.declared.Size.{Size}
-use Rattle.descriptor_patch.specs.Patch.{cellOf, patchOf}
+use Rattle.descriptor_patch.specs.Patch.{cellOf}
 use Rattle.descriptor_run.specs.Cells.{readsOf}
 use Rattle.descriptor_patch.specs.Place.{Sides}
-use Rattle.descriptor_patch.specs.declared.Patch.{Patch}
-use Rattle.descriptor.specs.Place.{onSide, cellAt, spotWrong, turnWrong, turnAt}
+use Rattle.descriptor_words.specs.Words.{turnAt}
+use Rattle.descriptor_words.specs.Accepted.{Aimed, Ready}
+use Rattle.descriptor_words.specs.declared.Spot.{Spot}
+use Rattle.descriptor.specs.Place.{onSide, spotWrong, turnWrong}
 use Rattle.descriptor.specs.Entry.{faultOf}
-use Rattle.descriptor.specs.Accepted.{Aimed, Ready}
-use Rattle.descriptor.specs.declared.Spot.{Spot}
 use Rattle.descriptor.proofs.Cells.{side-cell}
-
-pub in-turn : (angle : Float) → within nought wholeTurn angle ≡ true → inTurn angle ≡ true
-unfolding ofBits
-in-turn angle e = e
 
 pub sides : (s : Size) → shapeWrong (s .width) (s .height) ≡ false → Sides s
 unfolding shapeWrong
@@ -38,11 +33,6 @@ sides s e =
     let a = in-range (s .width) maxSide (p .0) in
     let b = in-range (s .height) maxSide (p .1) in
     record { some-cols = a .0; some-rows = b .0; wide = a .1; high = b .1 }
-
--- the patch is turned by the angle that is asked
-pub turn-angle : (s : Size) (p : Spot) → turnAt s p .angle ≡ p .angle
-unfolding turnAt patchOf
-turn-angle s p = refl
 
 module _ (s : Size) (p : Spot) where
   abbrev wrongSpot : Bool
@@ -65,14 +55,6 @@ module _ (s : Size) (p : Spot) where
         sized = d .0;
         angled = d .1;
       }
-
-  -- the patch about the two cells
-  pub turn-is : (px py : ℕ) (t : Patch) → px ≡ cellAt (cellOf (p .x)) → py ≡ cellAt (cellOf (p .y)) → t ≡ patchOf s px py (p .scale) (p .angle) → t ≡ turnAt s p
-  unfolding turnAt
-  turn-is px py t a b e = e ∙ rw (a, b)
-
-  pub asked : (px py : ℕ) → px ≡ cellAt (cellOf (p .x)) → py ≡ cellAt (cellOf (p .y)) → Aimed s p → Sides s × ((px < s .width) × ((py < s .height) × (within scaleLow scaleHigh (p .scale) ≡ true)))
-  asked px py a b k = (k .sides, (rw a (k .column), (rw b (k .row), k .sized)))
 
   module _ (img : List Float) where
     abbrev fault : ℕ

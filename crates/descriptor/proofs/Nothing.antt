@@ -22,12 +22,13 @@ use Rattle.descriptor_grid.specs.Grid.{gatheredIn, gathered}
 use Rattle.descriptor_laws.specs.GridRules.{Flat}
 use Rattle.descriptor_laws.proofs.GridRules.{grid-rule}
 use Rattle.descriptor_laws.proofs.ValuesRules.{value-rule}
-use Rattle.descriptor.specs.Place.{turnAt}
-use Rattle.descriptor.specs.Entry.{faultOf, valuesAt, wordsAt, usedOf, describedOf, describedOut}
-use Rattle.descriptor.specs.Accepted.{Ready}
-use Rattle.descriptor.specs.declared.Spot.{Spot}
+use Rattle.descriptor_words.specs.Words.{turnAt, valuesAt, wordsAt}
+use Rattle.descriptor_words.specs.Accepted.{Ready}
+use Rattle.descriptor_words.specs.declared.Spot.{Spot}
+use Rattle.descriptor_words.proofs.Filled.{in-turn}
+use Rattle.descriptor.specs.Entry.{faultOf, usedOf, describedOf, describedOut}
 use Rattle.descriptor.specs.Nothing.{Level, zeros, Told, NothingRule}
-use Rattle.descriptor.proofs.Checks.{in-turn, fault-fine}
+use Rattle.descriptor.proofs.Checks.{fault-fine}
 use Rattle.descriptor.proofs.Answers.{answer-done, out-done}
 use Rattle.descriptor.proofs.Flat.{used-grid, no-slope, read}
 use Rattle.descriptor.proofs.Rules.{counts-of}

@@ -23,12 +23,14 @@ use Rattle.descriptor_laws.specs.GridRules.{Counts}
 use Rattle.descriptor_laws.proofs.GridRules.{grid-rule}
 use Rattle.descriptor_laws.specs.ValuesRules.{Byte}
 use Rattle.descriptor_laws.proofs.ValuesRules.{value-rule}
-use Rattle.descriptor.specs.Place.{spotWrong, turnWrong, turnAt}
-use Rattle.descriptor.specs.Entry.{faultOf, valuesAt}
-use Rattle.descriptor.specs.Accepted.{Ready}
-use Rattle.descriptor.specs.declared.Spot.{Spot}
+use Rattle.descriptor_words.specs.Words.{turnAt, valuesAt}
+use Rattle.descriptor_words.specs.Accepted.{Ready}
+use Rattle.descriptor_words.specs.declared.Spot.{Spot}
+use Rattle.descriptor_words.proofs.Filled.{in-turn}
+use Rattle.descriptor.specs.Place.{spotWrong, turnWrong}
+use Rattle.descriptor.specs.Entry.{faultOf}
 use Rattle.descriptor.specs.Rules.{spotOf, Inside, DescriptorRule}
-use Rattle.descriptor.proofs.Checks.{in-turn, fault-fine}
+use Rattle.descriptor.proofs.Checks.{fault-fine}
 
 accepted : (s : Size) (octave : ℕ) (o : OrientedKeypoint) → Taken o octave → Inside s (inputsOf o (pos octave))
     → (spotWrong s (spotOf (inputsOf o (pos octave))) || turnWrong (spotOf (inputsOf o (pos octave)))) ≡ false

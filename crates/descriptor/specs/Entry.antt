@@ -1,20 +1,18 @@
 -- What `compute_descriptor` answers and leaves in the lent words. Definitions only.
 use Prim.Native.Nat.{ℕ, _*_}
 use mathlib.Core.Bool.{not, _||_, cond}
-use mathlib.Core.List.{List, [], _∷_, map}
+use mathlib.Core.List.{List, [], _∷_}
 use lib.Dec.{eqb}
 use lib.ListN.{length}
 use lib.Ieee.{Float}
-use Rattle.ieee.specs.F32.{bitsOf}
 use Rattle.params.specs.Limits.{valueCount}
 use Rattle.params.specs.Table.{line, firstFault, shapeWrong, lengthWrong, allGood}
 use Rattle.params.specs.Answers.{onFault}
 use Rattle.picture.specs.declared.Size.{Size}
 use Rattle.descriptor_run.specs.Cells.{samplesOf, readsOf}
-use Rattle.descriptor_grid.specs.Grid.{gathered}
-use Rattle.descriptor_values.specs.Values.{valuesOf}
-use Rattle.descriptor.specs.Place.{spotWrong, turnWrong, turnAt}
-use Rattle.descriptor.specs.declared.Spot.{Spot}
+use Rattle.descriptor_words.specs.Words.{turnAt, wordsAt}
+use Rattle.descriptor_words.specs.declared.Spot.{Spot}
+use Rattle.descriptor.specs.Place.{spotWrong, turnWrong}
 use Rattle.descriptor.specs.declared.Described.{Described}
 use Rattle.descriptor.specs.declared.Described.the-variants.{Done, Short, Refused}
 
@@ -50,14 +48,6 @@ describedOf img s p room =
     onFault (faultOf img s p)
     (cond (eqb room valueCount) (Done (length (samplesOf img (turnAt s p)))) Short)
     (Refused (faultOf img s p))
-
--- the values of a patch that is accepted
-unfoldable pub valuesAt : List Float → Size → Spot → List Float
-valuesAt img s p = valuesOf (gathered (p .angle) (samplesOf img (turnAt s p)))
-
--- and as they are written: each by its bits
-unfoldable pub wordsAt : List Float → Size → Spot → List ℕ
-wordsAt img s p = map bitsOf (valuesAt img s p)
 
 -- `new` where the answer is done, and on any refusal what stood there
 abbrev pub landed : Described → List ℕ → List ℕ → List ℕ

@@ -1,5 +1,4 @@
 pub mod Place
 pub mod Entry
-pub mod Accepted
 pub mod Rules
 pub mod Nothing

@@ -11,8 +11,8 @@ use Rattle.ieee.specs.F32.{_=ᶠ_}
 use Rattle.params.specs.Limits.{valueCount}
 use Rattle.picture.specs.declared.Size.{Size}
 use Rattle.descriptor_run.specs.Cells.{readsOf}
-use Rattle.descriptor.specs.Place.{turnAt}
-use Rattle.descriptor.specs.declared.Spot.{Spot}
+use Rattle.descriptor_words.specs.Words.{turnAt}
+use Rattle.descriptor_words.specs.declared.Spot.{Spot}
 use Rattle.descriptor.specs.Entry.{faultOf, usedOf, describedOf, describedOut}
 
 -- all samples of a list are equal as numbers: +0 beside −0 is level too

@@ -8,18 +8,13 @@ use Rattle.ieee.specs.Numbers.{wholeTurn, nought}
 use Rattle.params.specs.Limits.{scaleLow, scaleHigh}
 use Rattle.params.specs.Table.{within}
 use Rattle.picture.specs.declared.Size.{Size}
-use Rattle.descriptor_patch.specs.Patch.{cellOf, patchOf}
-use Rattle.descriptor_patch.specs.declared.Patch.{Patch}
-use Rattle.descriptor.specs.declared.Spot.{Spot}
+use Rattle.descriptor_patch.specs.Patch.{cellOf}
+use Rattle.descriptor_words.specs.declared.Spot.{Spot}
 
 -- a cell of a side of n
 abbrev pub onSide : ℕ → ℤ → Bool
 onSide n (pos k) = ltb k n
 onSide n (negsuc k) = false
-
-abbrev pub cellAt : ℤ → ℕ
-cellAt (pos k) = k
-cellAt (negsuc k) = 0
 
 -- the position, rounded, in the picture; all floats finite, scale 0.125 to 64, angle 0 to 360
 unfoldable pub spotWrong : Size → Spot → Bool
@@ -28,7 +23,3 @@ spotWrong s p =
 
 unfoldable pub turnWrong : Spot → Bool
 turnWrong p = not (within scaleLow scaleHigh (p .scale) && within nought wholeTurn (p .angle))
-
--- how the patch about a position lies
-unfoldable pub turnAt : Size → Spot → Patch
-turnAt s p = patchOf s (cellAt (cellOf (p .x))) (cellAt (cellOf (p .y))) (p .scale) (p .angle)

@@ -15,9 +15,10 @@ use Rattle.descriptor_inputs.specs.Rules.{Taken}
 use Rattle.descriptor_inputs.specs.declared.Inputs.{Inputs}
 use Rattle.descriptor_patch.specs.Patch.{cellOf}
 use Rattle.descriptor_laws.specs.ValuesRules.{Byte}
+use Rattle.descriptor_words.specs.Words.{valuesAt}
+use Rattle.descriptor_words.specs.declared.Spot.{Spot}
 use Rattle.descriptor.specs.Place.{onSide, spotWrong, turnWrong}
-use Rattle.descriptor.specs.Entry.{faultOf, valuesAt}
-use Rattle.descriptor.specs.declared.Spot.{Spot}
+use Rattle.descriptor.specs.Entry.{faultOf}
 
 -- the inputs that an oriented keypoint gives, as the descriptor takes them
 abbrev pub spotOf : Inputs → Spot

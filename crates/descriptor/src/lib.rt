@@ -1,26 +1,12 @@
 // The descriptor: 128 values from the gradients of a turned patch, and how many samples they were made of.
 
-use descriptor_patch::Patch;
+use descriptor_words::Spot;
 use picture::Size;
 ghost use mathlib.Core.Path.{_≡_};
-ghost use mathlib.Core.List.{map};
-ghost use Prim.Native.Nat.{_+_, _*_, _<_, _≤_};
 ghost use lib.ListN.{length};
-ghost use Rattle.ieee.specs.F32.{bitsOf};
-ghost use Rattle.params.specs.Limits.{valueCount};
-ghost use Rattle.descriptor_run.specs.Cells.{samplesOf};
-ghost use Rattle.descriptor_patch.specs.Place.{Lies};
-ghost use Rattle.descriptor.specs.Place.{onSide, cellAt, spotWrong, turnWrong, turnAt};
-ghost use Rattle.descriptor.specs.Entry.{numberOf, countOf, usedOf, faultOf, wordsAt, describedOf, describedOut};
-ghost use Rattle.descriptor.specs.Accepted.{Aimed, Ready};
-
-// Where a descriptor is asked for: a position in cells of the picture, the scale there, and the angle in degrees that the patch is turned by.
-pub struct Spot {
-    pub x: f32,
-    pub y: f32,
-    pub scale: f32,
-    pub angle: f32,
-}
+ghost use Rattle.descriptor_words.specs.Accepted.{Ready};
+ghost use Rattle.descriptor.specs.Place.{onSide, spotWrong, turnWrong};
+ghost use Rattle.descriptor.specs.Entry.{numberOf, countOf, usedOf, faultOf, describedOf, describedOut};
 
 // How many values a descriptor has.
 const VALUES: usize = 128;
@@ -44,12 +30,6 @@ fn on_side(n: usize, z: i32) -> bool
     (z as usize) < n
 }
 
-fn cell_at(z: i32) -> usize
-    ensures { λ r. ⌜ r ≡ cellAt z ⌝ }
-{
-    if z < 0 { 0 } else { z as usize }
-}
-
 // The position is not finite, or its cell lies outside the picture.
 fn spot_wrong(s: Size, p: Spot) -> bool
     ensures { λ b. ⌜ b ≡ spotWrong s p ⌝ }
@@ -65,16 +45,6 @@ fn turn_wrong(p: Spot) -> bool
     ensures { λ b. ⌜ b ≡ turnWrong p ⌝ }
 {
     !(((0.125 <= p.scale) & (p.scale <= 64.0)) & ((0.0 <= p.angle) & (p.angle <= 360.0)))
-}
-
-// How the patch lies.
-fn turn_at(s: Size, p: Spot) -> Patch
-    requires { ⌜ Aimed s p ⌝ }
-    ensures { λ t. ⌜ (t ≡ turnAt s p) × Lies t ⌝ }
-{
-    let px = cell_at(ieee_whole::round_to_i32(p.x));
-    let py = cell_at(ieee_whole::round_to_i32(p.y));
-    descriptor_patch::patch_of(s, px, py, p.scale, p.angle)
 }
 
 // The first fault in the order of the table, 0 for none; room is tested later.
@@ -94,40 +64,14 @@ fn fault_of(img: &[f32], s: Size, p: Spot) -> u32
     if turn_wrong(p) {
         return 5;
     }
-    if descriptor_reads::patch_good(img, turn_at(s, p)) {
+    if descriptor_reads::patch_good(img, descriptor_words::turn_at(s, p)) {
         0
     } else {
         6
     }
 }
 
-// ---- the values
-
-// The bits of all of v, to a list as long.
-fn put(v: &[f32; 128], out: &mut [u32])
-    requires { ⌜ (length (now v) ≡ valueCount) × (length (now out) ≡ valueCount) ⌝ }
-    ensures { λ _. ⌜ now (out .exit) ≡ map bitsOf (now (v .entry)) ⌝ }
-{
-    let mut n: usize = 0;
-    while n < 128 {
-        out[n] = ieee::bits_of(v[n]);
-        n += 1;
-    }
-}
-
-// The values of the patch by their bits, and the number of its samples.
-fn fill(img: &[f32], s: Size, p: Spot, out: &mut [u32]) -> usize
-    requires { ⌜ Ready (now img) s p × (length (now out) ≡ valueCount) ⌝ }
-    ensures { λ n. ⌜ n ≡ length (samplesOf (now (img .entry)) (turnAt s p)) ⌝ }
-    ensures { λ _. ⌜ now (out .exit) ≡ wordsAt (now (img .entry)) s p ⌝ }
-{
-    let mut hist = [0.0; 360];
-    let t = turn_at(s, p);
-    let used = descriptor_gather::gather(img, t, &mut hist);
-    let v = descriptor_values::values(&hist);
-    put(&v, out);
-    used
-}
+// ---- the descriptor
 
 // The 128 values of the patch about a position, each by its bits, and the number of its samples. The values are lent as words and not as floats: a lent word is all its
 // bits, so that a refusal leaves even the payload of a not-a-number as it stood.
@@ -142,7 +86,7 @@ pub fn compute_descriptor(img: &[f32], s: Size, p: Spot, out: &mut [u32]) -> Des
     if out.len() != 128 {
         return Described::Short;
     }
-    Described::Done(fill(img, s, p, out))
+    Described::Done(descriptor_words::fill(img, s, p, out))
 }
 
 // ---- what an answer says

@@ -38,8 +38,9 @@ use Rattle.descriptor_inputs.proofs.Rules.{input-rule}
 use Rattle.descriptor_patch.specs.Patch.{cellOf}
 use Rattle.descriptor_run.specs.Cells.{usedAt, overCells, readsOf}
 use Rattle.descriptor_patch.specs.declared.Patch.{Patch}
-use Rattle.descriptor.specs.Place.{onSide, spotWrong, turnWrong, turnAt}
-use Rattle.descriptor.specs.declared.Spot.{Spot}
+use Rattle.descriptor_words.specs.Words.{turnAt}
+use Rattle.descriptor_words.specs.declared.Spot.{Spot}
+use Rattle.descriptor.specs.Place.{onSide, spotWrong, turnWrong}
 use Rattle.descriptor.specs.Entry.{faultOf}
 use Rattle.descriptor.specs.Rules.{Inside, spotOf}
 use Rattle.descriptor.proofs.Checks.{fault-sample, fault-none}

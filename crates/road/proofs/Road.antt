@@ -18,9 +18,8 @@ use Rattle.orient_laws.specs.Rules.{Turn}
 use Rattle.descriptor_run.specs.Cells.{samplesOf}
 use Rattle.descriptor_grid.specs.Grid.{gathered}
 use Rattle.descriptor_laws.proofs.ValuesRules.{value-rule}
-use Rattle.descriptor.specs.Place.{turnAt}
-use Rattle.descriptor.specs.declared.Spot.{Spot}
-use Rattle.descriptor.specs.Entry.{valuesAt}
+use Rattle.descriptor_words.specs.Words.{turnAt, valuesAt}
+use Rattle.descriptor_words.specs.declared.Spot.{Spot}
 use Rattle.descriptor.proofs.Rules.{descriptor-rule}
 use Rattle.sheet.specs.Layout.{edition1}
 use Rattle.sheet.specs.Sheet.{allPass}

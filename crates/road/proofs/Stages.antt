@@ -22,7 +22,7 @@ use Rattle.orient.proofs.Rules.{orient-rule}
 use Rattle.orient_laws.specs.Rules.{Turn}
 use Rattle.orient_laws.proofs.Rules.{angles-rule}
 use Rattle.descriptor_patch.specs.Patch.{patchOf}
-use Rattle.descriptor.specs.Place.{turnAt}
+use Rattle.descriptor_words.specs.Words.{turnAt}
 use Rattle.road.specs.Road.{Among, Octave, sizeIn, searchFault, foundIn, turnFault, directionsOf, spotFor}
 use Rattle.road.specs.Rules.{sixUnless, Served, Through}
 use Rattle.road.proofs.Members.{place}

@@ -18,8 +18,8 @@ use Rattle.orient.specs.Entry.{orientFault, orientedList}
 use Rattle.descriptor_inputs.specs.Inputs.{inputsOf}
 use Rattle.descriptor_inputs.specs.declared.Inputs.{Inputs}
 use Rattle.descriptor_run.specs.Cells.{readsOf}
-use Rattle.descriptor.specs.Place.{turnAt}
-use Rattle.descriptor.specs.declared.Spot.{Spot}
+use Rattle.descriptor_words.specs.Words.{turnAt, valuesAt}
+use Rattle.descriptor_words.specs.declared.Spot.{Spot}
 use Rattle.descriptor.specs.Rules.{spotOf}
 use Rattle.descriptor.specs.Entry as Descriptor
 use Rattle.road.specs.Record.{recordOf}
@@ -69,7 +69,7 @@ abbrev pub patchReads : List Float → Octave → OrientedKeypoint → List Floa
 patchReads img q o = readsOf img (turnAt (sizeIn q) (spotFor q o))
 
 abbrev pub valuesFor : List Float → Octave → OrientedKeypoint → List Float
-valuesFor img q o = Descriptor.valuesAt img (sizeIn q) (spotFor q o)
+valuesFor img q o = valuesAt img (sizeIn q) (spotFor q o)
 
 -- a keypoint's picture is that of the layer where it settled, which may be another than the one searched
 abbrev pub pictureFor : Octave → RawKeypoint → List Float

@@ -2,7 +2,7 @@
 // cases, descriptors and words were compared and how many differ.
 ghost use Prim.Native.Nat.{_≤_};
 use descriptor::Described;
-use descriptor::Spot;
+use descriptor_words::Spot;
 use picture::Size;
 
 // How the file begins: "BCL3".

@@ -2,7 +2,7 @@
 ghost use mathlib.Core.Path.{_≡_};
 ghost use Prim.Native.Nat.{_<_, _≤_};
 use descriptor::Described;
-use descriptor::Spot;
+use descriptor_words::Spot;
 use detect_fit::Offset;
 use detect_fit::Patch;
 use detect_keypoint::Cell;

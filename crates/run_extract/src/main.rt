@@ -5,7 +5,7 @@ ghost use mathlib.Core.Path.{_≡_};
 ghost use Prim.Native.Nat.{_+_, _<_, _≤_};
 ghost use lib.ListN.{length};
 use descriptor::Described;
-use descriptor::Spot;
+use descriptor_words::Spot;
 use detect_keypoint::RawKeypoint;
 use orient_words::OrientedKeypoint;
 use params::Answer;

@@ -1,4 +1,7 @@
-use mathlib.Core.Path.{sym, _∙_}
+use mathlib.Core.Path.{_≡_, sym, _∙_}
+use native.Mathlib.Omega.{arith}
+use lib.ListN.{length}
+use Rattle.params.specs.Limits.{valueCount}
 use Rattle.descriptor.proofs.Answers.{answer-refused, out-refused, answer-short, out-short, answer-done, out-done}
 use borrow.Author.Needs.{needs}
 use Rattle.descriptor.proofs.compute_descriptor.Statement.{statement}
@@ -6,7 +9,7 @@ use Rattle.descriptor.proofs.compute_descriptor.Tie as tie
 use Rattle.descriptor.proofs.compute_descriptor.Reads as reads
 use Rattle.descriptor.proofs.compute_descriptor.Lts as lts
 use Rattle.descriptor.proofs.fault_of.Reads as fault-of-reads
-use Rattle.descriptor.proofs.fill.Reads as fill-reads
+use Rattle.descriptor_words.proofs.fill.Reads as fill-reads
 
 fault-of-requires : tie.Need-fault-of-requires
 fault-of-requires c κs = search needs
@@ -21,7 +24,8 @@ returns-2 : tie.Need-returns-2
 returns-2 c =
     let a = c .before .before .before .before .before .args in
     let z = sym (c .before .before .fault-of .ensures .0) ∙ c .before .if1 .left in
-    (answer-short (a .img .now) (a .s) (a .p) z _ (c .if2 .taken), out-short (a .img .now) (a .s) (a .p) z (a .out .now) (c .if2 .taken))
+    let r : length (a .out .now) ≡ valueCount → ⊥ = λ e. omega (arith, c .if2 .taken) in
+    (answer-short (a .img .now) (a .s) (a .p) z _ r, out-short (a .img .now) (a .s) (a .p) z (a .out .now) r)
 
 fill-requires : tie.Need-fill-requires
 fill-requires c κs = (c .before .before .before .fault-of .ensures .1 (c .before .before .if1 .left), search needs)

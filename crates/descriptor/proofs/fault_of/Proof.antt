@@ -1,7 +1,7 @@
 use mathlib.Core.Path.{sym, _∙_}
 use native.Mathlib.Omega.{arith}
 use Rattle.descriptor_patch.specs.Patch.{patchOf}
-use Rattle.descriptor.specs.Place.{turnAt}
+use Rattle.descriptor_words.specs.Words.{turnAt}
 use Rattle.descriptor.proofs.Checks.{fault-shape, size-small, fault-length, fault-spot, fault-turn, aimed, fault-none, fault-sample, ready}
 use borrow.Author.Needs.{needs}
 use Rattle.descriptor.proofs.fault_of.Statement.{statement}
@@ -9,7 +9,7 @@ use Rattle.descriptor.proofs.fault_of.Tie as tie
 use Rattle.descriptor.proofs.fault_of.Reads as reads
 use Rattle.descriptor.proofs.fault_of.Lts as lts
 use Rattle.descriptor.proofs.spot_wrong.Reads as spot-wrong-reads
-use Rattle.descriptor.proofs.turn_at.Reads as turn-at-reads
+use Rattle.descriptor_words.proofs.turn_at.Reads as turn-at-reads
 use Rattle.descriptor.proofs.turn_wrong.Reads as turn-wrong-reads
 use Rattle.params.proofs.shape_wrong.Reads as shape-wrong-reads
 use Rattle.descriptor_reads.proofs.patch_good.Reads as patch-good-reads

@@ -2,7 +2,8 @@ use mir.Syntax.{w32}
 use mir.ValLaws.{toZ-ofZ}
 use native.Mathlib.Omega.{arith}
 use lib.Signed.{natAbs-le}
-use Rattle.descriptor.proofs.Cells.{not-below, side-below, side-from}
+use Rattle.descriptor_words.proofs.Cells.{not-below}
+use Rattle.descriptor.proofs.Cells.{side-below, side-from}
 use Rattle.descriptor.proofs.on_side.Statement.{statement}
 use Rattle.descriptor.proofs.on_side.Tie as tie
 use Rattle.descriptor.proofs.on_side.Reads as reads

@@ -12,8 +12,8 @@ use Rattle.picture.specs.declared.Size.{Size}
 use Rattle.descriptor_patch.specs.Patch.{cellOf}
 use Rattle.descriptor_run.specs.Cells.{readsOf}
 use Rattle.descriptor_patch.specs.Place.{Sides}
-use Rattle.descriptor.specs.Place.{cellAt, turnAt}
-use Rattle.descriptor.specs.declared.Spot.{Spot}
+use Rattle.descriptor_words.specs.Words.{cellAt, turnAt}
+use Rattle.descriptor_words.specs.declared.Spot.{Spot}
 
 -- the position, the scale and the angle, up to number 5
 pub record Aimed (s : Size) (p : Spot) : Type 0 where

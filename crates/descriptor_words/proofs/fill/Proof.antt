@@ -2,17 +2,16 @@ use mathlib.Core.Path.{ap, _∙_}
 use lib.ListN.{length}
 use Rattle.descriptor_patch.specs.Patch.{patchOf}
 use Rattle.descriptor_run.specs.Cells.{samplesOf}
-use Rattle.descriptor.specs.Place.{turnAt}
+use Rattle.descriptor_words.specs.Words.{turnAt}
 use Rattle.descriptor_laws.proofs.ValuesRules.{value-rule}
-use Rattle.descriptor.proofs.Checks.{in-turn}
-use Rattle.descriptor.proofs.Answers.{filled}
+use Rattle.descriptor_words.proofs.Filled.{in-turn, filled}
 use borrow.Author.Needs.{needs}
-use Rattle.descriptor.proofs.fill.Statement.{statement}
-use Rattle.descriptor.proofs.fill.Tie as tie
-use Rattle.descriptor.proofs.fill.Reads as reads
-use Rattle.descriptor.proofs.fill.Lts as lts
-use Rattle.descriptor.proofs.put.Reads as put-reads
-use Rattle.descriptor.proofs.turn_at.Reads as turn-at-reads
+use Rattle.descriptor_words.proofs.fill.Statement.{statement}
+use Rattle.descriptor_words.proofs.fill.Tie as tie
+use Rattle.descriptor_words.proofs.fill.Reads as reads
+use Rattle.descriptor_words.proofs.fill.Lts as lts
+use Rattle.descriptor_words.proofs.put.Reads as put-reads
+use Rattle.descriptor_words.proofs.turn_at.Reads as turn-at-reads
 use Rattle.descriptor_gather.proofs.gather.Reads as gather-reads
 use Rattle.descriptor_values.proofs.values.Reads as values-reads
 

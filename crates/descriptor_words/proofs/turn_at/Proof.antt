@@ -1,14 +1,14 @@
 use mathlib.Core.Path.{_≡_}
 use Rattle.descriptor_patch.specs.Patch.{cellOf}
-use Rattle.descriptor.specs.Place.{cellAt}
-use Rattle.descriptor.proofs.Cells.{cell-told}
-use Rattle.descriptor.proofs.Checks.{asked, turn-is}
+use Rattle.descriptor_words.specs.Words.{cellAt}
+use Rattle.descriptor_words.proofs.Cells.{cell-told}
+use Rattle.descriptor_words.proofs.Filled.{asked, turn-is}
 use borrow.Author.Needs.{needs}
-use Rattle.descriptor.proofs.turn_at.Statement.{statement}
-use Rattle.descriptor.proofs.turn_at.Tie as tie
-use Rattle.descriptor.proofs.turn_at.Reads as reads
-use Rattle.descriptor.proofs.turn_at.Lts as lts
-use Rattle.descriptor.proofs.cell_at.Reads as cell-at-reads
+use Rattle.descriptor_words.proofs.turn_at.Statement.{statement}
+use Rattle.descriptor_words.proofs.turn_at.Tie as tie
+use Rattle.descriptor_words.proofs.turn_at.Reads as reads
+use Rattle.descriptor_words.proofs.turn_at.Lts as lts
+use Rattle.descriptor_words.proofs.cell_at.Reads as cell-at-reads
 use Rattle.ieee_whole.proofs.round_to_i32.Reads as round-to-i32-reads
 use Rattle.descriptor_patch.proofs.patch_of.Reads as patch-of-reads
 

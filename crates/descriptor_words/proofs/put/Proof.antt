@@ -6,11 +6,11 @@ use borrow.Author.Needs.{needs}
 use lib.ListN.{length, take, length-set}
 use Rattle.ieee.specs.F32.{bitsOf}
 use Rattle.params.specs.Limits.{valueCount}
-use Rattle.descriptor.proofs.Answers.{put-more, put-all}
-use Rattle.descriptor.proofs.put.Statement.{statement}
-use Rattle.descriptor.proofs.put.Tie as tie
-use Rattle.descriptor.proofs.put.Reads as reads
-use Rattle.descriptor.proofs.put.Lts as lts
+use Rattle.descriptor_words.proofs.Filled.{put-more, put-all}
+use Rattle.descriptor_words.proofs.put.Statement.{statement}
+use Rattle.descriptor_words.proofs.put.Tie as tie
+use Rattle.descriptor_words.proofs.put.Reads as reads
+use Rattle.descriptor_words.proofs.put.Lts as lts
 
 abbrev Inv-loop : tie.InvT-loop
 Inv-loop v out₀ n₀ out n = (n ≤ valueCount) × ((length out ≡ valueCount) × (take n out ≡ take n (map bitsOf v)))

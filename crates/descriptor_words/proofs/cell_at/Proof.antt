@@ -2,11 +2,11 @@ use mir.Syntax.{w32}
 use mir.ValLaws.{toZ-ofZ}
 use native.Mathlib.Omega.{arith}
 use lib.Signed.{natAbs-le}
-use Rattle.descriptor.proofs.Cells.{not-below, cell-below, cell-from}
-use Rattle.descriptor.proofs.cell_at.Statement.{statement}
-use Rattle.descriptor.proofs.cell_at.Tie as tie
-use Rattle.descriptor.proofs.cell_at.Reads as reads
-use Rattle.descriptor.proofs.cell_at.Lts as lts
+use Rattle.descriptor_words.proofs.Cells.{not-below, cell-below, cell-from}
+use Rattle.descriptor_words.proofs.cell_at.Statement.{statement}
+use Rattle.descriptor_words.proofs.cell_at.Tie as tie
+use Rattle.descriptor_words.proofs.cell_at.Reads as reads
+use Rattle.descriptor_words.proofs.cell_at.Lts as lts
 
 cast-result : tie.Need-cast-result
 cast-result c =

@@ -7,30 +7,23 @@ use native.Mathlib.Omega.{arith}
 use lib.Dec.{T}
 use lib.IntN.{pos}
 use lib.Ieee.{Float, nan, inf, fin, binary32, up, down, ofBits, ofInt, add, mul, lt, le, toUnsigned, isNan}
-use Rattle.lists.proofs.Bools.{and-both, is-T}
+use Rattle.lists.proofs.Bools.{is-T}
 use Rattle.ieee.specs.F32.{_⊗_, f32, rounded, rootOf, float}
 use Rattle.ieee.specs.Root.{sqrt, halves}
 use Rattle.ieee.specs.Whole.{roundEven}
 use Rattle.ieee.specs.Numbers.{half, three, five, root2}
-use Rattle.ieee_laws.proofs.Order.{le-or-lt-float, le-number, lt-le-trans, le-lt-trans, round-marked}
+use Rattle.ieee_laws.proofs.Order.{le-or-lt-float, le-number, lt-le, lt-le-trans, round-marked}
 use Rattle.ieee_laws.proofs.Monotone.{nil, above-zero, toUnsigned-le}
 use Rattle.ieee_laws.proofs.Bounds.{Bounds, bounds-point, bounds-above, add-bounds, mul-bounds, roundEven-bounds, ofInt-bounds, marked-nonneg}
+use Rattle.ieee_laws.proofs.Cuts.{Cuts, cuts}
 use Rattle.params.specs.Limits.{maxSide, scaleLow, scaleHigh}
 use Rattle.params.specs.Table.{within}
+use Rattle.params.proofs.Within.{scale-bounds}
 use Rattle.picture.specs.declared.Size.{Size}
 use Rattle.descriptor_patch.specs.Patch.{histWidth, reachOf, diagonalOf}
 use Rattle.descriptor_patch.specs.Place.{maxRadius, Sides}
 
--- a float that can be cut to a u64
-pub record Cuts (x : Float) : Type 0 where
-  pub above : T (lt (fin true 1 (pos 0)) x)
-  pub below : T (lt x (fin false 1 (pos 64)))
-
 -- ---- the reach
-
-scale-bounds : (s : Float) → within scaleLow scaleHigh s ≡ true → Bounds scaleLow scaleHigh s
-unfolding ofBits
-scale-bounds s h = let p = and-both (le scaleLow s) (le s scaleHigh) h in record { from = refl; to = refl; low = p .0; high = p .1 }
 
 abbrev reach : Float → Float
 reach s = rounded (three ⊗ s ⊗ root2 ⊗ five ⊗ half)
@@ -44,22 +37,17 @@ reach-bounds s h =
     let d = mul-bounds binary32 refl refl refl refl c (bounds-point half refl) in
     roundEven-bounds binary32 refl refl d
 
-pub reach-cuts : (s : Float) → within scaleLow scaleHigh s ≡ true → Cuts (reach s)
-unfolding ofBits mul lt roundEven
-reach-cuts s h =
-    let u = reach-bounds s h in
-    record {
-      above = is-T _ (lt-le-trans (fin true 1 (pos 0)) (reach scaleLow) (reach s) refl (u .low));
-      below = is-T _ (le-lt-trans (reach s) (reach scaleHigh) (fin false 1 (pos 64)) (u .high) refl);
-    }
-
 farthest : toUnsigned 64 (reach scaleHigh) ≡ maxRadius
 unfolding ofBits mul roundEven toUnsigned
 farthest = refl
 
+pub reach-cuts : (s : Float) → within scaleLow scaleHigh s ≡ true → Cuts maxRadius (reach s)
+unfolding ofBits mul lt roundEven
+reach-cuts s h = cuts maxRadius refl refl (omega (arith, farthest)) (reach-bounds s h)
+
 pub reach-small : (s : Float) → within scaleLow scaleHigh s ≡ true → reachOf s ≤ maxRadius
 unfolding reachOf histWidth
-reach-small s h = omega (arith, toUnsigned-le 64 (reach s) (reach scaleHigh) (reach-bounds s h .high), farthest)
+reach-small s h = reach-cuts s h .size
 
 -- ---- the diagonal
 
@@ -89,21 +77,26 @@ diagonal-nonneg s p =
 abbrev far : Float
 far = f32 0x4480_0000
 
-pub diagonal-cuts : (s : Size) → Sides s → lt (diagonalOf s) far ≡ true → Cuts (diagonalOf s)
+far-number : T (not (isNan far))
+unfolding ofBits isNan
+far-number = tt
+
+-- cut, so many cells
+abbrev farCells : ℕ
+farCells = 1024
+
+far-cut : toUnsigned 64 far ≡ farCells
+unfolding ofBits toUnsigned
+far-cut = refl
+
+pub diagonal-cuts : (s : Size) → Sides s → lt (diagonalOf s) far ≡ true → Cuts farCells (diagonalOf s)
 unfolding ofBits lt le
 diagonal-cuts s p k =
     record {
       above = is-T _ (lt-le-trans (fin true 1 (pos 0)) nil (diagonalOf s) refl (diagonal-nonneg s p));
       below = is-T _ (lt-le-trans (diagonalOf s) far (fin false 1 (pos 64)) k refl);
+      size = omega (arith, toUnsigned-le 64 (diagonalOf s) far (lt-le (diagonalOf s) far k), far-cut);
     }
-
-far-number : T (not (isNan far))
-unfolding ofBits isNan
-far-number = tt
-
-far-cut : toUnsigned 64 far ≡ 1024
-unfolding ofBits toUnsigned
-far-cut = refl
 
 pub diagonal-far : (s : Size) (r : ℕ) → Sides s → r ≤ maxRadius → lt (diagonalOf s) far ≡ false → r ≡ min r (toUnsigned 64 (diagonalOf s))
 diagonal-far s r p k e =

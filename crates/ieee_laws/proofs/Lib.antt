@@ -4,6 +4,7 @@ pub mod TurnedOps
 pub mod Order
 pub mod Monotone
 pub mod Bounds
+pub mod Cuts
 pub mod Level
 pub mod Wholes
 pub mod Floors

@@ -23,6 +23,7 @@ use Rattle.ieee_laws.proofs.Turned.{neg-opp, mul-turned, div-turned, le-turned,
 use Rattle.ieee_laws.proofs.TurnedOps.{same, nonzero-of}
 use Rattle.params.specs.Limits.{scaleLow, scaleHigh}
 use Rattle.params.specs.Table.{within, allGood}
+use Rattle.params.proofs.Within.{scale-bounds}
 use Rattle.picture.specs.Picture.{slopeAt, fourAt, firstIn, pastIn}
 use Rattle.picture.specs.declared.Size.{Size}
 use Rattle.samples.proofs.Slopes.{good-slope}
@@ -184,9 +185,7 @@ one-opp = neg-opp one
 spread-bounds : (s : Float) → within scaleLow scaleHigh s ≡ true → Bounds (spread scaleLow) (spread scaleHigh) (spread s)
 unfolding ofBits mul le
 spread-bounds s w =
-    let p = and-both (le scaleLow s) (le s scaleHigh) w in
-    let u : Bounds scaleLow scaleHigh s = record { from = refl; to = refl; low = p .0; high = p .1 } in
-    let g = mul-bounds binary32 refl refl refl refl (bounds-point threeHalves refl) u in
+    let g = mul-bounds binary32 refl refl refl refl (bounds-point threeHalves refl) (scale-bounds s w) in
     mul-bounds binary32 refl refl refl refl (mul-bounds binary32 refl refl refl refl (bounds-point two refl) g) g
 
 spread-some : (s : Float) → within scaleLow scaleHigh s ≡ true → nonzero (spread s) ≡ true

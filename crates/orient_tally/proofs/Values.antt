@@ -16,7 +16,7 @@ use Rattle.ieee_laws.proofs.Order.{le-lt-trans, lt-le}
 use Rattle.ieee_laws.proofs.Bounds.{Bounds, bounds-point, mul-bounds, roundEven-bounds}
 use Rattle.hal_angle.specs.Angle.{angleOf, inAngle}
 use Rattle.hal_angle.proofs.Rules.{angle-rule}
-use Rattle.orient_window.proofs.Radius.{Cuts, cuts}
+use Rattle.ieee_laws.proofs.Cuts.{Cuts, cuts}
 use Rattle.orient_tally.specs.Sample.{bins, tenth, binOf}
 use Rattle.orient_tally.proofs.Lifted.{significand, place, lifts, amount, lift, lifted}
 

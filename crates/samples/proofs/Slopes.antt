@@ -13,6 +13,7 @@ use Rattle.ieee_laws.proofs.Bounds.{Bounds, bounds-wider, sub-bounds}
 use Rattle.ieee_laws.proofs.Turned.{le-turned}
 use Rattle.params.specs.Limits.{sampleLimit}
 use Rattle.params.specs.Table.{goodSample, allGood}
+use Rattle.params.proofs.Within.{within-bounds}
 use Rattle.hal_angle.specs.Numbers.{furthest}
 use Rattle.hal_angle.specs.Angle.{inReach, inAngle}
 use Rattle.picture.specs.Picture.{pixel, slopeAt, fourAt}
@@ -34,7 +35,7 @@ reach-of (fin false m e) a b = b
 
 good-bounds : (x : Float) → goodSample x ≡ true → Bounds (neg sampleLimit) sampleLimit x
 unfolding ofBits neg
-good-bounds x h = let p = and-both (le (neg sampleLimit) x) (le x sampleLimit) h in record { from = refl; to = refl; low = p .0; high = p .1 }
+good-bounds x h = within-bounds (neg sampleLimit) sampleLimit x refl refl h
 
 difference : (x y : Float) → goodSample x ≡ true → goodSample y ≡ true → inReach (absOf (x ⊖ y)) ≡ true
 unfolding ofBits neg sub le

@@ -1,7 +1,7 @@
 //! The three stages on the planes of a frame, beside the published Rust with its own routines: what whoever takes the Rust gets.
 //! Built for the processor at hand by `host/bench/here`, the Rust has the processor's fused operations.
 
-use crate::timing::medians;
+use crate::timing::bests;
 use bargeclover::{Aim, Oriented, Settings, entries};
 use oracle::own;
 use tool::pyramid::{Octave, Pyramid};
@@ -60,7 +60,7 @@ fn detection(octave: &Octave, s: &Settings) -> Vec<[u32; 10]> {
             let layer = |l| search.run(&stack, l, octave.number, s) as u64;
             (1..=s.layers).map(layer).sum()
         };
-        let times = medians(ROUNDS, [&mut ours, &mut theirs]);
+        let times = bests(ROUNDS, [&mut ours, &mut theirs]);
         line(&format!("detection, {room}"), cells, "cells", times);
     }
     words
@@ -110,7 +110,7 @@ fn orientation(octave: &Octave, found: &Found) {
         "orientation",
         cells,
         "cells read",
-        medians(ROUNDS, [&mut ours, &mut theirs]),
+        bests(ROUNDS, [&mut ours, &mut theirs]),
     );
 }
 
@@ -137,7 +137,7 @@ fn descriptor(octave: &Octave, found: &Found) {
         "descriptor",
         used,
         "samples used",
-        medians(ROUNDS, [&mut ours, &mut theirs]),
+        bests(ROUNDS, [&mut ours, &mut theirs]),
     );
 }
 
@@ -188,7 +188,7 @@ fn frame(side: usize) {
 pub fn print() {
     println!("### The stages on a frame\n");
     println!(
-        "Octave 0 of a coast, seed {SEED}, all layers; nanoseconds for each cell or sample. The Rust calls its own routines.\n"
+        "Octave 0 of a coast, seed {SEED}, all layers; nanoseconds for each cell or sample, the best of {ROUNDS} rounds. The Rust calls its own routines.\n"
     );
     SIDES.into_iter().for_each(frame);
 }

@@ -1,4 +1,4 @@
-//! The library and the published Rust's scalar path in one process, on the same buffers, in turns; medians, and their ratio.
+//! The library and the published Rust's scalar path in one process, on the same buffers, in turns; medians, on a frame the best of the rounds, and their ratio.
 //!
 //! Build it with --release. `bench`, or `bench` with some of the words calls, detection, orientation, descriptor, frame, stack. Figures
 //! are kept in docs/SPEED.md, and those of the stack in include/bargeclover.h. `bench once` is for `host/bench/count`.

@@ -8,7 +8,7 @@ use borrow.Author.Tests.{le-leb, leb-true, leb-false, lt-leb}
 use lib.Dec.{leb}
 use lib.Ieee.{Float}
 use Rattle.lists.proofs.Bools.{and-true}
-use Rattle.descriptor_values.specs.Places.{place}
+use Rattle.descriptor_values.specs.Places.{slots, rowPlaces, place}
 use Rattle.descriptor_grid.specs.Grid.{live, when, scattered}
 use Rattle.descriptor_grid.specs.Reach.{Inside}
 use Rattle.descriptor_grid.specs.declared.Spot.{Spot}
@@ -27,17 +27,17 @@ live-next r h = let a : leb 1 (r + 1) ≡ true = le-leb 1 (r + 1) (omega arith) 
     go false e = let l = leb-false r 3 e in lt-leb (r + 1) 4 (omega arith) ∙ sym e
 
 pub four : (p : Spot) (h : List Float) {h1 h2 : List Float} → Inside p
-    → h1 ≡ when (leb 1 (p .row) && leb (p .col) 3) (when (leb 1 (p .row) && leb 1 (p .col)) h (place (p .row) (p .col) (p .slot)) (p .shares .v000) (p .shares .v001)) (place (p .row) (p .col) (p .slot) + 10) (p .shares .v010) (p .shares .v011)
-    → h2 ≡ when (leb (p .row) 3 && leb (p .col) 3) (when (leb (p .row) 3 && leb 1 (p .col)) h1 (place (p .row) (p .col) (p .slot) + 60) (p .shares .v100) (p .shares .v101)) (place (p .row) (p .col) (p .slot) + 60 + 10) (p .shares .v110) (p .shares .v111)
+    → h1 ≡ when (leb 1 (p .row) && leb (p .col) 3) (when (leb 1 (p .row) && leb 1 (p .col)) h (place (p .row) (p .col) (p .slot)) (p .shares .v000) (p .shares .v001)) (place (p .row) (p .col) (p .slot) + slots) (p .shares .v010) (p .shares .v011)
+    → h2 ≡ when (leb (p .row) 3 && leb (p .col) 3) (when (leb (p .row) 3 && leb 1 (p .col)) h1 (place (p .row) (p .col) (p .slot) + rowPlaces) (p .shares .v100) (p .shares .v101)) (place (p .row) (p .col) (p .slot) + rowPlaces + slots) (p .shares .v110) (p .shares .v111)
     → h2 ≡ scattered h p
 unfolding scattered
 four p h i e1 e2 =
     let r = p .row in
     let c = p .col in
     let o = p .slot in
-    let x : place r (c + 1) o ≡ place r c o + 10 = omega arith in
-    let y : place (r + 1) c o ≡ place r c o + 60 = omega arith in
-    let z : place (r + 1) (c + 1) o ≡ place r c o + 60 + 10 = omega arith in
+    let x : place r (c + 1) o ≡ place r c o + slots = omega arith in
+    let y : place (r + 1) c o ≡ place r c o + rowPlaces = omega arith in
+    let z : place (r + 1) (c + 1) o ≡ place r c o + rowPlaces + slots = omega arith in
     let a = live-here r (i .row) in
     let b = live-next r (i .row) in
     let d = live-here c (i .col) in

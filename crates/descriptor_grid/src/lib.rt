@@ -4,9 +4,16 @@ ghost use mathlib.Core.Path.{_≡_};
 ghost use mathlib.Core.Bool.{_&&_};
 ghost use Prim.Native.Nat.{_+_, _<_};
 ghost use lib.Dec.{leb};
-ghost use Rattle.descriptor_values.specs.Places.{places};
+ghost use Rattle.descriptor_values.specs.Places.{slots, places};
 ghost use Rattle.descriptor_grid.specs.Grid.{sharesOf, spotOf, pairAt, when, scattered};
 ghost use Rattle.descriptor_grid.specs.Reach.{Near, splitOf, Lent, Settled, Inside};
+
+// The cells of a side of the histogram, the slots of a cell, and the places of a row of cells.
+const CELLS: usize = 6;
+
+const SLOTS: usize = 10;
+
+const ROW: usize = CELLS * SLOTS;
 
 // A sample's eight shares: by row, column and slot of the grid, each the nearer one (0) or the next (1).
 pub struct Shares {
@@ -134,24 +141,24 @@ fn pair_if(t: bool, hist: &mut [f32; 360], i: usize, a: f32, b: f32)
     }
 }
 
-// The two pairs of a row of the grid: a column on lies 10 places on.
+// The two pairs of a row of the grid: a column on lies a cell's slots on.
 fn row_if(t: bool, hist: &mut [f32; 360], i: usize, col: usize, s: RowShares)
-    requires { ⌜ i + 11 < places ⌝ }
-    ensures { λ _. ⌜ now (hist .exit) ≡ when (t && leb col 3) (when (t && leb 1 col) (now (hist .entry)) i (s .v00) (s .v01)) (i + 10) (s .v10) (s .v11) ⌝ }
+    requires { ⌜ i + slots + 1 < places ⌝ }
+    ensures { λ _. ⌜ now (hist .exit) ≡ when (t && leb col 3) (when (t && leb 1 col) (now (hist .entry)) i (s .v00) (s .v01)) (i + slots) (s .v10) (s .v11) ⌝ }
 {
     if t {
         pair_if(1 <= col, hist, i, s.v00, s.v01);
-        pair_if(col <= 3, hist, i + 10, s.v10, s.v11);
+        pair_if(col <= 3, hist, i + SLOTS, s.v10, s.v11);
     }
 }
 
-// The eight shares in the source's order; a row on lies 60 places on. Pairs of the outer ring, which no value is made of, are left out: first by row, then by column.
+// The eight shares in the source's order; a row on lies the places of a row on. Pairs of the outer ring, which no value is made of, are left out: first by row, then by column.
 fn scatter(hist: &mut [f32; 360], p: Spot)
     requires { ⌜ Inside p ⌝ }
     ensures { λ _. ⌜ now (hist .exit) ≡ scattered (now (hist .entry)) p ⌝ }
 {
     let s = p.shares;
-    let i = (p.row * 6 + p.col) * 10 + p.slot;
+    let i = (p.row * CELLS + p.col) * SLOTS + p.slot;
     let here = RowShares {
         v00: s.v000,
         v01: s.v001,
@@ -165,7 +172,7 @@ fn scatter(hist: &mut [f32; 360], p: Spot)
         v11: s.v111,
     };
     row_if(1 <= p.row, hist, i, p.col, here);
-    row_if(p.row <= 3, hist, i + 60, p.col, next);
+    row_if(p.row <= 3, hist, i + ROW, p.col, next);
 }
 
 // A sample added to the histogram. The tables of the routines are lent.

@@ -1,12 +1,15 @@
 -- The places of the histogram of 6 × 6 cells of 10 slots. Definitions only.
 use Prim.Native.Nat.{ℕ, _+_, _*_}
 
--- the cells of a side, the slots of a cell, all places, and the slots that go out
+-- the cells of a side, the slots of a cell, the places of a row of cells and all, and the slots that go out
 abbrev pub cells : ℕ
 cells = 6
 
 abbrev pub slots : ℕ
 slots = 10
+
+abbrev pub rowPlaces : ℕ
+rowPlaces = 60
 
 abbrev pub places : ℕ
 places = 360

@@ -15,7 +15,7 @@ use lib.Ieee.Exact.{HasValue, units-val}
 use lib.Ieee.Fits.{down-pos, round-is}
 use lib.Ieee.Order.{drop, kept}
 use lib.Ieee.Scale.{finite, grid}
-use Rattle.ieee_root.specs.Mild.{small, eachMild, allMild}
+use Rattle.ieee_root.specs.Mild.{pieces, tableSize, small, eachMild, allMild}
 use Rattle.ieee.proofs.Nearby.{at-most-twice}
 
 ruleset ac = (mul-assoc, mul-comm, mul-left-comm)
@@ -123,23 +123,23 @@ each-at [] i z h k = absurd (not-suc-le-zero k)
 each-at (x ∷ xs) zero z h k = under 24 x (first (small 24 x) (eachMild xs) h)
 each-at (x ∷ xs) (suc i) z h k = each-at xs i z (second (small 24 x) (eachMild xs) h) (le-of-suc-le-suc k)
 
-mild-at : (l : List Float) (i : ℕ) (z : Float) → allMild l ≡ true → i < 256 → Under 24 (getD l i z)
+mild-at : (l : List Float) (i : ℕ) (z : Float) → allMild l ≡ true → i < tableSize → Under 24 (getD l i z)
 unfolding allMild
 mild-at l i z h k =
-    each-at l i z (second (eqb (length l) 256) (eachMild l) h)
-    (subst (λ (n : ℕ). i < n) (sym (eqb-true (length l) 256 (first (eqb (length l) 256) (eachMild l) h))) k)
+    each-at l i z (second (eqb (length l) tableSize) (eachMild l) h)
+    (subst (λ (n : ℕ). i < n) (sym (eqb-true (length l) tableSize (first (eqb (length l) tableSize) (eachMild l) h))) k)
 
 -- ---- a cubic of a number up to 4, and 2 ^ 52
 big : Under 52 (ofBits binary64 4841369599423283200)
 unfolding ofBits
 big = lit≤ tt
 
-pub cubic-finite : (l : List Float) (i : ℕ) (a z : Float) → allMild l ≡ true → i < 64 → small 2 a ≡ true
+pub cubic-finite : (l : List Float) (i : ℕ) (a z : Float) → allMild l ≡ true → i < pieces → small 2 a ≡ true
     → finite (add binary64 (add binary64 (getD l i z) (mul binary64 a (add binary64 (getD l (64 + i) z) (mul binary64 a (add binary64 (getD l (128 + i) z) (mul binary64 a (getD l (192 + i) z))))))) (ofBits binary64 4841369599423283200)) ≡ true
 cubic-finite l i a z h k s =
     let A : Under 2 a = under 2 a s in
-    let c : (j : ℕ) → j < 256 → Under 24 (getD l j z) = λ j q. mild-at l j z h q in
-    let step : (j p : ℕ) (r : Float) → j < 256 → 24 ≤ suc (2 + p) → p < 1000 → Under p r → Under (suc (suc (suc (2 + p)))) (add binary64 (getD l j z) (mul binary64 a r)) =
+    let c : (j : ℕ) → j < tableSize → Under 24 (getD l j z) = λ j q. mild-at l j z h q in
+    let step : (j p : ℕ) (r : Float) → j < tableSize → 24 ≤ suc (2 + p) → p < 1000 → Under p r → Under (suc (suc (suc (2 + p)))) (add binary64 (getD l j z) (mul binary64 a r)) =
     λ j p r J lo hi u. add-under (suc (2 + p)) (getD l j z) (mul binary64 a r) (omega arith) (wider 24 (suc (2 + p)) (getD l j z) lo (c j J)) (mul-under 2 p a r (omega arith) A u) in
     let r3 = getD l (192 + i) z in
     let r2 = add binary64 (getD l (128 + i) z) (mul binary64 a r3) in

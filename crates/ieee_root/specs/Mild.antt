@@ -18,7 +18,14 @@ unfolding small
 eachMild [] = true
 eachMild (x ∷ xs) = small 24 x && eachMild xs
 
+-- the pieces of a table, and its numbers, four of a piece
+abbrev pub pieces : ℕ
+pieces = 64
+
+abbrev pub tableSize : ℕ
+tableSize = 256
+
 -- a whole table of them: the type of a lent array tells a proof nothing of its length
 unfoldable pub allMild : List Float → Bool
 unfolding eachMild
-allMild l = eqb (length l) 256 && eachMild l
+allMild l = eqb (length l) tableSize && eachMild l

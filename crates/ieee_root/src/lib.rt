@@ -12,7 +12,7 @@ ghost use Rattle.ieee.specs.Root.{sqrt};
 ghost use Rattle.ieee.specs.Operations.{IsRoot};
 ghost use Rattle.ieee.specs.F32.{_⊗_, f32, fused, rootOf};
 ghost use Rattle.ieee_root.specs.Parts.{RootOrZero, Raised, digitsBits, radicandOf};
-ghost use Rattle.ieee_root.specs.Mild.{small, allMild};
+ghost use Rattle.ieee_root.specs.Mild.{pieces, small, allMild};
 
 // The largest r with r * r <= n, a digit at a time (the root of 64 digits has 32): only where the guess of a root fails, and for subnormals.
 fn isqrt(n: u64) -> u64
@@ -192,7 +192,7 @@ fn radicand(n: u64) -> u64
 
 // Piece i of the cubics at a, and 2^52 = 4503599627370496 more, so that the last digits are a whole number. No contract says which: who asks has to test it.
 fn cubic_at(cubics: &[f64; 256], i: usize, a: f64) -> f64
-    requires { ⌜ allMild (now cubics) ≡ true ⌝ ∗ ⌜ (i < 64) × (small 2 a ≡ true) ⌝ }
+    requires { ⌜ allMild (now cubics) ≡ true ⌝ ∗ ⌜ (i < pieces) × (small 2 a ≡ true) ⌝ }
     ensures { λ r. ⌜ finite r ≡ true ⌝ }
 {
     cubics[i]

@@ -1,6 +1,7 @@
 // The marked examples, rules E1 to E10, run through the public functions. Floats are shown by their bits; what is expected is what the rule says of the example.
 ghost use mathlib.Core.Path.{_≡_};
 ghost use Prim.Native.Nat.{_<_, _≤_};
+ghost use Rattle.params.specs.Limits.{valueCount};
 use descriptor::Described;
 use descriptor_words::Spot;
 use detect_fit::Offset;
@@ -323,7 +324,7 @@ fn marked(bits: u32) -> usize
 
 // How many values are not +0, by their bits.
 fn not_zero(values: &[u32; 128]) -> usize
-    ensures { λ n. ⌜ n ≤ 128 ⌝ }
+    ensures { λ n. ⌜ n ≤ valueCount ⌝ }
 {
     let mut n: usize = 0;
     for i in 0..128 {

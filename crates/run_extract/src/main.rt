@@ -4,6 +4,9 @@
 ghost use mathlib.Core.Path.{_≡_};
 ghost use Prim.Native.Nat.{_+_, _<_, _≤_};
 ghost use lib.ListN.{length};
+ghost use Rattle.params.specs.Limits.{valueCount};
+ghost use Rattle.sheet.specs.Words.{plainWords, readWords, headWords, floatWords};
+ghost use Rattle.run_extract.specs.Sizes.{mostFound, mostRecords, recordsWords, sheetBytes, pictureSamples, columns};
 use descriptor::Described;
 use descriptor_words::Spot;
 use detect_keypoint::RawKeypoint;
@@ -74,7 +77,7 @@ fn parts(bits: u32, of_one: f32) -> u64 {
 
 // The keypoints found in a layer, at most 32 of them.
 fn find(dog: &[f32], layer: usize, found: &mut [u32; 320]) -> usize
-    ensures { λ r. ⌜ r ≤ 32 ⌝ }
+    ensures { λ r. ⌜ r ≤ mostFound ⌝ }
 {
     let shape = Shape {
         width: WIDTH,
@@ -99,7 +102,7 @@ fn find(dog: &[f32], layer: usize, found: &mut [u32; 320]) -> usize
 
 // The values, each a whole number, of their bits.
 fn put_values(records: &mut [u32; 8832], at: usize, values: &[u32; 128])
-    requires { ⌜ at + 128 ≤ 8832 ⌝ }
+    requires { ⌜ at + valueCount ≤ recordsWords ⌝ }
 {
     for i in 0..128 {
         records[at + i] = whole(ieee::of_bits(values[i]));
@@ -107,7 +110,7 @@ fn put_values(records: &mut [u32; 8832], at: usize, values: &[u32; 128])
 }
 
 fn put_head(records: &mut [u32; 8832], at: usize, k: RawKeypoint)
-    requires { ⌜ at + 5 ≤ 8832 ⌝ }
+    requires { ⌜ at + headWords ≤ recordsWords ⌝ }
 {
     let word = k.octave;
     records[at] = k.rr;
@@ -118,7 +121,7 @@ fn put_head(records: &mut [u32; 8832], at: usize, k: RawKeypoint)
 }
 
 fn put_floats(records: &mut [u32; 8832], at: usize, o: OrientedKeypoint)
-    requires { ⌜ at + 5 ≤ 8832 ⌝ }
+    requires { ⌜ at + floatWords ≤ recordsWords ⌝ }
 {
     records[at] = ieee::bits_of(o.x);
     records[at + 1] = ieee::bits_of(o.y);
@@ -135,7 +138,7 @@ fn put_record(
     o: OrientedKeypoint,
     values: &[u32; 128],
 )
-    requires { ⌜ at + 138 ≤ 8832 ⌝ }
+    requires { ⌜ at + plainWords ≤ recordsWords ⌝ }
 {
     put_head(records, at, k);
     put_floats(records, at + 5, o);
@@ -176,8 +179,8 @@ fn add_record(
     records: &mut [u32; 8832],
     written: usize,
 ) -> usize
-    requires { ⌜ written ≤ 64 ⌝ }
-    ensures { λ r. ⌜ r ≤ 64 ⌝ }
+    requires { ⌜ written ≤ mostRecords ⌝ }
+    ensures { λ r. ⌜ r ≤ mostRecords ⌝ }
 {
     if !there {
         return written;
@@ -199,8 +202,8 @@ fn add_peaks(
     records: &mut [u32; 8832],
     written: usize,
 ) -> usize
-    requires { ⌜ written ≤ 64 ⌝ }
-    ensures { λ r. ⌜ r ≤ 64 ⌝ }
+    requires { ⌜ written ≤ mostRecords ⌝ }
+    ensures { λ r. ⌜ r ≤ mostRecords ⌝ }
 {
     let all = &out[..];
     let mut n = written;
@@ -215,8 +218,8 @@ fn add_peaks(
 
 // Adds the records of a keypoint on its picture.
 fn add_on(picture: &[f32], k: RawKeypoint, records: &mut [u32; 8832], written: usize) -> usize
-    requires { ⌜ written ≤ 64 ⌝ }
-    ensures { λ r. ⌜ r ≤ 64 ⌝ }
+    requires { ⌜ written ≤ mostRecords ⌝ }
+    ensures { λ r. ⌜ r ≤ mostRecords ⌝ }
 {
     let mut out = [0u32; 108];
     let r = orient::assign_orientations(picture, size(), k, &mut out);
@@ -243,8 +246,8 @@ fn add_keypoint(
     records: &mut [u32; 8832],
     written: usize,
 ) -> usize
-    requires { ⌜ (length (now pictures) ≡ 7392) × (written ≤ 64) ⌝ }
-    ensures { λ r. ⌜ r ≤ 64 ⌝ }
+    requires { ⌜ (length (now pictures) ≡ pictureSamples) × (written ≤ mostRecords) ⌝ }
+    ensures { λ r. ⌜ r ≤ mostRecords ⌝ }
 {
     let from = 2464 * picture_of(k.layer);
     let to = from + 2464;
@@ -258,8 +261,8 @@ fn add_found(
     records: &mut [u32; 8832],
     written: usize,
 ) -> usize
-    requires { ⌜ (length (now pictures) ≡ 7392) × (count ≤ 32) × (written ≤ 64) ⌝ }
-    ensures { λ r. ⌜ r ≤ 64 ⌝ }
+    requires { ⌜ (length (now pictures) ≡ pictureSamples) × (count ≤ mostFound) × (written ≤ mostRecords) ⌝ }
+    ensures { λ r. ⌜ r ≤ mostRecords ⌝ }
 {
     let all = &found[..];
     let mut n = written;
@@ -279,8 +282,8 @@ fn add_layer(
     records: &mut [u32; 8832],
     written: usize,
 ) -> usize
-    requires { ⌜ (length (now pictures) ≡ 7392) × (written ≤ 64) ⌝ }
-    ensures { λ r. ⌜ r ≤ 64 ⌝ }
+    requires { ⌜ (length (now pictures) ≡ pictureSamples) × (written ≤ mostRecords) ⌝ }
+    ensures { λ r. ⌜ r ≤ mostRecords ⌝ }
 {
     let mut found = [0u32; 320];
     let n = find(dog, layer, &mut found);
@@ -291,7 +294,7 @@ fn add_layer(
 
 // The largest of a record's 128 values.
 fn largest(row: &[u32]) -> u32
-    requires { ⌜ length (now row) ≡ 139 ⌝ }
+    requires { ⌜ length (now row) ≡ readWords ⌝ }
 {
     let mut most: u32 = 0;
     for i in 0..128 {
@@ -308,7 +311,7 @@ fn wide(x: u32) -> u64 {
 
 // What stands in a column of the table: the whole numbers, the floats, the largest of the values, and the blank word.
 fn shown(row: &[u32], column: usize) -> u64
-    requires { ⌜ (length (now row) ≡ 139) × (column < 12) ⌝ }
+    requires { ⌜ (length (now row) ≡ readWords) × (column < columns) ⌝ }
 {
     match column {
         8 => parts(row[8], 100000.0),
@@ -320,7 +323,7 @@ fn shown(row: &[u32], column: usize) -> u64
 }
 
 fn print_record(row: &[u32])
-    requires { ⌜ length (now row) ≡ 139 ⌝ }
+    requires { ⌜ length (now row) ≡ readWords ⌝ }
 {
     let mut numbers = [0u64; 32];
     for i in 0..12 {
@@ -330,7 +333,7 @@ fn print_record(row: &[u32])
 }
 
 fn print_table(words: &[u32; 8896], count: usize)
-    requires { ⌜ count ≤ 64 ⌝ }
+    requires { ⌜ count ≤ mostRecords ⌝ }
 {
     run_io::print(
         b"row\tcolumn\toctave\tlayer\tcode\tx\ty\tsize\tresponse x 100000\tangle\tlargest value\tall zero\n",
@@ -350,7 +353,7 @@ fn print_byte(b: u8) {
 
 // The bytes from a place on, in one line.
 fn print_bytes(bytes: &[u8; 9864], at: usize, n: usize)
-    requires { ⌜ at + n ≤ 9864 ⌝ }
+    requires { ⌜ at + n ≤ sheetBytes ⌝ }
 {
     for i in 0..n {
         print_byte(bytes[at + i]);
@@ -359,7 +362,7 @@ fn print_bytes(bytes: &[u8; 9864], at: usize, n: usize)
 }
 
 fn print_sheet(bytes: &[u8; 9864], count: usize)
-    requires { ⌜ count ≤ 64 ⌝ }
+    requires { ⌜ count ≤ mostRecords ⌝ }
 {
     print_bytes(bytes, 0, 8);
     for i in 0..count {
@@ -369,8 +372,8 @@ fn print_sheet(bytes: &[u8; 9864], count: usize)
 
 // The sheet of so many records, and how many bytes it has.
 fn write(records: [u32; 8832], count: usize, bytes: &mut [u8; 9864]) -> usize
-    requires { ⌜ count ≤ 64 ⌝ }
-    ensures { λ r. ⌜ r ≤ 9864 ⌝ }
+    requires { ⌜ count ≤ mostRecords ⌝ }
+    ensures { λ r. ⌜ r ≤ sheetBytes ⌝ }
 {
     let long = 138 * count;
     let a = sheet_write::write_sheet(WIDTH, HEIGHT, LAYERS, &records[..long], bytes);
@@ -383,8 +386,8 @@ fn write(records: [u32; 8832], count: usize, bytes: &mut [u8; 9864]) -> usize
 
 // The records of a sheet, and how many there are.
 fn read(bytes: [u8; 9864], size: usize, words: &mut [u32; 8896]) -> usize
-    requires { ⌜ size ≤ 9864 ⌝ }
-    ensures { λ r. ⌜ r ≤ 64 ⌝ }
+    requires { ⌜ size ≤ sheetBytes ⌝ }
+    ensures { λ r. ⌜ r ≤ mostRecords ⌝ }
 {
     let r = sheet_read::read_sheet(&bytes[..size], words);
     let a = r.answer;
@@ -397,7 +400,7 @@ fn read(bytes: [u8; 9864], size: usize, words: &mut [u32; 8896]) -> usize
 
 // Writes the sheet, reads it back and prints both.
 fn show(records: [u32; 8832], count: usize)
-    requires { ⌜ count ≤ 64 ⌝ }
+    requires { ⌜ count ≤ mostRecords ⌝ }
 {
     let mut bytes = [0u8; 9864];
     let size = write(records, count, &mut bytes);
@@ -409,7 +412,7 @@ fn show(records: [u32; 8832], count: usize)
 
 // The whole way: the records by the layer searched, in each as detection lists the keypoints and orientation their directions.
 fn extract(dog: &[f32], pictures: &[f32])
-    requires { ⌜ length (now pictures) ≡ 7392 ⌝ }
+    requires { ⌜ length (now pictures) ≡ pictureSamples ⌝ }
 {
     let mut records = [0u32; 8832];
     let first = add_layer(dog, pictures, 1, &mut records, 0);

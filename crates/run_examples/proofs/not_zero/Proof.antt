@@ -1,13 +1,14 @@
 use Prim.Native.Nat.{_≤_, _-_}
 use borrow.Author.Needs.{needs}
+use Rattle.params.specs.Limits.{valueCount}
 use Rattle.run_examples.proofs.not_zero.Statement.{statement}
 use Rattle.run_examples.proofs.not_zero.Tie as tie
 
 abbrev Inv-loop : tie.InvT-loop
-Inv-loop values n₀ i₀ n i = (i ≤ 128) × (n ≤ i)
+Inv-loop values n₀ i₀ n i = (i ≤ valueCount) × (n ≤ i)
 
 abbrev μ-loop : tie.MeasureT-loop
-μ-loop values n₀ i₀ n i = 128 - i
+μ-loop values n₀ i₀ n i = valueCount - i
 
 loop-holds : tie.Need-loop-holds Inv-loop μ-loop
 loop-holds c = search needs

@@ -1,10 +1,11 @@
 use Prim.Native.Nat.{_-_, _≤_}
 use borrow.Author.Needs.{needs}
+use Rattle.run_extract.specs.Sizes.{mostRecords}
 use Rattle.run_extract.proofs.add_found.Statement.{statement}
 use Rattle.run_extract.proofs.add_found.Tie as tie
 
 abbrev Inv-loop : tie.InvT-loop
-Inv-loop pictures found count records₀ written all n₀ i₀ records n i = (i ≤ count) × (n ≤ 64)
+Inv-loop pictures found count records₀ written all n₀ i₀ records n i = (i ≤ count) × (n ≤ mostRecords)
 
 abbrev μ-loop : tie.MeasureT-loop
 μ-loop pictures found count records₀ written all n₀ i₀ records n i = count - i

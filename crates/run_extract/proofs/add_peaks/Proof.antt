@@ -1,13 +1,14 @@
 use Prim.Native.Nat.{_-_, _≤_}
 use borrow.Author.Needs.{needs}
+use Rattle.run_extract.specs.Sizes.{mostPeaks, mostRecords}
 use Rattle.run_extract.proofs.add_peaks.Statement.{statement}
 use Rattle.run_extract.proofs.add_peaks.Tie as tie
 
 abbrev Inv-loop : tie.InvT-loop
-Inv-loop picture k out peaks records₀ written all n₀ j₀ records n j = (j ≤ 18) × (n ≤ 64)
+Inv-loop picture k out peaks records₀ written all n₀ j₀ records n j = (j ≤ mostPeaks) × (n ≤ mostRecords)
 
 abbrev μ-loop : tie.MeasureT-loop
-μ-loop picture k out peaks records₀ written all n₀ j₀ records n j = 18 - j
+μ-loop picture k out peaks records₀ written all n₀ j₀ records n j = mostPeaks - j
 
 loop-holds : tie.Need-loop-holds Inv-loop μ-loop
 loop-holds c = search needs

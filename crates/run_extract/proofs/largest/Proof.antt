@@ -1,13 +1,14 @@
 use Prim.Native.Nat.{_-_, _≤_}
 use borrow.Author.Needs.{needs}
+use Rattle.params.specs.Limits.{valueCount}
 use Rattle.run_extract.proofs.largest.Statement.{statement}
 use Rattle.run_extract.proofs.largest.Tie as tie
 
 abbrev Inv-loop : tie.InvT-loop
-Inv-loop row most₀ i₀ most i = i ≤ 128
+Inv-loop row most₀ i₀ most i = i ≤ valueCount
 
 abbrev μ-loop : tie.MeasureT-loop
-μ-loop row most₀ i₀ most i = 128 - i
+μ-loop row most₀ i₀ most i = valueCount - i
 
 loop-holds : tie.Need-loop-holds Inv-loop μ-loop
 loop-holds c = search needs

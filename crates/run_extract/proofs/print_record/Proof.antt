@@ -1,13 +1,14 @@
 use Prim.Native.Nat.{_-_, _≤_}
 use borrow.Author.Needs.{needs}
+use Rattle.run_extract.specs.Sizes.{columns}
 use Rattle.run_extract.proofs.print_record.Statement.{statement}
 use Rattle.run_extract.proofs.print_record.Tie as tie
 
 abbrev Inv-loop : tie.InvT-loop
-Inv-loop row numbers₀ i₀ t4 numbers i = i ≤ 12
+Inv-loop row numbers₀ i₀ t4 numbers i = i ≤ columns
 
 abbrev μ-loop : tie.MeasureT-loop
-μ-loop row numbers₀ i₀ t4 numbers i = 12 - i
+μ-loop row numbers₀ i₀ t4 numbers i = columns - i
 
 loop-holds : tie.Need-loop-holds Inv-loop μ-loop
 loop-holds c = search needs

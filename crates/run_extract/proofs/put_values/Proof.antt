@@ -1,13 +1,14 @@
 use borrow.Author.Needs.{needs}
 use Prim.Native.Nat.{_-_, _≤_}
+use Rattle.params.specs.Limits.{valueCount}
 use Rattle.run_extract.proofs.put_values.Statement.{statement}
 use Rattle.run_extract.proofs.put_values.Tie as tie
 
 abbrev Inv-loop : tie.InvT-loop
-Inv-loop records₀ at values i₀ records i = i ≤ 128
+Inv-loop records₀ at values i₀ records i = i ≤ valueCount
 
 abbrev μ-loop : tie.MeasureT-loop
-μ-loop records₀ at values i₀ records i = 128 - i
+μ-loop records₀ at values i₀ records i = valueCount - i
 
 loop-holds : tie.Need-loop-holds Inv-loop μ-loop
 loop-holds c = search needs

@@ -13,7 +13,7 @@ use lib.Ieee.Fits.{down-pos}
 use lib.Ieee.Bits.{is-true}
 use lib.Ieee.Back.{round-whole}
 use lib.Ieee.Scale.{finite}
-use Rattle.ieee_root.specs.Mild.{allMild}
+use Rattle.ieee_length.specs.Mild.{allMild}
 use Rattle.ieee.specs.Root.{rootIn, root, halves, sqrt}
 use Rattle.ieee.specs.Fused.{fma}
 use Rattle.ieee.specs.F32.{_⊗_, fused, rootOf, absOf}

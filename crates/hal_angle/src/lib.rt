@@ -117,7 +117,7 @@ pub fn magnitude(dx: f32, dy: f32) -> f32
     ensures { λ r. ⌜ r ≡ magnitudeOf dx dy ⌝ }
 {
     if both_in_reach(ieee::abs(dx), ieee::abs(dy)) {
-        ieee_root::length(dx, dy)
+        ieee_length::length(dx, dy)
     } else {
         hal::outside()
     }
@@ -135,5 +135,5 @@ pub fn magnitude_in(t: &[f64; 256], dx: f32, dy: f32) -> f32
     requires { ⌜ (now t ≡ cubics) × (inAngle dx dy ≡ true) ⌝ }
     ensures { λ r. ⌜ r ≡ magnitudeOf dx dy ⌝ }
 {
-    ieee_root::length_with(t, dx, dy)
+    ieee_length::length_with(t, dx, dy)
 }

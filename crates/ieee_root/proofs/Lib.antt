@@ -1,9 +1,6 @@
--- The laws of roots that the proofs of the functions share.
+-- The laws of roots that the proofs of the functions share, here and in `ieee_length`.
 mod Roots
 mod Rooted
 mod Fast
-mod Tries
-mod Small
-mod Raised
-mod Digits
+pub mod Tries
 pub mod Midpoints

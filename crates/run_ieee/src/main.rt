@@ -33,7 +33,7 @@ fn same(op: u32, a: u32, b: u32, c: u32, want: u32) -> bool {
         6 => agrees(ieee_whole::to_i32(x), want),
         7 => ieee::bits_of(ieee::abs(x)) == want,
         8 => ieee::bits_of(x) == want,
-        9 => ieee::bits_of(ieee_root::length(x, y)) == want,
+        9 => ieee::bits_of(ieee_length::length(x, y)) == want,
         10 => agrees(ieee_whole::floor_to_i32(x), want),
         11 => agrees(ieee_whole::round_to_i32(x), want),
         _ => false,

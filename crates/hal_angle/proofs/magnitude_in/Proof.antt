@@ -5,7 +5,7 @@ use Rattle.hal_angle.proofs.magnitude_in.Statement.{statement}
 use Rattle.hal_angle.proofs.magnitude_in.Tie as tie
 use Rattle.hal_angle.proofs.magnitude_in.Reads as reads
 use Rattle.hal_angle.proofs.magnitude_in.Lts as lts
-use Rattle.ieee_root.proofs.length_with.Reads as length-with-reads
+use Rattle.ieee_length.proofs.length_with.Reads as length-with-reads
 
 length-with-requires : tie.Need-length-with-requires
 length-with-requires c κs = (mild-of (c .args .t .now) (c .pre .0), inner-finite (c .args .dx) (c .args .dy) (subst T (sym (c .pre .1)) tt))

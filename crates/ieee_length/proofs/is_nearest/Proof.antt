@@ -7,8 +7,8 @@ use native.Mathlib.Nat.{lt-of-lt-of-le, lt-of-le-of-lt, mul-le-mul}
 use native.Mathlib.Omega.{arith}
 use lib.Dec.{ltb, leb, lit<, lit≤}
 use borrow.Author.Needs.{needs}
-use Rattle.ieee_root.proofs.is_nearest.Statement.{statement}
-use Rattle.ieee_root.proofs.is_nearest.Tie as tie
+use Rattle.ieee_length.proofs.is_nearest.Statement.{statement}
+use Rattle.ieee_length.proofs.is_nearest.Tie as tie
 
 square-lt : (k : ℕ) → k < 2 ^ 25 → k * k < 2 ^ 50
 square-lt k h = let l : k ≤ 2 ^ 25 - 1 = omega arith in lt-of-le-of-lt (mul-le-mul l l) (lit< tt)

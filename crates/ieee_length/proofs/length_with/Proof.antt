@@ -1,8 +1,8 @@
 -- `length_with` meets its contract: the guess that passed, or `length`. Assumes nothing.
 use Rattle.packing.proofs.Plain.{no-nan32}
 use borrow.Author.Needs.{needs}
-use Rattle.ieee_root.proofs.length_with.Statement.{statement}
-use Rattle.ieee_root.proofs.length_with.Tie as tie
+use Rattle.ieee_length.proofs.length_with.Statement.{statement}
+use Rattle.ieee_length.proofs.length_with.Tie as tie
 
 length-guess-requires : tie.Need-length-guess-requires
 length-guess-requires c κs = search needs

@@ -12,8 +12,8 @@ use Rattle.ieee.specs.Fused.{fma, convert}
 use Rattle.ieee.specs.Parts.{RoundsOnce, narrowBits}
 use Rattle.ieee.proofs.Equal.{zero-of}
 use Rattle.ieee.proofs.Doubled.{plain-normal, plain-is}
-use Rattle.ieee_root.proofs.length.Statement.{statement}
-use Rattle.ieee_root.proofs.length.Tie as tie
+use Rattle.ieee_length.proofs.length.Statement.{statement}
+use Rattle.ieee_length.proofs.length.Tie as tie
 
 -- the zeros
 zeros-at : (s t : Bool) → ofBits binary32 0 ≡ sqrt binary32 (fma binary32 (fin s 0 (pos 0)) (fin s 0 (pos 0)) (mul binary32 (fin t 0 (pos 0)) (fin t 0 (pos 0))))
@@ -45,13 +45,13 @@ normal-root-requires : tie.Need-normal-root-requires
 normal-root-requires c κs =
     let d = c .before .before in
     let n = d .before .fused-wide in
-    subst (λ (b : ℕ). (8388608 ≤ b) × (b < 2139095040)) (sym (c .narrow-bits .ensures)) (plain-normal (n .result) (n .ensures .once (d .if3 .taken)) (c .before .if4 .taken))
+    subst (λ (b : ℕ). (8388608 ≤ b) × (b < 2139095040)) (sym (c .narrow-bits .ensures)) (plain-normal (n .result) (n .ensures .once (d .if3 .taken)) (lt-of-lt-of-le (c .before .if4 .taken) (lit≤ tt)))
 
 returns-2 : tie.Need-returns-2
 returns-2 c =
     let d = c .before .before .before in
     let n = d .before .fused-wide in
-    root-of (n .result) _ _ _ (c .normal-root .ensures) (c .before .narrow-bits .ensures) (n .ensures .once (d .if3 .taken)) (c .before .before .if4 .taken) (n .ensures .right (d .if3 .taken))
+    root-of (n .result) _ _ _ (c .normal-root .ensures) (c .before .narrow-bits .ensures) (n .ensures .once (d .if3 .taken)) (lt-of-lt-of-le (c .before .before .if4 .taken) (lit≤ tt)) (n .ensures .right (d .if3 .taken))
 
 fma-general-requires : tie.Need-fma-general-requires
 fma-general-requires c κs = search needs

@@ -2,8 +2,8 @@
 use native.Mathlib.Omega.{arith}
 use Rattle.packing.proofs.Plain.{no-nan64}
 use borrow.Author.Needs.{needs}
-use Rattle.ieee_root.proofs.raised_digits.Statement.{statement}
-use Rattle.ieee_root.proofs.raised_digits.Tie as tie
+use Rattle.ieee_length.proofs.raised_digits.Statement.{statement}
+use Rattle.ieee_length.proofs.raised_digits.Tie as tie
 
 mul-result : tie.Need-mul-result
 mul-result c = search needs

@@ -17,7 +17,7 @@ use Rattle.lists.proofs.Naturals.{le-or-lt}
 use Rattle.packing.proofs.Fields.{value-normal}
 use Rattle.ieee.specs.Fused.{fma}
 use Rattle.ieee.specs.Parts.{RoundsOnce, narrowBits}
-use Rattle.ieee_root.specs.Parts.{Raised, raisedBits}
+use Rattle.ieee_length.specs.Raised.{Raised, raisedBits}
 use Rattle.ieee.proofs.Product.{fma-left, fma-last}
 use Rattle.ieee.proofs.Nearby.{nearest-down}
 use Rattle.ieee.proofs.Rounded.{round-ties}

@@ -1,9 +1,9 @@
 -- `cubic_at` meets its contract: of small numbers every step is small. Assumes nothing.
 use lib.Ieee.{nan}
-use Rattle.ieee_root.proofs.Small.{cubic-finite}
+use Rattle.ieee_length.proofs.Small.{cubic-finite}
 use borrow.Author.Needs.{needs}
-use Rattle.ieee_root.proofs.cubic_at.Statement.{statement}
-use Rattle.ieee_root.proofs.cubic_at.Tie as tie
+use Rattle.ieee_length.proofs.cubic_at.Statement.{statement}
+use Rattle.ieee_length.proofs.cubic_at.Tie as tie
 
 mul-result : tie.Need-mul-result
 mul-result c = search needs

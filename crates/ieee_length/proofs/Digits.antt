@@ -17,10 +17,11 @@ use lib.Ieee.Scale.{round-same}
 use Rattle.packing.proofs.Fields.{ofBits-is, normal-is}
 use Rattle.packing.proofs.Plain.{inside}
 use Rattle.ieee.specs.Root.{sqrt}
-use Rattle.ieee_root.specs.Mild.{small}
-use Rattle.ieee_root.specs.Parts.{Raised, raisedBits, digitsBits, radicandOf, RootOrZero}
-use Rattle.ieee_root.proofs.Small.{small-value}
+use Rattle.ieee_length.specs.Mild.{small}
+use Rattle.ieee_root.specs.Parts.{RootOrZero}
+use Rattle.ieee_length.specs.Raised.{Raised, raisedBits, digitsBits, radicandOf}
+use Rattle.ieee_length.proofs.Small.{small-value}
 use Rattle.ieee_root.proofs.Tries.{try-small, try-right}
 
 -- 2 ^ 46
 factor : HasValue (ofBits binary64 4814348001659060224) false (2 ^ 46) 1

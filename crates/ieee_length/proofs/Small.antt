@@ -15,7 +15,7 @@ use lib.Ieee.Exact.{HasValue, units-val}
 use lib.Ieee.Fits.{down-pos, round-is}
 use lib.Ieee.Order.{drop, kept}
 use lib.Ieee.Scale.{finite, grid}
-use Rattle.ieee_root.specs.Mild.{pieces, tableSize, small, eachMild, allMild}
+use Rattle.ieee_length.specs.Mild.{pieces, tableSize, small, eachMild, allMild}
 use Rattle.ieee.proofs.Nearby.{at-most-twice}
 
 ruleset ac = (mul-assoc, mul-comm, mul-left-comm)

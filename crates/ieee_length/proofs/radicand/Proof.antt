@@ -9,11 +9,11 @@ use lib.Ieee.{Float, binary64, mul, ofBits, toSigned}
 use mir.Syntax.{w64}
 use mir.Val.{Fits, toZ, ofZ}
 use mir.ValLaws.{toZ-ofZ}
-use Rattle.ieee_root.specs.Parts.{digitsBits, radicandOf}
-use Rattle.ieee_root.proofs.Digits.{radicand-lt, cast-in, cast-is}
+use Rattle.ieee_length.specs.Raised.{digitsBits, radicandOf}
+use Rattle.ieee_length.proofs.Digits.{radicand-lt, cast-in, cast-is}
 use borrow.Author.Needs.{needs}
-use Rattle.ieee_root.proofs.radicand.Statement.{statement}
-use Rattle.ieee_root.proofs.radicand.Tie as tie
+use Rattle.ieee_length.proofs.radicand.Statement.{statement}
+use Rattle.ieee_length.proofs.radicand.Tie as tie
 
 -- as a signed integer, and back
 signed : (n : ℕ) (a : Float) → a ≡ ofBits binary64 (digitsBits n) → toZ w64 (ofZ w64 (toSigned 63 (mul binary64 a (ofBits binary64 4814348001659060224)))) ≡ pos (radicandOf n)

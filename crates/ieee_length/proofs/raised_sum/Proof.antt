@@ -3,9 +3,9 @@ use mathlib.Core.Path.{sym, subst}
 use native.Mathlib.Omega.{arith}
 use lib.Dec.{T}
 use lib.Ieee.{binary32, fits}
-use Rattle.ieee_root.proofs.Raised.{operands, sum-no-nan, sum-below, raised}
-use Rattle.ieee_root.proofs.raised_sum.Statement.{statement}
-use Rattle.ieee_root.proofs.raised_sum.Tie as tie
+use Rattle.ieee_length.proofs.Raised.{operands, sum-no-nan, sum-below, raised}
+use Rattle.ieee_length.proofs.raised_sum.Statement.{statement}
+use Rattle.ieee_length.proofs.raised_sum.Tie as tie
 
 held : (c : tie.Start) → T (fits binary32 (c .args .x))
 held c = subst T (sym (c .good .0 .1)) tt

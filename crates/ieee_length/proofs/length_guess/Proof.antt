@@ -9,11 +9,11 @@ use lib.Pow.{pow-pos}
 use lib.Ieee.{binary64, toBits}
 use lib.Ieee.Fits.{and-l, and-r}
 use Rattle.packing.proofs.Fields.{finite-no-nan}
-use Rattle.ieee_root.specs.Mild.{small}
-use Rattle.ieee_root.proofs.Digits.{digits-small, radicand-lt, radicand-pos, guessed, no-root}
+use Rattle.ieee_length.specs.Mild.{small}
+use Rattle.ieee_length.proofs.Digits.{digits-small, radicand-lt, radicand-pos, guessed, no-root}
 use borrow.Author.Needs.{needs}
-use Rattle.ieee_root.proofs.length_guess.Statement.{statement}
-use Rattle.ieee_root.proofs.length_guess.Tie as tie
+use Rattle.ieee_length.proofs.length_guess.Statement.{statement}
+use Rattle.ieee_length.proofs.length_guess.Tie as tie
 
 tested : (a k : ℕ) (r : Bool) → r ≡ (ltb (k * k) (a + k) && leb a (k * k + k)) → r ≡ true → (k * k < a + k) × (a ≤ k * k + k)
 tested a k r e h =

@@ -2,15 +2,13 @@
 // A guess answers for the common case, and an exact test accepts it. Where that cannot answer, the general path takes the root of the whole significand in a u64, and
 // rounds once, in `packing::pack`.
 ghost use mathlib.Core.Path.{_≡_};
-ghost use mathlib.Core.Bool.{true, _&&_};
-ghost use Prim.Native.Nat.{_+_, _*_, _^_, _<_, _≤_};
-ghost use lib.Ieee.{binary32, binary64, ofBits};
-ghost use lib.Dec.{T, ltb, leb};
-ghost use lib.Ieee.Scale.{finite};
+ghost use Prim.Native.Nat.{_+_, _*_, _<_, _≤_};
+ghost use lib.Ieee.{binary32, ofBits};
+ghost use lib.Dec.{T};
 ghost use lib.Ieee.Positive.{positive};
 ghost use Rattle.ieee.specs.Root.{sqrt};
 ghost use Rattle.ieee.specs.Operations.{IsRoot};
-ghost use Rattle.ieee.specs.F32.{_⊗_, f32, fused, rootOf};
+ghost use Rattle.ieee.specs.F32.{f32, rootOf};
 ghost use Rattle.ieee_root.specs.Parts.{RootOrZero};
 
 // The largest r with r * r <= n, a digit at a time (the root of 64 digits has 32): only where the guess of a root fails, and for subnormals.

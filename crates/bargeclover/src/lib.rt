@@ -6,7 +6,7 @@ ghost use lib.Ieee.{ofBits, binary64};
 ghost use lib.ListN.{length};
 ghost use Rattle.ieee.specs.F32.{f32, bitsOf, fused, rootOf, narrowed, floorOf, rounded, toI32};
 ghost use Rattle.params.specs.Answers.{numberOf, countOf};
-ghost use Rattle.params.specs.Threshold.{thresholdAnswer, thresholdNumber, thresholdValue};
+ghost use Rattle.detect_threshold.specs.Threshold.{thresholdAnswer, thresholdNumber, thresholdValue};
 ghost use Rattle.detect.specs.Entry.{extremaAnswer, extremaOut};
 ghost use Rattle.orient.specs.Entry.{orientAnswer, orientOut};
 ghost use Rattle.descriptor_inputs.specs.Inputs.{inputsOf};
@@ -126,9 +126,9 @@ pub extern "C" fn bargeclover_threshold(
     ensures { λ r. ⌜ r ≡ thresholdNumber (thresholdAnswer contrast layers) ⌝ }
     ensures { λ _. ⌜ now («threshold_bits» .exit) ≡ bitsOf (thresholdValue (thresholdAnswer contrast layers)) ⌝ }
 {
-    let t = params::extrema_threshold(contrast, layers);
-    *threshold_bits = ieee::bits_of(params::threshold_value(t));
-    params::threshold_number(t)
+    let t = detect_threshold::extrema_threshold(contrast, layers);
+    *threshold_bits = ieee::bits_of(detect_threshold::threshold_value(t));
+    detect_threshold::threshold_number(t)
 }
 
 // ---- detection

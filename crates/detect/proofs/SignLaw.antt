@@ -16,11 +16,11 @@ use Rattle.lists.specs.Ranges.{every}
 use Rattle.lists.specs.Pasted.{pasted}
 use Rattle.params.specs.Limits.{sampleLimit}
 use Rattle.params.specs.Table.{goodSample, allGood}
-use Rattle.params.specs.Threshold.{thresholdOf}
+use Rattle.detect_threshold.specs.Threshold.{thresholdOf}
 use Rattle.params.specs.Answers.{answerOf, landed}
 use Rattle.params.specs.declared.Settings.{Settings}
 use Rattle.params.specs.declared.Answer.the-variants.{Done, Short}
-use Rattle.params.proofs.Accepted.{threshold-bounds}
+use Rattle.detect_threshold.proofs.Level.{threshold-bounds}
 use Rattle.picture.specs.declared.Shape.{Shape}
 use Rattle.detect_keypoint.specs.Search.{searchOf}
 use Rattle.detect_keypoint.specs.declared.RawKeypoint.{RawKeypoint}

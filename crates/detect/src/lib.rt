@@ -137,7 +137,7 @@ fn search_of(layer: usize, octave: u32, s: Settings) -> Search
     Search {
         layer: layer,
         octave: octave,
-        threshold: params::threshold_of(s.contrast, s.layers),
+        threshold: detect_threshold::threshold_of(s.contrast, s.layers),
         settings: s,
     }
 }

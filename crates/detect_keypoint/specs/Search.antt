@@ -1,6 +1,6 @@
 -- What is searched, and with what. Definitions only.
 use Prim.Native.Nat.{ℕ}
-use Rattle.params.specs.Threshold.{thresholdOf}
+use Rattle.detect_threshold.specs.Threshold.{thresholdOf}
 use Rattle.params.specs.declared.Settings.{Settings}
 use Rattle.detect_keypoint.specs.declared.Search.{Search}
 

@@ -3,7 +3,7 @@ use mathlib.Core.Path.{refl}
 use lib.Ieee.{ofBits, add, mul, div, ofInt}
 use Rattle.ieee.specs.Fused.{fma, convert}
 use Rattle.ieee.specs.Whole.{floor, roundEven}
-use Rattle.params.specs.Threshold.{thresholdOf}
+use Rattle.detect_threshold.specs.Threshold.{thresholdOf}
 use Rattle.examples.specs.Marked.{marked, Holds}
 
 pub marked-hold : Holds marked

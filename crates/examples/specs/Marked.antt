@@ -6,7 +6,7 @@ use mathlib.Core.List.{List, [], _∷_}
 use lib.Dec.{T}
 use lib.Ieee.{Float, binary64, ofBits}
 use Rattle.ieee.specs.F32.{_⊕_, _⊗_, f32, fused, floorOf, rounded}
-use Rattle.params.specs.Threshold.{thresholdOf}
+use Rattle.detect_threshold.specs.Threshold.{thresholdOf}
 
 infix 3 _gives_
 -- what a row asks: a floor, a rounding, a * b + c rounded once or twice, and a threshold for a contrast and a number of layers

@@ -8,9 +8,9 @@ use detect_fit::Offset;
 use detect_fit::Patch;
 use detect_keypoint::Cell;
 use detect_refine::Step;
+use detect_threshold::Threshold;
 use params::Answer;
 use params::Settings;
-use params::Threshold;
 use picture::Shape;
 use picture::Size;
 
@@ -40,7 +40,7 @@ fn rounding(x: f32, expected: f32) -> Pair {
 
 // The threshold's bits, or the number of the refusal.
 fn threshold(contrast: f64, layers: usize, expected: f32) -> Pair {
-    let t = params::extrema_threshold(contrast, layers);
+    let t = detect_threshold::extrema_threshold(contrast, layers);
     match t {
         Threshold::Given(x) => both(x, expected),
         Threshold::Refused(n) => Pair {
@@ -200,7 +200,7 @@ fn settled(patch: Patch, o: Offset) -> usize {
 
 // A threshold that is refused shows as a cell that went astray.
 fn fate_of(samples: &[f32; 363]) -> usize {
-    let t = params::extrema_threshold(0.04, 1);
+    let t = detect_threshold::extrema_threshold(0.04, 1);
     match t {
         Threshold::Given(x) => fate_with(samples, x),
         Threshold::Refused(_) => ASTRAY,

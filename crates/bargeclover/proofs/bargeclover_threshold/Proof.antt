@@ -1,6 +1,6 @@
 use mathlib.Core.Path.{_∙_, ap}
 use Rattle.ieee.specs.F32.{bitsOf}
-use Rattle.params.specs.Threshold.{thresholdNumber, thresholdValue}
+use Rattle.detect_threshold.specs.Threshold.{thresholdNumber, thresholdValue}
 use borrow.Author.Needs.{needs}
 use Rattle.bargeclover.proofs.bargeclover_threshold.Statement.{statement}
 use Rattle.bargeclover.proofs.bargeclover_threshold.Tie as tie

@@ -7,11 +7,11 @@ use lib.IntN.{pos}
 use lib.Ieee.{Float, fin, binary64, ofBits, ofInt, mul, div}
 use Rattle.ieee.specs.F32.{narrowed}
 use Rattle.ieee.specs.Whole.{floor}
 use Rattle.params.specs.Limits.{maxLayers}
 use Rattle.params.specs.Table.{line, firstFault, contrastWrong}
 use Rattle.params.specs.Answers.{onFault}
-use Rattle.params.specs.declared.Threshold.{Threshold}
-use Rattle.params.specs.declared.Threshold.the-variants.{Given, Refused}
+use Rattle.detect_threshold.specs.declared.Threshold.{Threshold}
+use Rattle.detect_threshold.specs.declared.Threshold.the-variants.{Given, Refused}
 
 -- 0.5 and 255, as f64s
 abbrev pub half64 : Float

@@ -1,9 +1,9 @@
 use mathlib.Core.Path.{sym, ap}
 use lib.Ieee.{ofBits}
-use Rattle.params.specs.Threshold.{thresholdValue}
+use Rattle.detect_threshold.specs.Threshold.{thresholdValue}
 use borrow.Author.Needs.{needs}
-use Rattle.params.proofs.threshold_value.Statement.{statement}
-use Rattle.params.proofs.threshold_value.Tie as tie
+use Rattle.detect_threshold.proofs.threshold_value.Statement.{statement}
+use Rattle.detect_threshold.proofs.threshold_value.Tie as tie
 
 enum-known-t : tie.Need-enum-known-t
 enum-known-t c = search needs

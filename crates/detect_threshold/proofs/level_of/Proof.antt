@@ -4,8 +4,8 @@ use lib.Dec.{T, le→leb}
 use lib.IntN.{pos}
 use lib.Ieee.{binary64, inFloat}
 use Prim.Native.Nat.{ℕ, _^_, _≤_}
-use Rattle.params.proofs.level_of.Statement.{statement}
-use Rattle.params.proofs.level_of.Tie as tie
+use Rattle.detect_threshold.proofs.level_of.Statement.{statement}
+use Rattle.detect_threshold.proofs.level_of.Tie as tie
 
 exact : (n : ℕ) → n ≤ 2 ^ 53 → T (inFloat binary64 (pos n))
 unfolding inFloat

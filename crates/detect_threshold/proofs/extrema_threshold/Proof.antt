@@ -1,14 +1,14 @@
 use mathlib.Core.Path.{_≡_, sym, ap, _∙_}
 use Rattle.params.specs.Table.{firstFault}
-use Rattle.params.specs.Threshold.{thresholdFault, thresholdAnswer}
+use Rattle.detect_threshold.specs.Threshold.{thresholdFault, thresholdAnswer}
 use Rattle.params.proofs.Bools.{in-range}
 use borrow.Author.Needs.{needs}
-use Rattle.params.proofs.extrema_threshold.Statement.{statement}
-use Rattle.params.proofs.extrema_threshold.Tie as tie
-use Rattle.params.proofs.extrema_threshold.Reads as reads
-use Rattle.params.proofs.extrema_threshold.Lts as lts
+use Rattle.detect_threshold.proofs.extrema_threshold.Statement.{statement}
+use Rattle.detect_threshold.proofs.extrema_threshold.Tie as tie
+use Rattle.detect_threshold.proofs.extrema_threshold.Reads as reads
+use Rattle.detect_threshold.proofs.extrema_threshold.Lts as lts
 use Rattle.params.proofs.contrast_wrong.Reads as contrast-wrong-reads
-use Rattle.params.proofs.threshold_of.Reads as threshold-of-reads
+use Rattle.detect_threshold.proofs.threshold_of.Reads as threshold-of-reads
 
 returns : tie.Need-returns
 unfolding thresholdAnswer thresholdFault firstFault

@@ -1,9 +1,9 @@
 use mathlib.Core.Path.{_≡_}
-use Rattle.params.specs.Threshold.{thresholdOf}
-use Rattle.params.proofs.Accepted.{level-bounds, level-below}
+use Rattle.detect_threshold.specs.Threshold.{thresholdOf}
+use Rattle.detect_threshold.proofs.Level.{level-bounds, level-below}
 use borrow.Author.Needs.{needs}
-use Rattle.params.proofs.threshold_of.Statement.{statement}
-use Rattle.params.proofs.threshold_of.Tie as tie
+use Rattle.detect_threshold.proofs.threshold_of.Statement.{statement}
+use Rattle.detect_threshold.proofs.threshold_of.Tie as tie
 
 level-of-requires : tie.Need-level-of-requires
 level-of-requires c κs = search needs

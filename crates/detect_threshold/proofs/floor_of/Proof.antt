@@ -11,10 +11,10 @@ use Rattle.ieee_laws.proofs.Floors.{floor-unsigned, floor-zero}
 use Rattle.ieee_laws.proofs.Order.{lt-le-trans}
 use Rattle.ieee_laws.proofs.Monotone.{nil}
 use borrow.Author.Needs.{needs}
-use Rattle.params.proofs.floor_of.Statement.{statement}
-use Rattle.params.proofs.floor_of.Tie as tie
-use Rattle.params.proofs.floor_of.Reads as reads
-use Rattle.params.proofs.floor_of.Lts as lts
+use Rattle.detect_threshold.proofs.floor_of.Statement.{statement}
+use Rattle.detect_threshold.proofs.floor_of.Tie as tie
+use Rattle.detect_threshold.proofs.floor_of.Reads as reads
+use Rattle.detect_threshold.proofs.floor_of.Lts as lts
 use Rattle.std.proofs.num.nearest_u64_to_f64.Reads as nearest-u64-to-f64-reads
 use Rattle.std.proofs.num.truncating_f64_to_u64.Reads as truncating-f64-to-u64-reads
 

@@ -7,3 +7,4 @@ mod Small
 mod Raised
 mod Digits
 pub mod Midpoints
+pub mod Paths

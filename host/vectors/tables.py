@@ -1,6 +1,6 @@
 #!/usr/bin/env python3
-"""The tables of the routines, as code and as definitions: crates/hal/src/pairs.rt, crates/hal_angle/src/{cubics,turns}.rt and
-crates/hal_angle/specs/{Cubics,Turns}.antt.
+"""The tables of the routines, as code and as definitions: cubics.rt and Cubics.antt of crates/hal_magnitude, turns.rt and Turns.antt of
+crates/hal_angle, and crates/hal/src/pairs.rt.
 
     python3 host/vectors/tables.py      (in the repository; Python 3.9 or later, mpmath 1.3; then rt fmt)
 
@@ -91,7 +91,7 @@ def definition(path, numbers, wide):
 
 
 code('crates/hal/src/pairs.rt', 'PAIRS', 'u32', PAIRS)
-code('crates/hal_angle/src/cubics.rt', 'CUBICS', 'f64', [plain(x, False) for x in CUBICS])
+code('crates/hal_magnitude/src/cubics.rt', 'CUBICS', 'f64', [plain(x, False) for x in CUBICS])
 code('crates/hal_angle/src/turns.rt', 'TURNS', 'f32', [plain(x, True) for x in TURNS])
-definition('crates/hal_angle/specs/Cubics.antt', [f'f64 0x{bits64(x):016x}' for x in CUBICS], 6)
+definition('crates/hal_magnitude/specs/Cubics.antt', [f'f64 0x{bits64(x):016x}' for x in CUBICS], 6)
 definition('crates/hal_angle/specs/Turns.antt', [f'f32 0x{bits32(x):08x}' for x in TURNS], 8)

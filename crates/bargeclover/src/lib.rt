@@ -21,7 +21,7 @@ ghost use Rattle.words.specs.Inputs.{inputsNumber, inputsLeft};
 ghost use Rattle.hal.specs.Exp.{exp2Of, expOf};
 ghost use Rattle.hal_turn.specs.Turn.{sinOf, cosOf};
 ghost use Rattle.hal_angle.specs.Angle.{angleOf};
-ghost use Rattle.hal_angle.specs.Magnitude.{magnitudeOf};
+ghost use Rattle.hal_magnitude.specs.Magnitude.{magnitudeOf};
 use descriptor_words::Spot;
 use params::Settings;
 use picture::Shape;
@@ -68,7 +68,7 @@ pub extern "C" fn bargeclover_angle(dx: u32, dy: u32) -> u32
 pub extern "C" fn bargeclover_magnitude(dx: u32, dy: u32) -> u32
     ensures { λ r. ⌜ r ≡ bitsOf (magnitudeOf (f32 dx) (f32 dy)) ⌝ }
 {
-    ieee::bits_of(hal_angle::magnitude(ieee::of_bits(dx), ieee::of_bits(dy)))
+    ieee::bits_of(hal_magnitude::magnitude(ieee::of_bits(dx), ieee::of_bits(dy)))
 }
 
 // ---- single operations
@@ -77,7 +77,7 @@ pub extern "C" fn bargeclover_magnitude(dx: u32, dy: u32) -> u32
 pub extern "C" fn bargeclover_fma(a: u32, b: u32, c: u32) -> u32
     ensures { λ r. ⌜ r ≡ bitsOf (fused (f32 a) (f32 b) (f32 c)) ⌝ }
 {
-    ieee::bits_of(ieee::mul_add(ieee::of_bits(a), ieee::of_bits(b), ieee::of_bits(c)))
+    ieee::bits_of(ieee_fused::mul_add(ieee::of_bits(a), ieee::of_bits(b), ieee::of_bits(c)))
 }
 
 #[no_mangle]
@@ -91,7 +91,7 @@ pub extern "C" fn bargeclover_sqrt(x: u32) -> u32
 pub extern "C" fn bargeclover_narrow(x: u64) -> u32
     ensures { λ r. ⌜ r ≡ bitsOf (narrowed (ofBits binary64 x)) ⌝ }
 {
-    ieee::bits_of(ieee::narrow(ieee::of_bits64(x)))
+    ieee::bits_of(ieee_fused::narrow(ieee::of_bits64(x)))
 }
 
 #[no_mangle]

@@ -144,7 +144,7 @@ pub fn gather(img: &[f32], t: Patch, hist: &mut [f32; 360]) -> usize
     ensures { λ n. ⌜ (now (hist .exit) ≡ gatheredIn (t .angle) (now (hist .entry)) (samplesOf (now (img .entry)) t)) × (n ≡ length (samplesOf (now (img .entry)) t)) ⌝ }
 {
     let pairs = hal::pair_table();
-    let cubics = hal_angle::cubic_table();
+    let cubics = hal_magnitude::cubic_table();
     let turns = hal_angle::turn_table();
     rows(img, &pairs, &cubics, &turns, hist, t)
 }

@@ -14,9 +14,10 @@ use Rattle.ieee.specs.Numbers.{nought, minusOne, four, wholeTurn}
 use Rattle.ieee_laws.proofs.Order.{lt-le, lt-not-le, le-or-lt-float, le-trans-float}
 use Rattle.ieee_laws.proofs.Bounds.{Bounds, sub-bounds, mul-bounds-by}
 use Rattle.hal_turn.specs.Turn.{inTurn}
-use Rattle.hal_angle.specs.Angle.{inAngle, angleOf}
+use Rattle.hal_angle.specs.Angle.{angleOf}
+use Rattle.hal_reach.specs.Reach.{inAngle}
 use Rattle.hal.specs.Exp.{expOf}
-use Rattle.hal_angle.specs.Magnitude.{magnitudeOf}
+use Rattle.hal_magnitude.specs.Magnitude.{magnitudeOf}
 use Rattle.hal_angle.proofs.Rules.{angle-rule}
 use Rattle.descriptor_patch.specs.Patch.{inGrid}
 use Rattle.descriptor_patch.specs.declared.Sample.{Sample}

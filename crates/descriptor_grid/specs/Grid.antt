@@ -10,7 +10,7 @@ use Rattle.ieee.specs.F32.{_⊕_, _⊖_, _⊗_, _<ᶠ_, f32, toI32, floatZ}
 use Rattle.ieee.specs.Numbers.{nought}
 use Rattle.hal.specs.Exp.{expOf}
 use Rattle.hal_angle.specs.Angle.{angleOf}
-use Rattle.hal_angle.specs.Magnitude.{magnitudeOf}
+use Rattle.hal_magnitude.specs.Magnitude.{magnitudeOf}
 use Rattle.descriptor_values.specs.Places.{places, bins, place}
 use Rattle.descriptor_patch.specs.declared.Sample.{Sample}
 use Rattle.descriptor_grid.specs.declared.Shares.{Shares}

@@ -6,10 +6,10 @@ use mathlib.Core.List.{List}
 use lib.Ieee.{Float}
 use Rattle.ieee.specs.F32.{_⊕_, _⊖_, _≤ᶠ_, f32, floatZ, bitsOf}
 use Rattle.hal.specs.Powers.{pairs as pairTable}
-use Rattle.hal_angle.specs.Cubics.{cubics as cubicTable}
+use Rattle.hal_magnitude.specs.Cubics.{cubics as cubicTable}
 use Rattle.hal_angle.specs.Turns.{turns as turnTable}
 use Rattle.hal_turn.specs.Turn.{inTurn}
-use Rattle.hal_angle.specs.Angle.{inAngle}
+use Rattle.hal_reach.specs.Reach.{inAngle}
 use Rattle.hal.specs.Exp.{inDown}
 use Rattle.descriptor_patch.specs.Patch.{inGrid}
 use Rattle.descriptor_patch.specs.declared.Sample.{Sample}

@@ -112,7 +112,7 @@ fn spot_of(
     let s = l.sample;
     let r = l.row;
     let c = l.col;
-    let m = hal_angle::magnitude_in(cubics, s.dx, s.dy) * hal::exp_in(pairs, s.fall);
+    let m = hal_magnitude::magnitude_in(cubics, s.dx, s.dy) * hal::exp_in(pairs, s.fall);
     // 8 / 360 slots a degree
     let o = split_of((hal_angle::angle_in(turns, s.dx, s.dy) - angle) * 0.022222223);
     Spot {

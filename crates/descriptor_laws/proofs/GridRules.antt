@@ -14,12 +14,12 @@ use Rattle.ieee.specs.Numbers.{nought, one}
 use Rattle.ieee_laws.proofs.Order.{lt-le}
 use Rattle.ieee_laws.proofs.Monotone.{nil}
 use Rattle.ieee_laws.proofs.Bounds.{Bounds, bounds-point, sub-bounds}
-use Rattle.hal_angle.specs.Angle.{inAngle}
+use Rattle.hal_reach.specs.Reach.{inAngle}
 use Rattle.hal.specs.Exp.{inDown, expOf}
-use Rattle.hal_angle.specs.Magnitude.{magnitudeOf}
+use Rattle.hal_magnitude.specs.Magnitude.{magnitudeOf}
 use Rattle.hal.specs.Rules.{In}
 use Rattle.hal.proofs.Rules.{exp-rule}
-use Rattle.hal_angle.proofs.Rules.{magnitude-rule}
+use Rattle.hal_magnitude.proofs.Rules.{magnitude-rule}
 use Rattle.lists.specs.Each.{Each}
 use Rattle.descriptor_patch.specs.declared.Sample.{Sample}
 use Rattle.descriptor_values.specs.Places.{places}

@@ -7,7 +7,7 @@ use lib.Ieee.{Float}
 use Rattle.params.specs.Limits.{scaleLow, scaleHigh}
 use Rattle.params.specs.Table.{within, allGood}
 use Rattle.hal.specs.Exp.{inDown}
-use Rattle.hal_angle.specs.Angle.{inAngle}
+use Rattle.hal_reach.specs.Reach.{inAngle}
 use Rattle.picture.specs.Picture.{fourAt}
 use Rattle.picture.specs.declared.Size.{Size}
 use Rattle.descriptor_patch.specs.Patch.{inGrid, gridAt, sampleAt, patchOf}

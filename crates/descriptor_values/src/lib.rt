@@ -37,7 +37,7 @@ fn with_square(v: &[f32; 128], k: usize, s: f32) -> f32
     ensures { λ r. ⌜ r ≡ fused (at (now (v .entry)) k) (at (now (v .entry)) k) s ⌝ }
 {
     let x = v[k];
-    ieee::mul_add(x, x, s)
+    ieee_fused::mul_add(x, x, s)
 }
 
 // The four fused sums, each of every fourth value, go side by side, so that none waits for another.

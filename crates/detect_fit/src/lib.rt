@@ -116,14 +116,14 @@ pub fn bend_of(patch: Patch) -> Bend
 pub fn mul_sub(a: f32, b: f32, c: f32, d: f32) -> f32
     ensures { λ x. ⌜ x ≡ mulSub a b c d ⌝ }
 {
-    ieee::mul_add(a, b, -(c * d))
+    ieee_fused::mul_add(a, b, -(c * d))
 }
 
 // p0 * p1 - q0 * q1 + r0 * r1, two fused operations from left to right.
 fn outer3(p0: f32, p1: f32, q0: f32, q1: f32, r0: f32, r1: f32) -> f32
     ensures { λ x. ⌜ x ≡ outer p0 p1 q0 q1 r0 r1 ⌝ }
 {
-    ieee::mul_add(r0, r1, ieee::mul_add(p0, p1, -(q0 * q1)))
+    ieee_fused::mul_add(r0, r1, ieee_fused::mul_add(p0, p1, -(q0 * q1)))
 }
 
 pub fn det_of(h: Bend) -> f32

@@ -11,9 +11,9 @@ use Rattle.lists.proofs.Bools.{and-false, and-left, and-right, both-and, both-w
 use Rattle.lists.proofs.Every.{every-all, all-every}
 use Rattle.lists.proofs.Naturals.{le-or-lt}
 use Rattle.params.specs.Table.{allGood}
-use Rattle.samples.specs.Samples.{spanGood, rowsGood}
+use Rattle.detect_samples.specs.Rows.{spanGood, rowsGood}
 use Rattle.picture.specs.declared.Shape.{Shape}
-use Rattle.samples.proofs.Rows.{rows-all}
+use Rattle.detect_samples.proofs.Rows.{rows-all}
 
 module _ (d : List Float) (t : Shape) where
   abbrev Row : ℕ → Type 0

@@ -7,7 +7,7 @@ ghost use lib.ListN.{length};
 ghost use lib.Seq.{sets};
 ghost use Rattle.params.specs.Limits.{border};
 ghost use Rattle.params.specs.Table.{allGood};
-ghost use Rattle.samples.specs.Samples.{rowsGood};
+ghost use Rattle.detect_samples.specs.Rows.{rowsGood};
 ghost use Rattle.detect_refine.specs.Place.{Searched};
 ghost use Rattle.detect_extrema.specs.Neighbours.{tied};
 ghost use Rattle.detect_extrema.specs.Scan.{keypoints, words};
@@ -132,9 +132,9 @@ pub fn front_of(dog: &[f32], t: Shape, s: Search, hold: &mut [u32]) -> Front
     ensures { λ f. ⌜ Holds (now (dog .entry)) t s (f .row) (f .count) (now (hold .exit)) ⌝ }
     ensures { λ f. ⌜ f .good ≡ allGood (now (dog .entry)) ⌝ }
 {
-    let top = samples::rows_good(dog, t, 0, BORDER + 1);
+    let top = detect_samples::rows_good(dog, t, 0, BORDER + 1);
     let f = held_rows(dog, t, s, hold);
-    let rest = samples::rows_good(dog, t, f.row + 1, t.height);
+    let rest = detect_samples::rows_good(dog, t, f.row + 1, t.height);
     Front {
         row: f.row,
         count: f.count,

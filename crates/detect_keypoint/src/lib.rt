@@ -47,8 +47,8 @@ pub fn contrast_of(patch: Patch, o: Offset) -> f32
     ensures { λ k. ⌜ k ≡ contrastOf patch o ⌝ }
 {
     let g = detect_fit::gradient_of(patch);
-    let s = ieee::mul_add(g.ds, o.xi, ieee::mul_add(g.dy, o.xr, g.dx * o.xc));
-    ieee::mul_add(patch.im, detect_fit::IMG_SCALE, s * 0.5)
+    let s = ieee_fused::mul_add(g.ds, o.xi, ieee_fused::mul_add(g.dy, o.xr, g.dx * o.xc));
+    ieee_fused::mul_add(patch.im, detect_fit::IMG_SCALE, s * 0.5)
 }
 
 // The contrast times the layers is below the setting.
@@ -56,7 +56,7 @@ pub fn is_dim(s: Settings, contrast: f32) -> bool
     requires { ⌜ s .layers ≤ maxLayers ⌝ }
     ensures { λ b. ⌜ b ≡ dim s contrast ⌝ }
 {
-    ieee::abs(contrast) * (s.layers as f32) < ieee::narrow(s.contrast)
+    ieee::abs(contrast) * (s.layers as f32) < ieee_fused::narrow(s.contrast)
 }
 
 // The plane's bend about the cell is that of an edge: determinant not above 0, or too small beside the trace.
@@ -66,7 +66,7 @@ pub fn is_edgy(s: Settings, patch: Patch) -> bool
     let b = detect_fit::bend_of(patch);
     let tr = b.xx + b.yy;
     let det = detect_fit::mul_sub(b.xx, b.yy, b.xy, b.xy);
-    let et = ieee::narrow(s.edge);
+    let et = ieee_fused::narrow(s.edge);
     (det <= 0.0) | (tr * tr * et >= (et + 1.0) * (et + 1.0) * det)
 }
 
@@ -105,7 +105,7 @@ pub fn keypoint_of(s: Search, moves: u32, k: Cell, o: Offset, response: f32) -> 
     RawKeypoint {
         x: (float(k.c) + o.xc) * scale,
         y: (float(k.r) + o.xr) * scale,
-        size: ieee::narrow(s.settings.sigma) * power * scale * 2.0,
+        size: ieee_fused::narrow(s.settings.sigma) * power * scale * 2.0,
         response: response,
         octave: s.octave + k.p as u32 * 256 + code_of(o.xi) * 65536,
         layer: k.p as u32,

@@ -5,7 +5,7 @@ ghost use Prim.Native.Nat.{_+_, _-_, _*_, _^_, _<_, _≤_, min};
 ghost use lib.ListN.{length, take};
 ghost use lib.Seq.{sets};
 ghost use Rattle.params.specs.Limits.{border, maxSide};
-ghost use Rattle.samples.specs.Samples.{spanGood};
+ghost use Rattle.detect_samples.specs.Rows.{spanGood};
 ghost use Rattle.detect_refine.specs.Place.{Searched, Placed};
 ghost use Rattle.detect_look.specs.Place.{group, Along};
 ghost use Rattle.detect_words.specs.Leaves.{cellAt};
@@ -124,10 +124,10 @@ pub fn row_words(dog: &[f32], t: Shape, s: Search, r: usize, p: Place, out: &mut
     let end = t.width - detect_refine::BORDER;
     let mut n: usize = 0;
     let mut c = detect_refine::BORDER;
-    let mut ok = samples::span_good(dog, t, below, 0, c);
+    let mut ok = detect_samples::span_good(dog, t, below, 0, c);
     while c < end {
         let to = run_end(c, end, detect_look::BLOCK);
-        ok = ok & samples::span_good(dog, t, below, c, to);
+        ok = ok & detect_samples::span_good(dog, t, below, c, to);
         n += block_words(
             dog,
             t,
@@ -145,7 +145,7 @@ pub fn row_words(dog: &[f32], t: Shape, s: Search, r: usize, p: Place, out: &mut
         );
         c = to;
     }
-    ok = ok & samples::span_good(dog, t, below, end, t.width);
+    ok = ok & detect_samples::span_good(dog, t, below, end, t.width);
     Row { words: n, good: ok }
 }
 

@@ -42,7 +42,7 @@ pub fn threshold_of(contrast: f64, layers: usize) -> f32
     requires { ⌜ (contrastWrong contrast ≡ false) × (1 ≤ layers) × (layers ≤ maxLayers) ⌝ }
     ensures { λ t. ⌜ t ≡ thresholdOf contrast layers ⌝ }
 {
-    ieee::narrow(floor_of(level_of(contrast, layers)))
+    ieee_fused::narrow(floor_of(level_of(contrast, layers)))
 }
 
 // The entry: the threshold, or 2 for the layers, or 4 for the contrast.

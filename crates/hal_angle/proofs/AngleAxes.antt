@@ -18,8 +18,10 @@ use Rattle.ieee.proofs.Meaning.{round-held}
 use Rattle.ieee.proofs.Held.{abs-fits}
 use Rattle.ieee.proofs.SignedParts.{round-zero}
 use Rattle.hal_angle.specs.Turns.{turns}
-use Rattle.hal_angle.specs.Angle.{inReach, inAngle, sumOf, aheadOf, quarterOf, lineOf, alongOf, directionOf, angleOf}
-use Rattle.hal_angle.proofs.AngleValues.{bounded, reach-nan, reach-inf, reach-dx, reach-dy, side-left, side-right, none-of}
+use Rattle.hal_reach.specs.Reach.{inReach, inAngle}
+use Rattle.hal_angle.specs.Angle.{sumOf, aheadOf, quarterOf, lineOf, alongOf, directionOf, angleOf}
+use Rattle.hal_reach.proofs.Reach.{bounded, reach-nan, reach-inf, reach-dx, reach-dy}
+use Rattle.hal_angle.proofs.AngleValues.{side-left, side-right, none-of}
 use Rattle.hal_angle.proofs.AngleLaws.{angle-level, angle-direction, by-sum}
 use Rattle.hal_angle.proofs.AngleUnits.{rounded-above, rounded-over}
 

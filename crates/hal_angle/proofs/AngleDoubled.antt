@@ -15,10 +15,12 @@ use lib.Ieee.Scale.{round-same}
 use lib.Ieee.Positive.{num, den, den-pos}
 use Rattle.ieee.specs.F32.{absOf}
 use Rattle.ieee.specs.Numbers.{nought}
-use Rattle.hal_angle.specs.Angle.{inReach, inAngle, sumOf, aheadOf, quarterOf, directionOf, angleOf}
+use Rattle.hal_reach.specs.Reach.{inReach, inAngle}
+use Rattle.hal_angle.specs.Angle.{sumOf, aheadOf, quarterOf, directionOf, angleOf}
 use Rattle.hal_angle.specs.Rules.{double}
 use Rattle.hal_angle.proofs.AngleLaws.{angle-level, angle-direction}
-use Rattle.hal_angle.proofs.AngleValues.{less-same, sign-value, sign-of, bounded, reach-nan, reach-inf, reach-dx, reach-dy}
+use Rattle.hal_reach.proofs.Reach.{bounded, reach-nan, reach-inf, reach-dx, reach-dy}
+use Rattle.hal_angle.proofs.AngleValues.{less-same, sign-value, sign-of}
 use Rattle.hal_angle.proofs.AngleUnits.{near, apart, near-double, sum-test, ahead-units, Whole, whole-of, both-most}
 
 -- ---- a value doubled is exact

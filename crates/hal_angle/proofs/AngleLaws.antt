@@ -7,7 +7,8 @@ use lib.Ieee.Bits.{is-true}
 use Rattle.ieee_laws.proofs.Order.{lt-le, le-refl-float, le-number, le-trans-float, le-lt-trans}
 use Rattle.ieee.specs.Numbers.{nought, wholeTurn}
 use Rattle.hal.specs.Rules.{In}
-use Rattle.hal_angle.specs.Angle.{quarterOf, lesserOf, greaterOf, directionOf, sumOf, aheadOf, inAngle, angleOf}
+use Rattle.hal_reach.specs.Reach.{inAngle}
+use Rattle.hal_angle.specs.Angle.{quarterOf, lesserOf, greaterOf, directionOf, sumOf, aheadOf, angleOf}
 use Rattle.hal_angle.specs.Rules.{startOf, endOf}
 
 -- ---- what is held in lo to hi

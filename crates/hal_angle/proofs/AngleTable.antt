@@ -13,9 +13,10 @@ use Rattle.ieee.specs.F32.{absOf}
 use Rattle.ieee.proofs.Doubled.{round-no-nan}
 use Rattle.hal_angle.specs.Numbers.{shift}
 use Rattle.hal_angle.specs.Turns.{turns, placeOf}
-use Rattle.hal_angle.specs.Angle.{inAngle, sumOf, aheadOf, quarterOf, alongOf, lesserOf, greaterOf, directionOf, angleOf}
+use Rattle.hal_reach.specs.Reach.{inAngle}
+use Rattle.hal_angle.specs.Angle.{sumOf, aheadOf, quarterOf, alongOf, lesserOf, greaterOf, directionOf, angleOf}
 use Rattle.hal_angle.proofs.AngleLaws.{angle-level, angle-direction}
-use Rattle.hal_angle.proofs.AngleValues.{reach-dx, reach-dy}
+use Rattle.hal_reach.proofs.Reach.{reach-dx, reach-dy}
 use Rattle.hal_angle.proofs.AngleUnits.{near, apart, Whole, whole-of, both-most, sum-test, ahead-units}
 
 -- ---- a quarter's four numbers, from place i on

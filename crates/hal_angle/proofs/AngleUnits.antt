@@ -24,9 +24,11 @@ use Rattle.ieee.specs.F32.{absOf}
 use Rattle.ieee.specs.Numbers.{nought}
 use Rattle.ieee.proofs.Values.{stored}
 use Rattle.ieee.proofs.Doubled.{round-no-nan}
-use Rattle.hal_angle.specs.Angle.{inReach, inAngle, sumOf}
+use Rattle.hal_reach.specs.Reach.{inReach, inAngle}
+use Rattle.hal_angle.specs.Angle.{sumOf}
 use Rattle.hal.proofs.Range.{Within, Exact, round-within}
-use Rattle.hal_angle.proofs.AngleValues.{lt-value, div-signed, zero-or, null, bounded, reach-nan, reach-inf, reach-dx, reach-dy}
+use Rattle.hal_reach.proofs.Reach.{zero-or, bounded, reach-nan, reach-inf, reach-dx, reach-dy}
+use Rattle.hal_angle.proofs.AngleValues.{lt-value, div-signed, null}
 
 -- ---- a fraction N / K rounded: `grid` units
 exact : (n : ℕ) → n ≤ 16777216 → Exact binary32 n

@@ -1,4 +1,4 @@
--- Order, quotient and signs of floats by the fractions that they stand for; and what the range says of dx and dy. Assumes nothing.
+-- Order, quotient and signs of floats by the fractions that they stand for. Assumes nothing.
 use mathlib.Core.Path.{_≡_, refl, sym, ap, _∙_, subst}
 use mathlib.Core.Logic.{_⊎_, inl, inr}
 use borrow.Author.Tests.{eq-eqb, ne-eqb}
@@ -17,9 +17,8 @@ use lib.Ieee.Positive.{num, first-pos}
 use Rattle.lists.proofs.Bools.{and-false}
 use Rattle.ieee.specs.F32.{absOf}
 use Rattle.ieee.specs.Numbers.{nought}
-use Rattle.hal_angle.specs.Numbers.{furthest}
-use Rattle.hal_angle.specs.Angle.{inReach, inAngle}
-use Rattle.hal.proofs.Range.{below-of}
+use Rattle.hal_reach.specs.Reach.{inReach}
+use Rattle.hal_reach.proofs.Reach.{reach-nan, reach-inf, zero-num}
 
 -- ---- tests
 both-ways : (p q : Bool) → (T p → T q) → (T q → T p) → p ≡ q
@@ -101,24 +100,7 @@ div-signed f (fin t m e) (fin u n g) s a c b d C D B h k =
 pub div-value : (f : Format) (x y : Float) (a c b d : ℕ) → 0 < c → 0 < d → 0 < b → HasValue x false a c → HasValue y false b d → div f x y ≡ round f false (a * d) (b * c)
 div-value f x y a c b d = div-signed f x y false a c b d
 
--- ---- a pair in range: sizes, and the tests on signs and on zero
-pub reach-nan : T (inReach (absOf nan)) → ⊥
-unfolding absOf le
-reach-nan t = t
-
-pub reach-inf : (s : Bool) → T (inReach (absOf (inf s))) → ⊥
-unfolding absOf le ofBits
-reach-inf s t = t
-
-pub reach-number : (x : Float) → T (inReach (absOf x)) → T (not (isNan x))
-reach-number nan t = absurd (reach-nan t)
-reach-number (inf s) t = unfold isNan in tt
-reach-number (fin s m e) t = unfold isNan in tt
-
-pub bounded : (s : Bool) (m : ℕ) (e : ℤ) → T (inReach (absOf (fin s m e))) → m * up e ≤ 2097152 * down e
-unfolding absOf ofBits
-bounded s m e t = below-of (fin false m e) furthest 2097152 (refl, refl) t m e refl
-
+-- ---- a pair in range: the tests on signs and on zero
 pub null : (k c : ℕ) → 0 < c → k * c ≡ 0 → k ≡ 0
 null zero c C h = refl
 null (suc k) c C h = absurd (lt-irrefl 0 (lt-of-lt-of-le (mul-pos (above k) C) (le-of-eq h)))
@@ -131,10 +113,6 @@ unfolding lt ofBits
 sign-of true m e = less-same 0 (m * up e * 1 + 0 * 1 * down e) 0 (m * up e) (λ h. omega arith) (λ h. omega arith)
 sign-of false m e = not-less (m * up e * 1) (0 * 1 * down e) (omega arith)
 
-pub zero-or : (a : ℕ) → (a ≡ 0) ⊎ (0 < a)
-zero-or zero = inl refl
-zero-or (suc a) = inr (omega arith)
-
 above-same : (m u c a g : ℕ) → 0 < c → 0 < g → m * u * c ≡ a * g → ltb 0 (m * u) ≡ ltb 0 a
 above-same m u c a g C G e =
     less-same 0 (m * u) 0 a (λ h. first-pos a g (lt-of-lt-of-le (mul-pos h C) (le-of-eq e))) (λ h. first-pos (m * u) c (lt-of-lt-of-le (mul-pos h G) (le-of-eq (sym e))))
@@ -143,40 +121,6 @@ pub sign-value : (x : Float) (s : Bool) (a c : ℕ) → 0 < c → HasValue x s a
 sign-value nan s a c C h = absurd h
 sign-value (inf t) s a c C h = absurd h
 sign-value (fin t m e) s a c C h = sign-of t m e ∙ ap (λ (z : Bool). z && ltb 0 (m * up e)) (h .0) ∙ ap (λ (z : Bool). s && z) (above-same m (up e) c a (down e) C (down-pos e) (h .1))
-
--- 0 is the one value that equals it
-pub zero-of : (s : Bool) (m : ℕ) (e : ℤ) → eq (fin s m e) nought ≡ eqb (m * up e) 0
-unfolding eq ofBits
-zero-of s m e = elim (zero-or (m * up e)) [
-  | inl z ↦ rw (eq-eqb (m * up e * 1) (0 * 1 * down e) (omega arith), eq-eqb (m * up e * 1) 0 (omega arith), eq-eqb (m * up e) 0 z) (either (Bool·beq s false))
-  | inr p ↦ rw (ne-eqb (m * up e * 1) (0 * 1 * down e) (λ q. no (m * up e) (down e) p q), ne-eqb (m * up e) 0 (λ q. no-zero (m * up e) p q)) refl
-]
-  where
-    either : (b : Bool) → (b || true) ≡ true
-    either true = refl
-    either false = refl
-
-    no : (a b : ℕ) → 0 < a → a * 1 ≡ 0 * 1 * b → ⊥
-    no a b h p = omega arith
-
-    no-zero : (a : ℕ) → 0 < a → a ≡ 0 → ⊥
-    no-zero a h p = omega arith
-
-pub zero-num : (x : Float) → T (inReach (absOf x)) → eq x nought ≡ eqb (num x) 0
-zero-num nan t = absurd (reach-nan t)
-zero-num (inf s) t = absurd (reach-inf s t)
-zero-num (fin s m e) t = zero-of s m e
-
--- what the code knows of the range, once it has the two sizes
-pub range-at : (dx dy a b : Float) (s t : Bool) → a ≡ absOf dx → b ≡ absOf dy → s ≡ (inReach a && inReach b) → s ≡ t → inAngle dx dy ≡ t
-range-at dx dy a b s t p q r e = ap (λ (z : Float). inReach z && inReach (absOf dy)) (sym p) ∙ ap (λ (z : Float). inReach a && inReach z) (sym q) ∙ sym r ∙ e
-
-module _ (dx dy : Float) (h : T (inAngle dx dy)) where
-  pub reach-dx : T (inReach (absOf dx))
-  reach-dx = and-l (inReach (absOf dx)) (inReach (absOf dy)) h
-
-  pub reach-dy : T (inReach (absOf dy))
-  reach-dy = and-r (inReach (absOf dx)) (inReach (absOf dy)) h
 
 -- ---- the tests of x, once its sign is known or it is a zero
 pub record Side (x : Float) (left : Bool) : Type 0 where

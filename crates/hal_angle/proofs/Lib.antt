@@ -4,5 +4,4 @@ mod AngleUnits
 mod AngleTable
 mod AngleAxes
 pub mod AngleDoubled
-pub mod MagnitudeLaws
 pub mod Rules

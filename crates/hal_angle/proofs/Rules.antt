@@ -1,30 +1,28 @@
--- The rules of specs/Rules.antt hold. Assumes nothing.
+-- The rule of specs/Rules.antt holds. Assumes nothing.
 use mathlib.Core.Path.{_≡_, refl, sym, subst}
 use mathlib.Core.Bool.{Bool, true, false}
 use lib.IntN.{pos, negsuc}
 use lib.Dec.{T}
 use lib.Ieee.{Float, nan, fin, binary32, lt, le, eq, mul, ofBits, fits}
 use lib.Ieee.Fits.{cond-fits, nan-fits, add-fits}
-use Rattle.ieee.specs.F32.{_⊗_, fused}
 use Rattle.ieee.specs.Numbers.{nought, eighthTurn}
-use Rattle.ieee.proofs.Held.{fma-fits, sqrt-fits}
 use Rattle.hal.specs.Rules.{In}
-use Rattle.hal.proofs.Rules.{in-of, otherwise}
-use Rattle.hal_angle.specs.Numbers.{lastAngle, furthest, threeEighthTurn, fiveEighthTurn, sevenEighthTurn, steps63, minusSteps63, shift}
-use Rattle.hal_angle.specs.Angle.{lesserOf, greaterOf, quarterOf, lineOf, alongOf, directionOf, sumOf, aheadOf, inAngle, angleOf}
-use Rattle.hal_angle.specs.Magnitude.{magnitudeOf}
-use Rattle.hal_angle.specs.Rules.{AngleRule, MagnitudeRule, startOf, endOf}
+use Rattle.hal.proofs.Rules.{otherwise}
+use Rattle.hal_reach.specs.Reach.{inAngle}
+use Rattle.hal_reach.proofs.Reach.{reach-dx, reach-dy}
+use Rattle.hal_angle.specs.Numbers.{lastAngle, threeEighthTurn, fiveEighthTurn, sevenEighthTurn, steps63, minusSteps63, shift}
+use Rattle.hal_angle.specs.Angle.{lesserOf, greaterOf, quarterOf, lineOf, alongOf, directionOf, sumOf, aheadOf, angleOf}
+use Rattle.hal_angle.specs.Rules.{AngleRule, startOf, endOf}
 use Rattle.hal_angle.proofs.AngleLaws.{by-sum, direction-in, angle-least, angle-below}
-use Rattle.hal_angle.proofs.AngleValues.{reach-dx, reach-dy, none-num}
+use Rattle.hal_angle.proofs.AngleValues.{none-num}
 use Rattle.hal_angle.proofs.AngleUnits.{level-none}
 use Rattle.hal_angle.proofs.AngleAxes.{angle-east, angle-north, angle-west, angle-south, angle-none}
 use Rattle.hal_angle.proofs.AngleDoubled.{angle-double}
-use Rattle.hal_angle.proofs.MagnitudeLaws.{magnitude-is, magnitude-within, magnitude-none}
 
 -- ---- the named numbers are what their page says
-pub named : (eighthTurn ≡ fin false 45 (pos 0)) × (lastAngle ≡ fin false 11796479 (negsuc 14)) × (furthest ≡ fin false 1 (pos 21)) × (threeEighthTurn ≡ fin false 135 (pos 0)) × (fiveEighthTurn ≡ fin false 225 (pos 0)) × (sevenEighthTurn ≡ fin false 315 (pos 0)) × (steps63 ≡ fin false 63 (pos 0)) × (minusSteps63 ≡ fin true 63 (pos 0)) × (shift ≡ fin false 12582975 (pos 0))
+pub named : (eighthTurn ≡ fin false 45 (pos 0)) × (lastAngle ≡ fin false 11796479 (negsuc 14)) × (threeEighthTurn ≡ fin false 135 (pos 0)) × (fiveEighthTurn ≡ fin false 225 (pos 0)) × (sevenEighthTurn ≡ fin false 315 (pos 0)) × (steps63 ≡ fin false 63 (pos 0)) × (minusSteps63 ≡ fin true 63 (pos 0)) × (shift ≡ fin false 12582975 (pos 0))
 unfolding ofBits
-named = (refl, refl, refl, refl, refl, refl, refl, refl, refl)
+named = (refl, refl, refl, refl, refl, refl, refl, refl)
 
 -- ---- the angle
 along-fits : (middle u : Float) → T (fits binary32 (alongOf middle u))
@@ -82,23 +80,4 @@ angle-rule = record {
   doubled = angle-double;
   outside = angle-outside;
   held = angle-fits;
-}
-
--- ---- the magnitude
-magnitude-fits : (dx dy : Float) → T (fits binary32 (magnitudeOf dx dy))
-unfolding magnitudeOf
-magnitude-fits dx dy = cond-fits binary32 (inAngle dx dy) _ nan (sqrt-fits binary32 (fused dx dx (dy ⊗ dy)) (fma-fits binary32 dx dx (dy ⊗ dy))) (nan-fits binary32)
-
-magnitude-outside : (dx dy : Float) → inAngle dx dy ≡ false → magnitudeOf dx dy ≡ nan
-unfolding magnitudeOf
-magnitude-outside dx dy e = otherwise (inAngle dx dy) _ e
-
-pub magnitude-rule : MagnitudeRule
-unfolding ofBits
-magnitude-rule = record {
-  root = magnitude-is;
-  within = λ dx dy h. in-of (magnitudeOf dx dy) nought (fin false 1 (pos 22)) 0 4194304 (refl, refl) (refl, refl) (magnitude-within dx dy h);
-  none = magnitude-none;
-  outside = magnitude-outside;
-  held = magnitude-fits;
 }

@@ -1,20 +1,13 @@
 -- The angle of a pair in degrees, as docs/ROUTINES.md has its steps (rule F7). Definitions only.
 use Prim.Native.Nat.{ℕ, _+_, _*_, _%_}
-use mathlib.Core.Bool.{Bool, true, false, cond, _&&_}
+use mathlib.Core.Bool.{Bool, true, false, cond}
 use lib.ListN.{getD}
 use lib.Ieee.{Float, nan}
-use Rattle.ieee.specs.F32.{_⊕_, _⊖_, _⊗_, _⊘_, _<ᶠ_, _≤ᶠ_, absOf, bitsOf}
+use Rattle.ieee.specs.F32.{_⊕_, _⊖_, _⊗_, _⊘_, _<ᶠ_, absOf, bitsOf}
 use Rattle.ieee.specs.Numbers.{nought, eighthTurn, quarterTurn, halfTurn, threeQuarterTurn}
-use Rattle.hal_angle.specs.Numbers.{lastAngle, furthest, threeEighthTurn, fiveEighthTurn, sevenEighthTurn, steps63, minusSteps63, shift}
+use Rattle.hal_reach.specs.Reach.{inAngle}
+use Rattle.hal_angle.specs.Numbers.{lastAngle, threeEighthTurn, fiveEighthTurn, sevenEighthTurn, steps63, minusSteps63, shift}
 use Rattle.hal_angle.specs.Turns.{turns}
-
--- ---- the range: neither is a not-a-number, and each is at most 2 ^ 21 in magnitude
-
-abbrev pub inReach : Float → Bool
-inReach a = a ≤ᶠ furthest
-
-abbrev pub inAngle : Float → Float → Bool
-inAngle dx dy = inReach (absOf dx) && inReach (absOf dy)
 
 -- ---- how far |dy| is ahead of |dx|: from -1, along the axis of dx, to 1, along that of dy
 

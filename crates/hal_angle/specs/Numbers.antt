@@ -1,14 +1,10 @@
--- The numbers that the angle and the magnitude name beside the page of plain ones (`ieee/specs/Numbers.antt`). Definitions only.
+-- The numbers that the angle names beside the page of plain ones (`ieee/specs/Numbers.antt`). Definitions only.
 use lib.Ieee.{Float}
 use Rattle.ieee.specs.F32.{f32}
 
 -- 359.99997, the largest value below 360
 abbrev pub lastAngle : Float
 lastAngle = f32 0x43b3_ffff
-
--- 2 ^ 21
-abbrev pub furthest : Float
-furthest = f32 0x4a00_0000
 
 -- 135, 225 and 315: three, five and seven eighths of a turn
 abbrev pub threeEighthTurn : Float

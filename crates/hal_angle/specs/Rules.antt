@@ -1,17 +1,14 @@
--- Law: what rules F7 and F8 ask of the angle and the magnitude, of the definitions beside this page; and what callers ask besides.
--- proofs/Rules.antt proves each: `angle-rule : AngleRule`, and so on. Accuracy (rule F9) is no statement here: `run_hal` measures it. Definitions only.
+-- Law: what rule F7 asks of the angle, of the definition beside this page; and what callers ask besides.
+-- proofs/Rules.antt proves it: `angle-rule : AngleRule`. Accuracy (rule F9) is no statement here: `run_hal` measures it. Definitions only.
 use mathlib.Core.Path.{_≡_}
 use mathlib.Core.Bool.{Bool, true, false}
 use lib.Dec.{T}
-use lib.IntN.{pos}
-use lib.Ieee.{Float, nan, fin, binary32, fits}
-use Rattle.ieee.specs.F32.{_⊕_, _⊗_, _<ᶠ_, _≤ᶠ_, _=ᶠ_, fused, rootOf}
+use lib.Ieee.{Float, nan, binary32, fits}
+use Rattle.ieee.specs.F32.{_⊕_, _<ᶠ_, _≤ᶠ_, _=ᶠ_}
 use Rattle.ieee.specs.Numbers.{nought, quarterTurn, halfTurn, threeQuarterTurn, wholeTurn}
 use Rattle.hal.specs.Rules.{In}
-use Rattle.hal_angle.specs.Angle.{inAngle, angleOf}
-use Rattle.hal_angle.specs.Magnitude.{magnitudeOf}
-
--- ---- the angle: rule F7
+use Rattle.hal_reach.specs.Reach.{inAngle}
+use Rattle.hal_angle.specs.Angle.{angleOf}
 
 -- the quarter that the signs name, by whether dx and whether dy is negative: where it starts, and where it ends
 abbrev pub startOf : Bool → Bool → Float
@@ -45,12 +42,3 @@ pub record AngleRule : Type 0 where
   pub doubled : (dx dy : Float) → T (fits binary32 dx) → T (fits binary32 dy) → T (inAngle dx dy) → T (inAngle (double dx) (double dy)) → angleOf (double dx) (double dy) ≡ angleOf dx dy
   pub outside : (dx dy : Float) → inAngle dx dy ≡ false → angleOf dx dy ≡ nan
   pub held : (dx dy : Float) → T (fits binary32 (angleOf dx dy))
-
--- ---- the magnitude: rule F8
-pub record MagnitudeRule : Type 0 where
-  pub root : (dx dy : Float) → T (inAngle dx dy) → magnitudeOf dx dy ≡ rootOf (fused dx dx (dy ⊗ dy))
-  -- 2 ^ 22 is a bound that is never reached
-  pub within : (dx dy : Float) → T (inAngle dx dy) → In nought (fin false 1 (pos 22)) (magnitudeOf dx dy)
-  pub none : (dx dy : Float) → T (inAngle dx dy) → T (dx =ᶠ nought) → T (dy =ᶠ nought) → magnitudeOf dx dy ≡ nought
-  pub outside : (dx dy : Float) → inAngle dx dy ≡ false → magnitudeOf dx dy ≡ nan
-  pub held : (dx dy : Float) → T (fits binary32 (magnitudeOf dx dy))

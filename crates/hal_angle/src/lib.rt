@@ -1,19 +1,17 @@
-// The angle and the magnitude of a pair, which stand in for the source's own.
-// docs/ROUTINES.md has their steps, specs/ the same as definitions, specs/Rules.antt what is proved of those.
-mod cubics;
+// The angle of a pair, which stands in for the source's own.
+// docs/ROUTINES.md has its steps, specs/ the same as definitions, specs/Rules.antt what is proved of those.
 mod turns;
 
 ghost use mathlib.Core.Path.{_≡_};
-ghost use mathlib.Core.Bool.{true, not, _&&_, cond};
+ghost use mathlib.Core.Bool.{true, not, cond};
 ghost use Prim.Native.Nat.{_≤_};
 ghost use lib.Dec.{T};
 ghost use lib.Ieee.{isNan};
 ghost use Rattle.ieee.specs.F32.{_⊕_, absOf};
+ghost use Rattle.hal_reach.specs.Reach.{inAngle};
 ghost use Rattle.hal_angle.specs.Numbers.{shift};
 ghost use Rattle.hal_angle.specs.Turns.{turns, placeOf};
-ghost use Rattle.hal_angle.specs.Cubics.{cubics};
-ghost use Rattle.hal_angle.specs.Angle.{inReach, inAngle, quarterOf, alongOf, lesserOf, greaterOf, directionOf, angleOf};
-ghost use Rattle.hal_angle.specs.Magnitude.{magnitudeOf};
+ghost use Rattle.hal_angle.specs.Angle.{quarterOf, alongOf, lesserOf, greaterOf, directionOf, angleOf};
 
 // |x|, of an x that is a number.
 fn size(x: f32) -> f32
@@ -92,48 +90,12 @@ pub fn angle_in(t: &[f32; 272], dx: f32, dy: f32) -> f32
     }
 }
 
-// Neither a nor b is a NaN or above 2^21 = 2097152, twice the largest sample.
-fn both_in_reach(a: f32, b: f32) -> bool
-    ensures { λ r. ⌜ r ≡ (inReach a && inReach b) ⌝ }
-{
-    if a <= 2097152.0 {
-        b <= 2097152.0
-    } else {
-        false
-    }
-}
-
 pub fn angle(dx: f32, dy: f32) -> f32
     ensures { λ r. ⌜ r ≡ angleOf dx dy ⌝ }
 {
-    if both_in_reach(ieee::abs(dx), ieee::abs(dy)) {
+    if hal_reach::in_reach(dx, dy) {
         angle_in(&turns::TURNS, dx, dy)
     } else {
         hal::outside()
     }
-}
-
-pub fn magnitude(dx: f32, dy: f32) -> f32
-    ensures { λ r. ⌜ r ≡ magnitudeOf dx dy ⌝ }
-{
-    if both_in_reach(ieee::abs(dx), ieee::abs(dy)) {
-        ieee_length::length(dx, dy)
-    } else {
-        hal::outside()
-    }
-}
-
-// The table of the magnitude's guesses, to be made once and lent.
-pub fn cubic_table() -> [f64; 256]
-    ensures { λ r. ⌜ r ≡ cubics ⌝ }
-{
-    cubics::CUBICS
-}
-
-// For loops: both are in the range.
-pub fn magnitude_in(t: &[f64; 256], dx: f32, dy: f32) -> f32
-    requires { ⌜ (now t ≡ cubics) × (inAngle dx dy ≡ true) ⌝ }
-    ensures { λ r. ⌜ r ≡ magnitudeOf dx dy ⌝ }
-{
-    ieee_length::length_with(t, dx, dy)
 }

@@ -1,8 +1,8 @@
 -- The short paths and the general path agree: whatever meets the contract of the one and whatever meets that of the other are the same float. So which path a call of
--- `mul_add`, `narrow` or `sqrt` takes is a matter of time alone. Each premise is a contract of the code, as its comment names it. Assumes nothing.
+-- `mul_add` or `narrow` takes is a matter of time alone. Each premise is a contract of the code, as its comment names it. Assumes nothing.
 use mathlib.Core.Path.{_≡_, sym, ap, _∙_, subst}
 use mathlib.Core.Bool.{Bool}
-use Prim.Native.Nat.{ℕ, _+_, _*_, _^_, _<_}
+use Prim.Native.Nat.{ℕ, _+_, _*_, _^_}
 use lib.Dec.{T}
 use lib.Ieee.{Float, binary32, binary64, unlike, round, sum, add, mul, fits, toBits, ofBits}
 use lib.Ieee.Fits.{add-fits}
@@ -10,8 +10,6 @@ use lib.Ieee.Bits.{ofBits-toBits}
 use Rattle.packing.specs.Parts.{Splits}
 use Rattle.ieee.specs.Fused.{fma, convert}
 use Rattle.ieee.specs.Parts.{RoundsOnce}
-use Rattle.ieee_root.specs.Parts.{RootOrZero}
-use Rattle.ieee.specs.Root.{sqrt}
 use Rattle.ieee.proofs.Product.{fma-parts}
 use Rattle.ieee.proofs.Doubled.{Split, wide-is, converted, fma-narrow}
 
@@ -42,10 +40,3 @@ module _ (a b c : Float) (s t u : Bool) (m n p i j k : ℕ) (A : Splits 149 24 2
   fma-paths w r e q short v general =
       let back : ofBits binary64 (toBits binary64 w) ≡ fma binary64 a b c = ofBits-toBits binary64 w (subst (λ (y : Float). T (fits binary64 y)) (sym e) held) ∙ e in
       short ∙ fma-narrow (toBits binary64 w) q a b c A' B' C' back ∙ fma-parts binary32 a b c s t u m n p i j k 149 (A .value) (B .value) (C .value) ∙ sym general
-
--- `sqrt`: the guess that the exact test took, and the integer root of the whole significand
-pub root-paths : (x : Float) → T (fits binary32 x)
-    → (q : ℕ) → RootOrZero (ofBits binary32 (toBits binary32 x)) q → 0 < q  -- `checked_root`
-    → (t : Float) → t ≡ sqrt binary32 x  -- `root_general`
-    → ofBits binary32 q ≡ t
-root-paths x h q tried some t general = tried .right some ∙ ap (sqrt binary32) (ofBits-toBits binary32 x h) ∙ sym general

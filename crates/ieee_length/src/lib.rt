@@ -22,13 +22,13 @@ pub fn length(x: f32, y: f32) -> f32
         }
     }
     let q = y * y;
-    let n = ieee::fused_wide(x, x, q);
+    let n = ieee_fused::fused_wide(x, x, q);
     if n > 0 {
         if n < 0x47ef_ffff_e000_0000 {
-            return ieee_root::normal_root(ieee::narrow_bits(n));
+            return ieee_root::normal_root(ieee_fused::narrow_bits(n));
         }
     }
-    ieee_root::root_general(ieee::fma_general(x, x, q))
+    ieee_root::root_general(ieee_fused::fma_general(x, x, q))
 }
 
 // The f64 x * x + (y * y), as its pattern, with half a unit of the f32 added (2^28), so that the last 29 digits can be dropped, and one to the exponent (2^52), so that the
@@ -37,7 +37,7 @@ fn raised_sum(x: f32, y: f32) -> u64
     requires { ⌜ finite (fused x x (y ⊗ y)) ≡ true ⌝ }
     ensures { λ r. ⌜ Raised (fused x x (y ⊗ y)) r ⌝ }
 {
-    f64::to_bits(ieee::wide_fma(x, x, y * y)) + 0x10_0000_1000_0000
+    f64::to_bits(ieee_fused::wide_fma(x, x, y * y)) + 0x10_0000_1000_0000
 }
 
 // The significand of the rounded sum, from 1 to below 2, doubled where the exponent is odd.

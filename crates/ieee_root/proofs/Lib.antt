@@ -4,3 +4,4 @@ mod Rooted
 mod Fast
 pub mod Tries
 pub mod Midpoints
+pub mod Paths

@@ -21,11 +21,11 @@ use Rattle.ieee_laws.proofs.Level.{eq-both, sub-finite, sub-level}
 use Rattle.lists.proofs.Ranges.{joined-empty}
 use Rattle.params.specs.Table.{firstFault, line, shapeWrong, lengthWrong}
 use Rattle.detect_keypoint.specs.declared.RawKeypoint.{RawKeypoint}
-use Rattle.hal_angle.specs.Angle.{inReach, inAngle}
+use Rattle.hal_reach.specs.Reach.{inReach, inAngle}
 use Rattle.hal.specs.Rules.{In}
-use Rattle.hal_angle.proofs.AngleValues.{reach-nan, reach-inf}
+use Rattle.hal_reach.proofs.Reach.{reach-nan, reach-inf}
 use Rattle.hal.proofs.Rules.{exp-rule}
-use Rattle.hal_angle.proofs.Rules.{magnitude-rule}
+use Rattle.hal_magnitude.proofs.Rules.{magnitude-rule}
 use Rattle.lists.specs.Each.{Each, none}
 use Rattle.lists.proofs.Each.{each-one, each-at, each-when, each-joined}
 use Rattle.picture.specs.Picture.{pixel, slopeAt}

@@ -25,7 +25,7 @@ fn smooth_at(b: &[f32; 36], i: usize) -> f32
     let far = bin_around(b, i + 36 - 2) + bin_around(b, i + 2);
     let near = bin_around(b, i + 36 - 1) + bin_around(b, i + 1);
     let own = bin_around(b, i) * 0.375;
-    ieee::add_part(far, 0.0625, ieee::add_part(near, 0.25, own))
+    ieee_fused::add_part(far, 0.0625, ieee_fused::add_part(near, 0.25, own))
 }
 
 fn smooth(b: &[f32; 36]) -> [f32; 36]
@@ -108,7 +108,7 @@ fn peak_angle(h: &[f32; 36], j: usize) -> f32
     let l = bin_around(h, j + 36 - 1);
     let m = bin_around(h, j);
     let r = bin_around(h, j + 1);
-    closed_at(ieee::mul_add(-10.0, back_in(crest(j, l, m, r)), 360.0))
+    closed_at(ieee_fused::mul_add(-10.0, back_in(crest(j, l, m, r)), 360.0))
 }
 
 fn angles_in(h: &[f32; 36]) -> Angles

@@ -29,7 +29,7 @@ use Rattle.picture.specs.declared.Size.{Size}
 use Rattle.samples.proofs.Slopes.{good-slope}
 use Rattle.hal.specs.Numbers.{minus32}
 use Rattle.hal.specs.Exp.{inDown}
-use Rattle.hal_angle.specs.Angle.{inAngle}
+use Rattle.hal_reach.specs.Reach.{inAngle}
 use Rattle.orient_window.specs.Window.{radiusFactor, radiusOf, sigmaOf, falloffOf, windowOf, cell}
 use Rattle.orient_window.specs.Good.{rowGood, windowGood}
 use Rattle.orient_window.specs.declared.Window.{Window}

@@ -14,7 +14,8 @@ use Rattle.ieee.specs.F32.{_⊕_, _⊗_, rounded}
 use Rattle.ieee.specs.Whole.{roundEven}
 use Rattle.ieee_laws.proofs.Order.{le-lt-trans, lt-le}
 use Rattle.ieee_laws.proofs.Bounds.{Bounds, bounds-point, mul-bounds, roundEven-bounds}
-use Rattle.hal_angle.specs.Angle.{angleOf, inAngle}
+use Rattle.hal_angle.specs.Angle.{angleOf}
+use Rattle.hal_reach.specs.Reach.{inAngle}
 use Rattle.hal_angle.proofs.Rules.{angle-rule}
 use Rattle.ieee_laws.proofs.Cuts.{Cuts, cuts}
 use Rattle.orient_tally.specs.Sample.{bins, tenth, binOf}

@@ -8,7 +8,7 @@ use lib.IntN.{pos}
 use lib.Ieee.{Float, binary32, ofInt}
 use Rattle.ieee.specs.F32.{_⊗_}
 use Rattle.hal.specs.Exp.{inDown}
-use Rattle.hal_angle.specs.Angle.{inAngle}
+use Rattle.hal_reach.specs.Reach.{inAngle}
 use Rattle.params.specs.Limits.{maxSide}
 use Rattle.picture.specs.Picture.{slopeAt}
 use Rattle.picture.specs.Place.{Around}

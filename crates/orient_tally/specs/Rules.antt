@@ -11,7 +11,7 @@ use Rattle.params.specs.Table.{within}
 use Rattle.picture.specs.Picture.{slopeAt}
 use Rattle.picture.specs.declared.Size.{Size}
 use Rattle.hal.specs.Exp.{inDown}
-use Rattle.hal_angle.specs.Angle.{inAngle}
+use Rattle.hal_reach.specs.Reach.{inAngle}
 use Rattle.orient_window.specs.Window.{cell, windowOf}
 use Rattle.orient_window.specs.Good.{windowGood}
 use Rattle.orient_window.specs.declared.Window.{Window}

@@ -5,7 +5,7 @@ use mathlib.Core.List.{List}
 use lib.Dec.{leb}
 use lib.Ieee.{Float}
 use Rattle.hal_angle.specs.Angle.{angleOf}
-use Rattle.hal_angle.specs.Magnitude.{magnitudeOf}
+use Rattle.hal_magnitude.specs.Magnitude.{magnitudeOf}
 use Rattle.picture.specs.Picture.{slopeAt}
 use Rattle.orient_window.specs.Window.{cell}
 use Rattle.orient_tally.specs.Sample.{weightAt, binOf}

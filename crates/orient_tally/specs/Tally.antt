@@ -7,7 +7,7 @@ use lib.Dec.{leb}
 use lib.Ieee.{Float, nan}
 use Rattle.ieee.specs.F32.{_⊕_, _⊗_, f32, fused}
 use Rattle.hal_angle.specs.Angle.{angleOf}
-use Rattle.hal_angle.specs.Magnitude.{magnitudeOf}
+use Rattle.hal_magnitude.specs.Magnitude.{magnitudeOf}
 use Rattle.picture.specs.Picture.{slopeAt}
 use Rattle.orient_window.specs.Window.{Cell, cellsOf, cellsRead}
 use Rattle.orient_tally.specs.Sample.{bins, weightAt, binOf}

@@ -7,10 +7,11 @@ ghost use Prim.Native.Nat.{_+_, _*_, _<_, _≤_};
 ghost use lib.IntN.{pos};
 ghost use Rattle.params.specs.Limits.{maxSide};
 ghost use Rattle.hal.specs.Powers.{pairs as pairTable};
-ghost use Rattle.hal_angle.specs.Cubics.{cubics as cubicTable};
+ghost use Rattle.hal_magnitude.specs.Cubics.{cubics as cubicTable};
 ghost use Rattle.hal_angle.specs.Turns.{turns as turnTable};
 ghost use Rattle.hal.specs.Exp.{inDown};
-ghost use Rattle.hal_angle.specs.Angle.{angleOf, inAngle};
+ghost use Rattle.hal_angle.specs.Angle.{angleOf};
+ghost use Rattle.hal_reach.specs.Reach.{inAngle};
 ghost use Rattle.orient_window.specs.Window.{cell};
 ghost use Rattle.orient_window.specs.Place.{maxReach};
 ghost use Rattle.orient_tally.specs.Sample.{bins, apart, weightAt, binOf};
@@ -91,7 +92,7 @@ fn sample_at<'a>(
     let x = run.from + i;
     let weight = weight_at(pairs, win, run.y, x);
     let s = picture::slope_at(img, win.size, run.y, x);
-    let magnitude = hal_angle::magnitude_in(cubics, s.dx, s.dy);
+    let magnitude = hal_magnitude::magnitude_in(cubics, s.dx, s.dy);
     Sample {
         bin: bin_of(turns, s.dx, s.dy),
         weight: weight,
@@ -144,7 +145,7 @@ fn share(old: f32, s: Sample) -> f32
     ensures { λ r. ⌜ r ≡ shareOf old s ⌝ }
 {
     if s.late {
-        ieee::fma_general(s.weight, s.magnitude, old)
+        ieee_fused::fma_general(s.weight, s.magnitude, old)
     } else {
         old + s.weight * s.magnitude
     }
@@ -206,7 +207,7 @@ pub fn tally_of(img: &[f32], win: Window) -> Gathered
     ensures { λ r. ⌜ r ≡ gatheredOf (now (img .entry)) win ⌝ }
 {
     let pairs = hal::pair_table();
-    let cubics = hal_angle::cubic_table();
+    let cubics = hal_magnitude::cubic_table();
     let turns = hal_angle::turn_table();
     let n = win.rows * win.cols;
     let t = gather(img, &pairs, &cubics, &turns, win, n);

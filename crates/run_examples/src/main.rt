@@ -67,7 +67,7 @@ fn single(i: usize) -> Pair {
         4 => rounding(1.5, 2.0),
         5 => rounding(2.5, 2.0),
         6 => rounding(-1.5, -2.0),
-        7 => both(ieee::mul_add(A, A, C), SMALL),
+        7 => both(ieee_fused::mul_add(A, A, C), SMALL),
         8 => both(A * A + C, 0.0),
         9 => threshold(1.0, 1, 127.0),
         10 => threshold(0.0, 1, 0.0),

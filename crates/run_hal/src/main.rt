@@ -47,14 +47,14 @@ fn good(op: u32, x: f32, y: f32, v: f64) -> bool {
         3 => near_one(number(hal_turn::sin(x)), v),
         4 => near_one(number(hal_turn::cos(x)), v),
         5 => near_turn(number(hal_angle::angle(x, y)), v),
-        6 => near(number(hal_angle::magnitude(x, y)), v),
-        7 => number(hal_angle::magnitude(x, y)) == v,
+        6 => near(number(hal_magnitude::magnitude(x, y)), v),
+        7 => number(hal_magnitude::magnitude(x, y)) == v,
         9 => is_nan(hal::exp2(x)),
         10 => is_nan(hal::exp(x)),
         11 => is_nan(hal_turn::sin(x)),
         12 => is_nan(hal_turn::cos(x)),
         13 => is_nan(hal_angle::angle(x, y)),
-        14 => is_nan(hal_angle::magnitude(x, y)),
+        14 => is_nan(hal_magnitude::magnitude(x, y)),
         _ => false,
     }
 }

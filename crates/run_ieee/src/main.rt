@@ -25,9 +25,9 @@ fn same(op: u32, a: u32, b: u32, c: u32, want: u32) -> bool {
     let x = ieee::of_bits(a);
     let y = ieee::of_bits(b);
     match op {
-        1 => ieee::bits_of(ieee::mul_add(x, y, ieee::of_bits(c))) == want,
+        1 => ieee::bits_of(ieee_fused::mul_add(x, y, ieee::of_bits(c))) == want,
         2 => ieee::bits_of(ieee_root::sqrt(x)) == want,
-        3 => ieee::bits_of(ieee::narrow(ieee::of_bits64(run_vectors::join(a, b)))) == want,
+        3 => ieee::bits_of(ieee_fused::narrow(ieee::of_bits64(run_vectors::join(a, b)))) == want,
         4 => ieee::bits_of(ieee_whole::floor(x)) == want,
         5 => ieee::bits_of(ieee_whole::round_ties_even(x)) == want,
         6 => agrees(ieee_whole::to_i32(x), want),

@@ -1,5 +1,3 @@
 pub mod Runs
 pub mod Slopes
 pub mod Strips
-pub mod Spans
-pub mod Rows

@@ -14,8 +14,7 @@ use Rattle.ieee_laws.proofs.Turned.{le-turned}
 use Rattle.params.specs.Limits.{sampleLimit}
 use Rattle.params.specs.Table.{goodSample, allGood}
 use Rattle.params.proofs.Within.{within-bounds}
-use Rattle.hal_angle.specs.Numbers.{furthest}
-use Rattle.hal_angle.specs.Angle.{inReach, inAngle}
+use Rattle.hal_reach.specs.Reach.{furthest, inReach, inAngle}
 use Rattle.picture.specs.Picture.{pixel, slopeAt, fourAt}
 
 abbrev nearest : Float

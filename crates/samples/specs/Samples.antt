@@ -1,30 +1,15 @@
--- Inner: runs and rows of samples in range, rule A13. Definitions only.
-use Prim.Native.Nat.{ℕ, _+_, _-_, _*_}
+-- Inner: runs of samples in range, rule A13. Definitions only.
+use Prim.Native.Nat.{ℕ}
 use mathlib.Core.Bool.{Bool}
 use mathlib.Core.List.{List}
 use lib.ListN.{take, drop}
 use lib.Ieee.{Float}
-use Rattle.lists.specs.Ranges.{every}
 use Rattle.params.specs.Table.{allGood}
-use Rattle.picture.specs.declared.Shape.{Shape}
 
 -- so many samples are tested between two looks at what came out
 abbrev pub block : ℕ
 block = 1024
 
--- the planes of three layers: so many are tested a column of cells at a time
-abbrev pub usual : ℕ
-usual = 5
-
 -- the samples from place `from` to below place `to` are good
 unfoldable pub goodFrom : ℕ → ℕ → List Float → Bool
 goodFrom from to d = allGood (drop from (take to d))
-
--- the cells of row r from column lo to below hi are good in every plane
-unfoldable pub spanGood : Shape → ℕ → ℕ → ℕ → List Float → Bool
-spanGood t r lo hi d =
-    every (t .planes) (λ p. goodFrom ((p * t .height + r) * t .width + lo) ((p * t .height + r) * t .width + hi) d)
-
--- the rows from a to below b are
-unfoldable pub rowsGood : Shape → ℕ → ℕ → List Float → Bool
-rowsGood t a b d = every (b - a) (λ i. spanGood t (a + i) 0 (t .width) d)

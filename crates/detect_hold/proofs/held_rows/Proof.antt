@@ -8,8 +8,8 @@ use lib.Seq.{length-sets}
 use borrow.Author.Needs.{needs}
 use borrow.Author.Tests.{not-true, not-false}
 use Rattle.params.specs.Limits.{border}
-use Rattle.samples.specs.Samples.{rowsGood}
-use Rattle.samples.proofs.Rows.{rows-none, rows-more, row-bad}
+use Rattle.detect_samples.specs.Rows.{rowsGood}
+use Rattle.detect_samples.proofs.Rows.{rows-none, rows-more, row-bad}
 use Rattle.detect_rows.proofs.Forms.{row-bound}
 use Rattle.detect_hold.specs.Front.{Holds}
 use Rattle.detect_hold.proofs.Parts.{held-none, held-kept, held-more}

@@ -4,7 +4,7 @@ use Rattle.detect_keypoint.proofs.contrast_of.Statement.{statement}
 use Rattle.detect_keypoint.proofs.contrast_of.Tie as tie
 use Rattle.detect_keypoint.proofs.contrast_of.Reads as reads
 use Rattle.detect_keypoint.proofs.contrast_of.Lts as lts
-use Rattle.ieee.proofs.mul_add.Reads as mul-add-reads
+use Rattle.ieee_fused.proofs.mul_add.Reads as mul-add-reads
 use Rattle.detect_fit.proofs.gradient_of.Reads as gradient-of-reads
 
 gradient-of-requires : tie.Need-gradient-of-requires

@@ -7,7 +7,7 @@ use Rattle.detect_keypoint.proofs.is_dim.Tie as tie
 use Rattle.detect_keypoint.proofs.is_dim.Reads as reads
 use Rattle.detect_keypoint.proofs.is_dim.Lts as lts
 use Rattle.ieee.proofs.abs.Reads as abs-reads
-use Rattle.ieee.proofs.narrow.Reads as narrow-reads
+use Rattle.ieee_fused.proofs.narrow.Reads as narrow-reads
 
 abs-requires : tie.Need-abs-requires
 abs-requires c κs = search needs

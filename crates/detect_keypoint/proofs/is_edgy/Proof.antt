@@ -4,7 +4,7 @@ use Rattle.detect_keypoint.proofs.is_edgy.Statement.{statement}
 use Rattle.detect_keypoint.proofs.is_edgy.Tie as tie
 use Rattle.detect_keypoint.proofs.is_edgy.Reads as reads
 use Rattle.detect_keypoint.proofs.is_edgy.Lts as lts
-use Rattle.ieee.proofs.narrow.Reads as narrow-reads
+use Rattle.ieee_fused.proofs.narrow.Reads as narrow-reads
 use Rattle.detect_fit.proofs.bend_of.Reads as bend-of-reads
 use Rattle.detect_fit.proofs.mul_sub.Reads as mul-sub-reads
 

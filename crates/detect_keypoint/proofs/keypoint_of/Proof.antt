@@ -11,7 +11,7 @@ use Rattle.detect_keypoint.proofs.code_of.Reads as code-of-reads
 use Rattle.detect_keypoint.proofs.float.Reads as float-reads
 use Rattle.detect_keypoint.proofs.scale_of.Reads as scale-of-reads
 use Rattle.hal.proofs.exp2.Reads as exp2-reads
-use Rattle.ieee.proofs.narrow.Reads as narrow-reads
+use Rattle.ieee_fused.proofs.narrow.Reads as narrow-reads
 
 scale-of-requires : tie.Need-scale-of-requires
 scale-of-requires c κs = search needs

@@ -10,9 +10,9 @@ use lib.Seq.{length-sets}
 use lib.Ieee.{Float}
 use Rattle.lists.proofs.Ranges.{joined-start}
 use Rattle.params.specs.Limits.{border}
-use Rattle.samples.specs.Samples.{spanGood}
+use Rattle.detect_samples.specs.Rows.{spanGood}
 use Rattle.picture.specs.declared.Shape.{Shape}
-use Rattle.samples.proofs.Spans.{span-join}
+use Rattle.detect_samples.proofs.Spans.{span-join}
 use Rattle.detect_extrema.specs.Neighbours.{tied}
 use Rattle.detect_extrema.specs.Scan.{found, keypointWords}
 use Rattle.detect_words.specs.Leaves.{leaves}

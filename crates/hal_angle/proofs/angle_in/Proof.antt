@@ -1,6 +1,6 @@
 use mathlib.Core.Path.{sym, subst}
 use lib.Dec.{T}
-use Rattle.hal_angle.proofs.AngleValues.{reach-dx, reach-dy, reach-number}
+use Rattle.hal_reach.proofs.Reach.{reach-dx, reach-dy, reach-number}
 use Rattle.hal_angle.proofs.AngleTable.{number-at, angle-at, level-at}
 use Rattle.hal_angle.proofs.angle_in.Statement.{statement}
 use Rattle.hal_angle.proofs.angle_in.Tie as tie

@@ -4,7 +4,7 @@ use Rattle.orient_peaks.proofs.peak_angle.Statement.{statement}
 use Rattle.orient_peaks.proofs.peak_angle.Tie as tie
 use Rattle.orient_peaks.proofs.peak_angle.Reads as reads
 use Rattle.orient_peaks.proofs.peak_angle.Lts as lts
-use Rattle.ieee.proofs.mul_add.Reads as mul-add-reads
+use Rattle.ieee_fused.proofs.mul_add.Reads as mul-add-reads
 use Rattle.orient_peaks.proofs.back_in.Reads as back-in-reads
 use Rattle.orient_peaks.proofs.bin_around.Reads as bin-around-reads
 use Rattle.orient_peaks.proofs.closed_at.Reads as closed-at-reads

@@ -4,7 +4,7 @@ use Rattle.orient_peaks.proofs.smooth_at.Statement.{statement}
 use Rattle.orient_peaks.proofs.smooth_at.Tie as tie
 use Rattle.orient_peaks.proofs.smooth_at.Reads as reads
 use Rattle.orient_peaks.proofs.smooth_at.Lts as lts
-use Rattle.ieee.proofs.add_part.Reads as add-part-reads
+use Rattle.ieee_fused.proofs.add_part.Reads as add-part-reads
 use Rattle.orient_peaks.proofs.bin_around.Reads as bin-around-reads
 
 add-bin-around : tie.Need-add-bin-around

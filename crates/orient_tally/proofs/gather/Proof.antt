@@ -53,7 +53,7 @@ use denote.Signature.{plain}
 use borrow.Table.OneValue.{part-in, part-out}
 use Rattle.params.specs.Limits.{maxSide}
 use Rattle.hal.specs.Powers.{pairs as pairTable}
-use Rattle.hal_angle.specs.Cubics.{cubics as cubicTable}
+use Rattle.hal_magnitude.specs.Cubics.{cubics as cubicTable}
 use Rattle.hal_angle.specs.Turns.{turns as turnTable}
 use Rattle.orient_tally.specs.Sample.{bins}
 use Rattle.orient_tally.specs.Tally.{tallied, tallyOf, empty}

@@ -4,7 +4,7 @@ use Rattle.orient_tally.proofs.sample_at.Statement.{statement}
 use Rattle.orient_tally.proofs.sample_at.Tie as tie
 use Rattle.orient_tally.proofs.sample_at.Reads as reads
 use Rattle.orient_tally.proofs.sample_at.Lts as lts
-use Rattle.hal_angle.proofs.magnitude_in.Reads as magnitude-in-reads
+use Rattle.hal_magnitude.proofs.magnitude_in.Reads as magnitude-in-reads
 use Rattle.orient_tally.proofs.bin_of.Reads as bin-of-reads
 use Rattle.orient_tally.proofs.weight_at.Reads as weight-at-reads
 use Rattle.picture.proofs.slope_at.Reads as slope-at-reads

@@ -4,7 +4,7 @@ use Rattle.orient_tally.proofs.share.Statement.{statement}
 use Rattle.orient_tally.proofs.share.Tie as tie
 use Rattle.orient_tally.proofs.share.Reads as reads
 use Rattle.orient_tally.proofs.share.Lts as lts
-use Rattle.ieee.proofs.fma_general.Reads as fma-general-reads
+use Rattle.ieee_fused.proofs.fma_general.Reads as fma-general-reads
 
 fma-general-requires : tie.Need-fma-general-requires
 fma-general-requires c κs = search needs

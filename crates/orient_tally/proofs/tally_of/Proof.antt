@@ -8,7 +8,7 @@ use Rattle.orient_tally.proofs.tally_of.Statement.{statement}
 use Rattle.orient_tally.proofs.tally_of.Tie as tie
 use Rattle.orient_tally.proofs.tally_of.Reads as reads
 use Rattle.orient_tally.proofs.tally_of.Lts as lts
-use Rattle.hal_angle.proofs.cubic_table.Reads as cubic-table-reads
+use Rattle.hal_magnitude.proofs.cubic_table.Reads as cubic-table-reads
 use Rattle.hal.proofs.pair_table.Reads as pair-table-reads
 use Rattle.hal_angle.proofs.turn_table.Reads as turn-table-reads
 use Rattle.orient_tally.proofs.gather.Reads as gather-reads

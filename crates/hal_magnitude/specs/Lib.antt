@@ -1,0 +1,3 @@
+pub mod Cubics
+pub mod Magnitude
+pub mod Rules

@@ -3,16 +3,14 @@ use Prim.Native.Nat.{ℕ, _<_}
 use mathlib.Core.Path.{_≡_}
 use mathlib.Core.Bool.{true, false, _||_}
 use mathlib.Core.List.{List}
-use lib.IntN.{pos}
 use lib.ListN.{getD}
 use lib.Ieee.{Float, nan}
 use Rattle.lists.proofs.Each.{each-weaker}
-use Rattle.params.specs.Limits.{valueCount}
+use Rattle.ieee.specs.Numbers.{nought, wholeTurn}
+use Rattle.params.specs.Limits.{valueCount, scaleLow, scaleHigh}
+use Rattle.params.specs.Table.{within}
 use Rattle.picture.specs.declared.Size.{Size}
 use Rattle.hal_turn.specs.Turn.{inTurn}
-use Rattle.orient_words.specs.declared.OrientedKeypoint.{OrientedKeypoint}
-use Rattle.descriptor_inputs.specs.Inputs.{inputsOf}
-use Rattle.descriptor_inputs.specs.Rules.{Taken}
 use Rattle.descriptor_run.specs.Cells.{samplesOf}
 use Rattle.descriptor_patch.specs.Rules.{Fair}
 use Rattle.descriptor_run.proofs.Rules.{used-rule}
@@ -29,13 +27,12 @@ use Rattle.descriptor_words.specs.declared.Spot.{Spot}
 use Rattle.descriptor_words.proofs.Filled.{in-turn}
 use Rattle.descriptor.specs.Place.{spotWrong, turnWrong}
 use Rattle.descriptor.specs.Entry.{faultOf}
-use Rattle.descriptor.specs.Rules.{spotOf, Inside, DescriptorRule}
+use Rattle.descriptor.specs.Rules.{Inside, DescriptorRule}
 use Rattle.descriptor.proofs.Checks.{fault-fine}
 
-accepted : (s : Size) (octave : ℕ) (o : OrientedKeypoint) → Taken o octave → Inside s (inputsOf o (pos octave))
-    → (spotWrong s (spotOf (inputsOf o (pos octave))) || turnWrong (spotOf (inputsOf o (pos octave)))) ≡ false
+accepted : (s : Size) (p : Spot) → Inside s p → within scaleLow scaleHigh (p .scale) ≡ true → within nought wholeTurn (p .angle) ≡ true → (spotWrong s p || turnWrong p) ≡ false
 unfolding spotWrong turnWrong
-accepted s octave o t i = rw (i .x-ends, i .y-ends, i .column, i .row, t .scale, t .angle)
+accepted s p i scale angle = rw (i .x-ends, i .y-ends, i .column, i .row, scale, angle)
 
 -- ---- each sample counts
 pub counts-of : (angle : Float) (s : Sample) → inTurn angle ≡ true → Fair s → Counts angle s

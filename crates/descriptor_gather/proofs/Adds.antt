@@ -20,7 +20,8 @@ use Rattle.descriptor_patch.specs.declared.Sample.{Sample}
 use Rattle.descriptor_patch.specs.declared.Patch.{Patch}
 use Rattle.descriptor_run.proofs.Runs.{over-cells}
 use Rattle.descriptor_run.proofs.Rules.{good-part}
-use Rattle.descriptor_grid.specs.Grid.{spotOf, scattered, gatheredIn}
+use Rattle.descriptor_shares.specs.Sharing.{spotOf}
+use Rattle.descriptor_grid.specs.Grid.{scattered, gatheredIn}
 use Rattle.descriptor_gather.specs.Gather.{sampleIn}
 
 pub gathered-append : (angle : Float) (h : List Float) (xs ys : List Sample) → gatheredIn angle h (xs ++ ys) ≡ gatheredIn angle (gatheredIn angle h xs) ys

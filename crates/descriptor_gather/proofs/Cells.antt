@@ -12,8 +12,8 @@ use Rattle.descriptor_patch.specs.Patch.{rotsOf, binOf, inGrid, gridAt, sampleA
 use Rattle.descriptor_patch.specs.declared.Patch.{Patch}
 use Rattle.descriptor_patch.specs.declared.Sample.{Sample}
 use Rattle.descriptor_patch.proofs.Rules.{fair}
-use Rattle.descriptor_grid.specs.Reach.{splitOf, Settled}
-use Rattle.descriptor_grid.specs.declared.Split.{Split}
+use Rattle.descriptor_shares.specs.Reach.{splitOf, Settled}
+use Rattle.descriptor_shares.specs.declared.Split.{Split}
 
 -- x is how far the cell lies along one side of the turned patch, b its place in the grid, and g whether it lies in it
 pub record Tested (rot x b : Float) (g : Bool) : Type 0 where

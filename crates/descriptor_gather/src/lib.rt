@@ -1,9 +1,9 @@
 // The samples of a patch, row by row, added to the histogram and counted.
 
-use descriptor_grid::Landed;
 use descriptor_patch::Patch;
 use descriptor_patch::Rots;
 use descriptor_run::Run;
+use descriptor_shares::Landed;
 ghost use mathlib.Core.Path.{_≡_};
 ghost use mathlib.Core.Bool.{true, cond};
 ghost use mathlib.Core.List.{[]};
@@ -16,7 +16,7 @@ ghost use Rattle.descriptor_run.specs.Cells.{readsOf, samplesOf};
 ghost use Rattle.descriptor_run.specs.Run.{overRun};
 ghost use Rattle.descriptor_run.specs.Place.{Inner};
 ghost use Rattle.descriptor_grid.specs.Grid.{gatheredIn};
-ghost use Rattle.descriptor_grid.specs.Reach.{Lent};
+ghost use Rattle.descriptor_shares.specs.Reach.{Lent};
 ghost use Rattle.descriptor_gather.specs.Gather.{sampleIn, Patched};
 
 // A row of the patch, and the columns of it that are gone through.
@@ -50,11 +50,11 @@ fn cell(
     let row = descriptor_patch::rot_row(t, p.row, p.col);
     let rbin = descriptor_patch::bin_of(row);
     if descriptor_patch::in_grid(rbin) {
-        let rs = descriptor_grid::split_of(rbin);
+        let rs = descriptor_shares::split_of(rbin);
         let col = descriptor_patch::rot_col(t, p.row, p.col);
         let cbin = descriptor_patch::bin_of(col);
         if descriptor_patch::in_grid(cbin) {
-            let cs = descriptor_grid::split_of(cbin);
+            let cs = descriptor_shares::split_of(cbin);
             let s = descriptor_patch::sample_at(img, t, p.row, p.col, Rots { col: col, row: row });
             let l = Landed {
                 sample: s,

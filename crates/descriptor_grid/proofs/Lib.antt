@@ -1,4 +1,1 @@
-pub mod Steps
-pub mod Floors
-pub mod Spots
 pub mod Scatters

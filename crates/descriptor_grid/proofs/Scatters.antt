@@ -10,8 +10,8 @@ use lib.Ieee.{Float}
 use Rattle.lists.proofs.Bools.{and-true}
 use Rattle.descriptor_values.specs.Places.{slots, rowPlaces, place}
 use Rattle.descriptor_grid.specs.Grid.{live, when, scattered}
-use Rattle.descriptor_grid.specs.Reach.{Inside}
-use Rattle.descriptor_grid.specs.declared.Spot.{Spot}
+use Rattle.descriptor_shares.specs.Reach.{Inside}
+use Rattle.descriptor_shares.specs.declared.Spot.{Spot}
 
 -- a row or column that a spot has, and the next one
 live-here : (r : ℕ) → r ≤ 4 → live r ≡ leb 1 r

@@ -24,13 +24,14 @@ use Rattle.lists.specs.Each.{Each}
 use Rattle.descriptor_patch.specs.declared.Sample.{Sample}
 use Rattle.descriptor_values.specs.Places.{places}
 use Rattle.descriptor_laws.specs.ValuesRules.{Held}
-use Rattle.descriptor_grid.specs.Grid.{spotOf, gathered}
-use Rattle.descriptor_grid.specs.Reach.{Lands}
-use Rattle.descriptor_grid.specs.declared.Shares.{Shares}
-use Rattle.descriptor_grid.specs.declared.Spot.{Spot}
-use Rattle.descriptor_grid.proofs.Steps.{lowered, step}
-use Rattle.descriptor_grid.proofs.Floors.{Floored}
-use Rattle.descriptor_grid.proofs.Spots.{turnOf, row, col, slot, is-spot, spot-inside}
+use Rattle.descriptor_shares.specs.Sharing.{spotOf}
+use Rattle.descriptor_grid.specs.Grid.{gathered}
+use Rattle.descriptor_shares.specs.Reach.{Lands}
+use Rattle.descriptor_shares.specs.declared.Shares.{Shares}
+use Rattle.descriptor_shares.specs.declared.Spot.{Spot}
+use Rattle.descriptor_shares.proofs.Steps.{lowered, step}
+use Rattle.descriptor_shares.proofs.Floors.{Floored}
+use Rattle.descriptor_shares.proofs.Spots.{turnOf, row, col, slot, is-spot, spot-inside}
 use Rattle.descriptor_laws.specs.GridRules.{mostShare, Eight, Counts, Flat, GridRule}
 use Rattle.descriptor_laws.proofs.Parts.{Part, Top, split-product, shares-in}
 use Rattle.descriptor_laws.proofs.Sums.{held-add, held-none, none-add}

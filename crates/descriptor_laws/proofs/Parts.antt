@@ -14,7 +14,7 @@ use Rattle.ieee_laws.proofs.Order.{le-trans-float}
 use Rattle.ieee_laws.proofs.Monotone.{nil, mul-le, sub-le}
 use Rattle.ieee_laws.proofs.Level.{sub-same}
 use Rattle.ieee_laws.proofs.Bounds.{Bounds, bounds-point, bounds-finite, bounds-wider, sub-bounds, mul-bounds}
-use Rattle.descriptor_grid.specs.Grid.{sharesOf}
+use Rattle.descriptor_shares.specs.Sharing.{sharesOf}
 use Rattle.descriptor_laws.specs.GridRules.{Eight}
 
 -- ---- m × 1 is m

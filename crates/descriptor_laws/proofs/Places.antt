@@ -13,9 +13,10 @@ use Rattle.ieee.specs.F32.{_⊕_}
 use Rattle.ieee.specs.Numbers.{nought}
 use Rattle.descriptor_patch.specs.declared.Sample.{Sample}
 use Rattle.descriptor_values.specs.Places.{places, place}
-use Rattle.descriptor_grid.specs.Grid.{spotOf, addAt, pairAt, when, live, scattered, gatheredIn}
-use Rattle.descriptor_grid.specs.Reach.{Inside}
-use Rattle.descriptor_grid.specs.declared.Spot.{Spot}
+use Rattle.descriptor_shares.specs.Sharing.{spotOf}
+use Rattle.descriptor_grid.specs.Grid.{addAt, pairAt, when, live, scattered, gatheredIn}
+use Rattle.descriptor_shares.specs.Reach.{Inside}
+use Rattle.descriptor_shares.specs.declared.Spot.{Spot}
 use Rattle.lists.specs.Each.{Each, none, more}
 use Rattle.descriptor_laws.specs.GridRules.{Eight}
 

@@ -13,9 +13,10 @@ use Rattle.lists.specs.Each.{Each}
 use Rattle.descriptor_patch.specs.declared.Sample.{Sample}
 use Rattle.descriptor_values.specs.Places.{places}
 use Rattle.descriptor_laws.specs.ValuesRules.{Held}
-use Rattle.descriptor_grid.specs.Grid.{spotOf, gathered}
-use Rattle.descriptor_grid.specs.Reach.{Lands, Inside}
-use Rattle.descriptor_grid.specs.declared.Shares.{Shares}
+use Rattle.descriptor_shares.specs.Sharing.{spotOf}
+use Rattle.descriptor_grid.specs.Grid.{gathered}
+use Rattle.descriptor_shares.specs.Reach.{Lands, Inside}
+use Rattle.descriptor_shares.specs.declared.Shares.{Shares}
 
 -- 2 ^ 22
 abbrev pub mostShare : Float

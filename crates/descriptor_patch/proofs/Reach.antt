@@ -1,5 +1,5 @@
 -- The reach of a patch, and the picture's diagonal. Assumes nothing.
-use Prim.Native.Nat.{ℕ, zero, suc, _*_, _/_, _^_, _≤_, min}
+use Prim.Native.Nat.{ℕ, zero, suc, _*_, _/_, _^_, _≤_, _<_, min}
 use mathlib.Core.Path.{_≡_, refl, sym, _∙_}
 use mathlib.Core.Bool.{true, false, not, false≢true}
 use mathlib.Core.Logic.{⊎-elim}
@@ -8,7 +8,7 @@ use lib.Dec.{T}
 use lib.IntN.{pos}
 use lib.Ieee.{Float, nan, inf, fin, binary32, up, down, ofBits, ofInt, add, mul, lt, le, toUnsigned, isNan}
 use Rattle.lists.proofs.Bools.{is-T}
-use Rattle.ieee.specs.F32.{_⊗_, f32, rounded, rootOf, float}
+use Rattle.ieee.specs.F32.{_⊕_, _⊗_, f32, rounded, rootOf, float}
 use Rattle.ieee.specs.Root.{sqrt, halves}
 use Rattle.ieee.specs.Whole.{roundEven}
 use Rattle.ieee.specs.Numbers.{half, three, five, root2}
@@ -20,7 +20,7 @@ use Rattle.params.specs.Limits.{maxSide, scaleLow, scaleHigh}
 use Rattle.params.specs.Table.{within}
 use Rattle.params.proofs.Within.{scale-bounds}
 use Rattle.picture.specs.declared.Size.{Size}
-use Rattle.descriptor_patch.specs.Patch.{histWidth, reachOf, diagonalOf}
+use Rattle.descriptor_patch.specs.Patch.{histWidth, reachOf, diagonalOf, radiusOf}
 use Rattle.descriptor_patch.specs.Place.{maxRadius, Sides}
 
 -- ---- the reach
@@ -98,9 +98,28 @@ diagonal-cuts s p k =
       size = omega (arith, toUnsigned-le 64 (diagonalOf s) far (lt-le (diagonalOf s) far k), far-cut);
     }
 
-pub diagonal-far : (s : Size) (r : ℕ) → Sides s → r ≤ maxRadius → lt (diagonalOf s) far ≡ false → r ≡ min r (toUnsigned 64 (diagonalOf s))
+diagonal-far : (s : Size) (r : ℕ) → Sides s → r ≤ maxRadius → lt (diagonalOf s) far ≡ false → r ≡ min r (toUnsigned 64 (diagonalOf s))
 diagonal-far s r p k e =
     ⊎-elim
     (λ l. omega (arith, toUnsigned-le 64 far (diagonalOf s) l, far-cut))
     (λ l. absurd (false≢true (sym e ∙ l)))
     (le-or-lt-float far (diagonalOf s) far-number (le-number nil (diagonalOf s) (diagonal-nonneg s p) .1))
+
+-- ---- the radius, of what the calls gave
+
+pub diagonal-is : (s : Size) (x y d : Float) → x ≡ float (s .width) → y ≡ float (s .height) → d ≡ rootOf (x ⊗ x ⊕ y ⊗ y) → d ≡ diagonalOf s
+unfolding diagonalOf
+diagonal-is s x y d ex ey ed = rw (ed, ex, ey) refl
+
+-- k is the diagonal and r the reach: the smaller one is the radius
+pub radius-cut : (s : Size) (scale d : Float) (k r : ℕ) → k ≡ toUnsigned 64 d → d ≡ diagonalOf s → (r ≡ reachOf scale) × (r ≤ maxRadius) → k < r → (k ≡ radiusOf s scale) × (k ≤ maxRadius)
+unfolding radiusOf
+radius-cut s scale d k r ek ed er less = (rw (← er .0, ← ed, ← ek) (omega (arith, less)), omega (arith, less, er .1))
+
+pub radius-reach : (s : Size) (scale d : Float) (k r : ℕ) → k ≡ toUnsigned 64 d → d ≡ diagonalOf s → (r ≡ reachOf scale) × (r ≤ maxRadius) → r ≤ k → (r ≡ radiusOf s scale) × (r ≤ maxRadius)
+unfolding radiusOf
+radius-reach s scale d k r ek ed er less = (rw (← er .0, ← ed, ← ek) (omega (arith, less)), er .1)
+
+pub radius-far : (s : Size) (scale d : Float) (r : ℕ) → Sides s → lt d far ≡ false → d ≡ diagonalOf s → (r ≡ reachOf scale) × (r ≤ maxRadius) → (r ≡ radiusOf s scale) × (r ≤ maxRadius)
+unfolding radiusOf
+radius-far s scale d r p e ed er = (rw (← er .0) (diagonal-far s r p (er .1) (rw ed at e)), er .1)

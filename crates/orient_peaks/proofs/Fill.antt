@@ -72,13 +72,17 @@ each-one f (suc n) =
     rw (← add-one n) z
 
 -- the largest of one bin more
-pub largest-more : (h : List Float) (i : ℕ) → 1 ≤ i → largestTo h (i + 1 - 1) ≡ largerOf (largestTo h (i - 1)) (getD h i nan)
+largest-more : (h : List Float) (i : ℕ) → 1 ≤ i → largestTo h (i + 1 - 1) ≡ largerOf (largestTo h (i - 1)) (getD h i nan)
 unfolding largestTo
 largest-more h zero l = absurd (omega arith)
 largest-more h (suc n) l =
     let z : suc n + 1 - 1 ≡ suc n = omega arith in
     let y : suc n - 1 ≡ n = omega arith in
     rw (z, y)
+
+-- a turn of the search for the largest
+pub largest-next : (h : List Float) (i : ℕ) (top x : Float) → 1 ≤ i → top ≡ largestTo h (i - 1) → x ≡ largerOf top (getD h i nan) → x ≡ largestTo h (i + 1 - 1)
+largest-next h i top x l et ex = rw (ex, et) (sym (largest-more h i l))
 
 -- filled to the end, by one value each
 pub filled-all : {A : Type 0} (f : ℕ → A) (N : ℕ) {n count : ℕ} {d now : List A} → Filled (λ k. f k ∷ []) n d now count → n ≡ N → length d ≡ N → now ≡ joined 0 N (λ k. f k ∷ [])

@@ -1,6 +1,6 @@
 -- The span of a window's rows or columns, and that the window fits the picture. Assumes nothing.
 use Prim.Native.Nat.{ℕ, suc, _+_, _-_, _*_, _<_, _≤_, max}
-use mathlib.Core.Path.{_≡_}
+use mathlib.Core.Path.{_≡_, refl}
 use mathlib.Core.Bool.{true}
 use native.Mathlib.Omega.{arith}
 use lib.Ieee.{Float}
@@ -8,7 +8,8 @@ use Rattle.params.specs.Limits.{maxSide, scaleLow, scaleHigh}
 use Rattle.params.specs.Table.{within}
 use Rattle.picture.specs.Picture.{firstIn, pastIn}
 use Rattle.picture.specs.declared.Size.{Size}
-use Rattle.orient_window.specs.Window.{radiusOf, windowOf}
+use Rattle.orient_window.specs.Window.{radiusOf, falloffOf, windowOf}
+use Rattle.orient_window.specs.declared.Window.{Window}
 use Rattle.orient_window.specs.Place.{maxReach, Fits}
 use Rattle.orient_window.proofs.Radius.{radius-cuts}
 
@@ -45,3 +46,10 @@ window-fits len s row col scale l h w r c k =
       before = omega (arith, x .back);
       after = omega (arith, x .forth);
     }
+
+-- the window of what the calls gave: the radius, the first row and column, one past the last of each, and how many there are
+pub window-is : (s : Size) (row col : ℕ) (scale : Float) (radius top left down right rows cols : ℕ) (f : Float)
+    → radius ≡ radiusOf scale → top ≡ firstIn row radius → left ≡ firstIn col radius → down ≡ pastIn row radius (s .height) → rows ≡ down - top → right ≡ pastIn col radius (s .width) → cols ≡ right - left → f ≡ falloffOf scale
+    → _≡_ {A = Window} (record { size = s; row = row; col = col; top = top; left = left; rows = rows; cols = cols; falloff = f }) (windowOf s row col scale)
+unfolding windowOf
+window-is s row col scale radius top left down right rows cols f er et el ed em ep en ef = rw (em, en, ed, ep, et, el, er, ef) refl

@@ -8,6 +8,7 @@ use native.Mathlib.Omega.{arith}
 use lib.ListN.{length, take, set, getD, length-append, length-set, length-take}
 use lib.Seq.{take-suc}
 use lib.Ieee.{Float}
+use Rattle.ieee.specs.F32.{bitsOf}
 use Rattle.lists.specs.Pasted.{pasted}
 use Rattle.lists.proofs.Pasted.{pasted-none, pasted-one, pasted-cons, pasted-append, length-pasted}
 use Rattle.detect_keypoint.specs.declared.RawKeypoint.{RawKeypoint}
@@ -15,7 +16,7 @@ use Rattle.orient_words.specs.Oriented.{orientedOf, orientedWords, words
 use Rattle.orient_words.specs.declared.OrientedKeypoint.{OrientedKeypoint}
 
 -- six stores in a row
-pub six : (l : List ℕ) (i a b c d e f : ℕ) → i + orientedWords ≤ length l
+six : (l : List ℕ) (i a b c d e f : ℕ) → i + orientedWords ≤ length l
     → set (set (set (set (set (set l i a) (i + 1) b) (i + 1 + 1) c) (i + 1 + 1 + 1) d) (i + 1 + 1 + 1 + 1) e) (i + 1 + 1 + 1 + 1 + 1) f ≡ pasted i (a ∷ b ∷ c ∷ d ∷ e ∷ f ∷ []) l
 six l i a b c d e f h =
     let l1 = set l i a in
@@ -34,6 +35,11 @@ six l i a b c d e f h =
     ∙ pasted-cons (i + 1 + 1 + 1) d (e ∷ f ∷ []) l3 (omega arith)
     ∙ pasted-cons (i + 1 + 1 + 1 + 1) e (f ∷ []) l4 (omega arith)
     ∙ pasted-one (i + 1 + 1 + 1 + 1 + 1) f l5 (omega arith))
+
+-- the words of a keypoint, by the digits that the calls gave
+pub six-words : (l : List ℕ) (i : ℕ) (o : OrientedKeypoint) (a b c d f : ℕ) → a ≡ bitsOf (o .x) → b ≡ bitsOf (o .y) → c ≡ bitsOf (o .size) → d ≡ bitsOf (o .response) → f ≡ bitsOf (o .angle) → i + orientedWords ≤ length l
+    → set (set (set (set (set (set l i a) (i + 1) b) (i + 1 + 1) c) (i + 1 + 1 + 1) d) (i + 1 + 1 + 1 + 1) (o .octave)) (i + 1 + 1 + 1 + 1 + 1) f ≡ pasted i (wordsOf o) l
+six-words l i o a b c d f ea eb ec ed ef h = rw (← ea, ← eb, ← ec, ← ed, ← ef) (six l i a b c d (o .octave) f h)
 
 words-append : (a b : List OrientedKeypoint) → words (a ++ b) ≡ words a ++ words b
 unfolding words

@@ -42,9 +42,10 @@ use Rattle.descriptor_words.specs.Words.{turnAt}
 use Rattle.descriptor_words.specs.declared.Spot.{Spot}
 use Rattle.descriptor.specs.Place.{onSide, spotWrong, turnWrong}
 use Rattle.descriptor.specs.Entry.{faultOf}
-use Rattle.descriptor.specs.Rules.{Inside, spotOf}
+use Rattle.descriptor.specs.Rules.{Inside}
 use Rattle.descriptor.proofs.Checks.{fault-sample, fault-none}
 use Rattle.descriptor.proofs.Rules.{descriptor-rule}
+use Rattle.road.specs.Road.{spotOf}
 use Rattle.road.specs.Rules.{sixUnless}
 use Rattle.road.proofs.Oriented.{sides-right}
 use Rattle.road.proofs.Position.{position-finite, position-on}
@@ -121,7 +122,7 @@ module _ (img : List Float) (z : Size) (octave : ℕ) (s : Settings) (k : RawKey
     above : (x : Float) → lt nought x ≡ true → lt nil x ≡ true
     above x p = subst (λ (z : Float). lt z x ≡ true) (zero-is binary32) p
 
-    inside : Inside z inputs
+    inside : Inside z (spotOf inputs)
     inside = record {
       x-ends = ap finite x-is ∙ position-finite (k .cc) octave (z .width) (k .x) (good .left) (good .right) wide low (good .x-near) (good .x-number .ends) (above (k .x) (good .x-above));
       y-ends = ap finite y-is ∙ position-finite (k .rr) octave (z .height) (k .y) (good .top) (good .bottom) high low (good .y-near) (good .y-number .ends) (above (k .y) (good .y-above));
@@ -140,7 +141,7 @@ module _ (img : List Float) (z : Size) (octave : ℕ) (s : Settings) (k : RawKey
     describe-answers whole = go (allGood reads) refl
       where
         apart : (spotWrong z spot ≡ false) × (turnWrong spot ≡ false)
-        apart = or-neither (spotWrong z spot) (turnWrong spot) (descriptor-rule .accepted z octave given taken inside)
+        apart = or-neither (spotWrong z spot) (turnWrong spot) (descriptor-rule .accepted z spot inside (taken .scale) (taken .angle))
 
         go : (b : Bool) → allGood reads ≡ b → faultOf img z spot ≡ sixUnless b
         go true e = sym (fault-none z spot img (sides-right (z .width) (z .height) octave s k wide high good) whole (apart .0) (apart .1) e)

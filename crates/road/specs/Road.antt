@@ -20,7 +20,6 @@ use Rattle.descriptor_inputs.specs.declared.Inputs.{Inputs}
 use Rattle.descriptor_run.specs.Cells.{readsOf}
 use Rattle.descriptor_words.specs.Words.{turnAt, valuesAt}
 use Rattle.descriptor_words.specs.declared.Spot.{Spot}
-use Rattle.descriptor.specs.Rules.{spotOf}
 use Rattle.descriptor.specs.Entry as Descriptor
 use Rattle.road.specs.Record.{recordOf}
 
@@ -54,6 +53,10 @@ turnFault img q k = orientFault img (sizeIn q) k
 
 abbrev pub directionsOf : List Float → Octave → RawKeypoint → List OrientedKeypoint
 directionsOf img q k = orientedList img (sizeIn q) k
+
+-- the inputs that an oriented keypoint gives, as the descriptor takes them
+abbrev pub spotOf : Inputs → Spot
+spotOf i = record { x = i .x; y = i .y; scale = i .scale; angle = i .angle }
 
 -- the descriptor of a direction: what it is asked with, its number, what it reads, and the 128 values
 abbrev pub inputsFor : Octave → OrientedKeypoint → Inputs

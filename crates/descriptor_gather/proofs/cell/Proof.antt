@@ -1,7 +1,7 @@
 use mathlib.Core.Path.{_≡_, sym, _∙_}
 use mathlib.Core.Bool.{true, false}
 use Rattle.descriptor_patch.specs.Patch.{rotsOf, gridAt, sampleAt}
-use Rattle.descriptor_grid.proofs.Spots.{grid-near}
+use Rattle.descriptor_shares.proofs.Spots.{grid-near}
 use Rattle.descriptor_gather.specs.Gather.{sampleIn}
 use Rattle.descriptor_gather.proofs.Adds.{holds-used, holds-unused}
 use Rattle.descriptor_gather.proofs.Cells.{Tested, grid-above, grid-beside, grid-in, settled}
@@ -11,7 +11,7 @@ use Rattle.descriptor_gather.proofs.cell.Tie as tie
 use Rattle.descriptor_gather.proofs.cell.Reads as reads
 use Rattle.descriptor_gather.proofs.cell.Lts as lts
 use Rattle.descriptor_grid.proofs.add.Reads as add-reads
-use Rattle.descriptor_grid.proofs.split_of.Reads as split-of-reads
+use Rattle.descriptor_shares.proofs.split_of.Reads as split-of-reads
 use Rattle.descriptor_patch.proofs.bin_of.Reads as bin-of-reads
 use Rattle.descriptor_patch.proofs.in_grid.Reads as in-grid-reads
 use Rattle.descriptor_patch.proofs.rot_col.Reads as rot-col-reads

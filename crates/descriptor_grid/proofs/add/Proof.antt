@@ -5,7 +5,7 @@ use Rattle.descriptor_grid.proofs.add.Tie as tie
 use Rattle.descriptor_grid.proofs.add.Reads as reads
 use Rattle.descriptor_grid.proofs.add.Lts as lts
 use Rattle.descriptor_grid.proofs.scatter.Reads as scatter-reads
-use Rattle.descriptor_grid.proofs.spot_of.Reads as spot-of-reads
+use Rattle.descriptor_shares.proofs.spot_of.Reads as spot-of-reads
 
 spot-of-requires : tie.Need-spot-of-requires
 spot-of-requires c κs = search needs

@@ -1,9 +1,5 @@
-use Prim.Native.Nat.{_≤_, _<_, min}
-use mathlib.Core.Path.{_≡_, sym, _∙_}
 use native.Mathlib.Omega.{arith}
-use lib.Ieee.{toUnsigned}
-use Rattle.descriptor_patch.specs.Patch.{reachOf, diagonalOf, radiusOf}
-use Rattle.descriptor_patch.proofs.Reach.{diagonal-cuts, diagonal-far}
+use Rattle.descriptor_patch.proofs.Reach.{diagonal-is, diagonal-cuts, radius-cut, radius-reach, radius-far}
 use borrow.Author.Needs.{needs}
 use Rattle.descriptor_patch.proofs.radius_of.Statement.{statement}
 use Rattle.descriptor_patch.proofs.radius_of.Tie as tie
@@ -27,36 +23,33 @@ sqrt-requires : tie.Need-sqrt-requires
 sqrt-requires c κs = search needs
 
 truncating-f32-to-u64-requires : tie.Need-truncating-f32-to-u64-requires
-unfolding diagonalOf
 truncating-f32-to-u64-requires c κs =
-    let a = c .before .before .before .before .before .args in
-    let e : c .before .sqrt .result ≡ diagonalOf (a .s) = cc in
-    let k = diagonal-cuts (a .s) (c .before .before .before .before .before .pre .0) (rw e at (c .if1 .taken)) in
+    let b = c .before .before .before in
+    let s = b .before .before .args .s in
+    let e = diagonal-is s _ _ _ (b .float .ensures) (c .before .before .float2 .ensures) (c .before .sqrt .ensures .0) in
+    let k = diagonal-cuts s (b .before .before .pre .0) (rw e at (c .if1 .taken)) in
     rw e (k .above, k .below)
 
 returns : tie.Need-returns
-unfolding radiusOf diagonalOf
 returns c =
-    let a = c .before .before .before .before .before .before .before .args in
-    let e : c .before .truncating-f32-to-u64 .result ≡ toUnsigned 64 (diagonalOf (a .s)) = cc in
-    let r = c .before .before .before .before .before .before .reach-of .ensures in
-    (rw (← r .0, ← e) (omega arith), omega arith)
+    let b = c .before .before .before .before .before in
+    let a = b .before .before .args in
+    let e = diagonal-is (a .s) _ _ _ (b .float .ensures) (c .before .before .before .before .float2 .ensures) (c .before .before .before .sqrt .ensures .0) in
+    radius-cut (a .s) (a .scale) _ _ _ (c .before .truncating-f32-to-u64 .ensures) e (b .before .reach-of .ensures) (omega (arith, c .if2 .taken))
 
 returns-2 : tie.Need-returns-2
-unfolding radiusOf diagonalOf
 returns-2 c =
-    let a = c .before .before .before .before .before .before .before .args in
-    let e : c .before .truncating-f32-to-u64 .result ≡ toUnsigned 64 (diagonalOf (a .s)) = cc in
-    let r = c .before .before .before .before .before .before .reach-of .ensures in
-    (rw (← r .0, ← e) (omega arith), r .1)
+    let b = c .before .before .before .before .before in
+    let a = b .before .before .args in
+    let e = diagonal-is (a .s) _ _ _ (b .float .ensures) (c .before .before .before .before .float2 .ensures) (c .before .before .before .sqrt .ensures .0) in
+    radius-reach (a .s) (a .scale) _ _ _ (c .before .truncating-f32-to-u64 .ensures) e (b .before .reach-of .ensures) (omega (arith, c .if2 .left))
 
 returns-3 : tie.Need-returns-3
-unfolding radiusOf diagonalOf
 returns-3 c =
-    let a = c .before .before .before .before .before .args in
-    let e : c .before .sqrt .result ≡ diagonalOf (a .s) = cc in
-    let r = c .before .before .before .before .reach-of .ensures in
-    (rw (← r .0) (diagonal-far (a .s) _ (c .before .before .before .before .before .pre .0) (r .1) (rw e at (c .if1 .left))), r .1)
+    let b = c .before .before .before in
+    let a = b .before .before .args in
+    let e = diagonal-is (a .s) _ _ _ (b .float .ensures) (c .before .before .float2 .ensures) (c .before .sqrt .ensures .0) in
+    radius-far (a .s) (a .scale) _ _ (b .before .before .pre .0) (c .if1 .left) e (b .before .reach-of .ensures)
 
 pub radius-of-spec : {M : Type 1} → statement M
 radius-of-spec =

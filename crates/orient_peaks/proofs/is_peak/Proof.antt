@@ -1,4 +1,4 @@
-use Rattle.orient_peaks.specs.Peaks.{isPeak}
+use Rattle.orient_peaks.proofs.Steps.{peak-is}
 use borrow.Author.Needs.{needs}
 use Rattle.orient_peaks.proofs.is_peak.Statement.{statement}
 use Rattle.orient_peaks.proofs.is_peak.Tie as tie
@@ -25,8 +25,11 @@ bin-around-requires-3 : tie.Need-bin-around-requires-3
 bin-around-requires-3 c κs = search needs
 
 returns : tie.Need-returns
-unfolding isPeak
-returns c = cc
+returns c =
+    let l = c .before in
+    let m = l .before in
+    let a = m .before .args in
+    peak-is (a .h .now) (a .least) (a .j) _ _ _ (m .bin-around .ensures) (l .bin-around2 .ensures) (c .bin-around3 .ensures)
 
 pub is-peak-spec : {M : Type 1} → statement M
 is-peak-spec =

@@ -4,7 +4,7 @@ use native.Mathlib.Omega.{arith}
 use borrow.Author.Needs.{needs}
 use Rattle.orient_tally.specs.Sample.{bins}
 use Rattle.orient_peaks.specs.Peaks.{largestTo, leastOf}
-use Rattle.orient_peaks.proofs.Fill.{largest-more}
+use Rattle.orient_peaks.proofs.Fill.{largest-next}
 use Rattle.orient_peaks.proofs.least_of.Statement.{statement}
 use Rattle.orient_peaks.proofs.least_of.Tie as tie
 use Rattle.orient_peaks.proofs.least_of.Reads as reads
@@ -42,7 +42,8 @@ loop-less c = omega arith
 loop-again : tie.Need-loop-again Inv-loop μ-loop
 loop-again c =
     let l = c .before .before .before .loop in
-    (omega arith, (omega arith, cc (largest-more (c .before .before .before .before .before .args .h .now) (l .i) (omega arith))))
+    let b = c .before .before .before .before .before in
+    (omega arith, (omega arith, largest-next (b .args .h .now) (l .i) (l .top) (c .larger .result) (l .inv .0) (l .inv .1 .1) (c .larger .ensures)))
 
 returns : tie.Need-returns Inv-loop μ-loop
 unfolding leastOf

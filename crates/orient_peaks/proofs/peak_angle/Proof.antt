@@ -1,4 +1,4 @@
-use Rattle.orient_peaks.specs.Peaks.{peakAngle, degreesOf}
+use Rattle.orient_peaks.proofs.Steps.{angle-is}
 use borrow.Author.Needs.{needs}
 use Rattle.orient_peaks.proofs.peak_angle.Statement.{statement}
 use Rattle.orient_peaks.proofs.peak_angle.Tie as tie
@@ -41,8 +41,14 @@ closed-at-requires : tie.Need-closed-at-requires
 closed-at-requires c κs = search needs
 
 returns : tie.Need-returns
-unfolding peakAngle degreesOf
-returns c = cc
+returns c =
+    let b = c .before .before .before in
+    let r = b .before in
+    let m = r .before in
+    let l = m .before in
+    let a = l .before .args in
+    angle-is (a .h .now) (a .j) _ _ _ _ _ _ _ (l .bin-around .ensures) (m .bin-around2 .ensures) (r .bin-around3 .ensures)
+    (b .crest .ensures) (c .before .before .back-in .ensures) (c .before .mul-add .ensures .0) (c .closed-at .ensures)
 
 pub peak-angle-spec : {M : Type 1} → statement M
 peak-angle-spec =

@@ -1,4 +1,4 @@
-use Rattle.orient_peaks.specs.Peaks.{smoothAt}
+use Rattle.orient_peaks.proofs.Steps.{smooth-is}
 use borrow.Author.Needs.{needs}
 use Rattle.orient_peaks.proofs.smooth_at.Statement.{statement}
 use Rattle.orient_peaks.proofs.smooth_at.Tie as tie
@@ -47,8 +47,15 @@ add-part-requires-2 : tie.Need-add-part-requires-2
 add-part-requires-2 c κs = search needs
 
 returns : tie.Need-returns
-unfolding smoothAt
-returns c = cc
+returns c =
+    let m = c .before .before in
+    let r = m .before in
+    let l = r .before in
+    let q = l .before in
+    let p = q .before in
+    let a = p .before .args in
+    smooth-is (a .b .now) (a .i) _ _ _ _ _ _ _ (p .bin-around .ensures) (q .bin-around2 .ensures) (l .bin-around3 .ensures) (r .bin-around4 .ensures) (m .bin-around5 .ensures)
+    (c .before .add-part .ensures) (c .add-part2 .ensures)
 
 pub smooth-at-spec : {M : Type 1} → statement M
 smooth-at-spec =

@@ -1,4 +1,4 @@
-use Rattle.orient_window.specs.Window.{windowOf}
+use Rattle.orient_window.proofs.Spans.{window-is}
 use borrow.Author.Needs.{needs}
 use Rattle.orient_window.proofs.window_of.Statement.{statement}
 use Rattle.orient_window.proofs.window_of.Tie as tie
@@ -35,8 +35,16 @@ falloff-requires : tie.Need-falloff-requires
 falloff-requires c κs = search needs
 
 returns : tie.Need-returns
-unfolding windowOf
-returns c = cc
+returns c =
+    let n = c .before in
+    let p = n .before in
+    let m = p .before in
+    let d = m .before in
+    let l = d .before in
+    let t = l .before in
+    let r = t .before in
+    let a = r .before .args in
+    window-is (a .s) (a .row) (a .col) (a .scale) _ _ _ _ _ _ _ _ (r .radius-of .ensures .0) (t .first-in .ensures) (l .first-in2 .ensures) (d .past-in .ensures) (m .count .ensures) (p .past-in2 .ensures) (n .count2 .ensures) (c .falloff .ensures)
 
 pub window-of-spec : {M : Type 1} → statement M
 window-of-spec =

@@ -1,6 +1,6 @@
 use native.Mathlib.Omega.{arith}
 use lib.ListN.{length-set}
-use Rattle.orient_words.proofs.Words.{six}
+use Rattle.orient_words.proofs.Words.{six-words}
 use borrow.Author.Needs.{needs}
 use Rattle.orient_words.proofs.put.Statement.{statement}
 use Rattle.orient_words.proofs.put.Tie as tie
@@ -27,7 +27,7 @@ mul-out-2 : tie.Need-mul-out-2
 mul-out-2 c = search needs
 
 slice-write-out-2 : tie.Need-slice-write-out-2
-slice-write-out-2 c = simp length-set (omega arith)
+slice-write-out-2 c = simp length-set (omega (arith, c .before .before .before .pre))
 
 add-size : tie.Need-add-size
 add-size c = search needs
@@ -39,7 +39,7 @@ mul-out-3 : tie.Need-mul-out-3
 mul-out-3 c = search needs
 
 slice-write-out-3 : tie.Need-slice-write-out-3
-slice-write-out-3 c = simp length-set (omega arith)
+slice-write-out-3 c = simp length-set (omega (arith, c .before .before .before .before .pre))
 
 add-response : tie.Need-add-response
 add-response c = search needs
@@ -51,7 +51,7 @@ mul-out-4 : tie.Need-mul-out-4
 mul-out-4 c = search needs
 
 slice-write-out-4 : tie.Need-slice-write-out-4
-slice-write-out-4 c = simp length-set (omega arith)
+slice-write-out-4 c = simp length-set (omega (arith, c .before .before .before .before .before .pre))
 
 add-octave : tie.Need-add-octave
 add-octave c = search needs
@@ -60,7 +60,7 @@ mul-out-5 : tie.Need-mul-out-5
 mul-out-5 c = search needs
 
 slice-write-out-5 : tie.Need-slice-write-out-5
-slice-write-out-5 c = simp length-set (omega arith)
+slice-write-out-5 c = simp length-set (omega (arith, c .before .before .before .before .before .pre))
 
 add-angle : tie.Need-add-angle
 add-angle c = search needs
@@ -72,7 +72,7 @@ mul-out-6 : tie.Need-mul-out-6
 mul-out-6 c = search needs
 
 slice-write-out-6 : tie.Need-slice-write-out-6
-slice-write-out-6 c = simp length-set (omega arith)
+slice-write-out-6 c = simp length-set (omega (arith, c .before .before .before .before .before .before .pre))
 
 same-length : tie.Need-same-length
 same-length c = search needs
@@ -80,8 +80,8 @@ same-length c = search needs
 returns : tie.Need-returns
 returns c =
     let a = c .before .before .before .before .before .before .args in
-    rw (c .bits-of5 .ensures, c .before .bits-of4 .ensures, c .before .before .bits-of3 .ensures, c .before .before .before .bits-of2 .ensures, c .before .before .before .before .bits-of .ensures)
-    (six (a .out .now) (a .at) _ _ _ _ _ _ (c .before .before .before .before .before .before .pre))
+    six-words (a .out .now) (a .at) (a .o) _ _ _ _ _ (c .before .before .before .before .bits-of .ensures) (c .before .before .before .bits-of2 .ensures) (c .before .before .bits-of3 .ensures) (c .before .bits-of4 .ensures) (c .bits-of5 .ensures)
+    (c .before .before .before .before .before .before .pre)
 
 pub put-spec : {M : Type 1} → statement M
 put-spec =

@@ -21,14 +21,14 @@ use Rattle.hal_magnitude.specs.Magnitude.{magnitudeOf}
 use Rattle.hal_angle.proofs.Rules.{angle-rule}
 use Rattle.descriptor_patch.specs.Patch.{inGrid}
 use Rattle.descriptor_patch.specs.declared.Sample.{Sample}
-use Rattle.descriptor_grid.specs.Grid.{binsPerDegree, sharesOf, spotOf}
-use Rattle.descriptor_grid.specs.Reach.{Near, Lands, splitOf, Settled, Inside}
-use Rattle.descriptor_grid.specs.declared.Spot.{Spot}
-use Rattle.descriptor_grid.specs.declared.Shares.{Shares}
-use Rattle.descriptor_grid.specs.declared.Split.{Split}
-use Rattle.descriptor_grid.specs.declared.Landed.{Landed}
-use Rattle.descriptor_grid.proofs.Steps.{lowered, first, step}
-use Rattle.descriptor_grid.proofs.Floors.{signed-le, finite-number, Floored, Found, floored-of, split-at}
+use Rattle.descriptor_shares.specs.Sharing.{binsPerDegree, sharesOf, spotOf}
+use Rattle.descriptor_shares.specs.Reach.{Near, Lands, splitOf, Settled, Inside}
+use Rattle.descriptor_shares.specs.declared.Spot.{Spot}
+use Rattle.descriptor_shares.specs.declared.Shares.{Shares}
+use Rattle.descriptor_shares.specs.declared.Split.{Split}
+use Rattle.descriptor_shares.specs.declared.Landed.{Landed}
+use Rattle.descriptor_shares.proofs.Steps.{lowered, first, step}
+use Rattle.descriptor_shares.proofs.Floors.{signed-le, finite-number, Floored, Found, floored-of, split-at}
 
 -- ---- rows and columns
 

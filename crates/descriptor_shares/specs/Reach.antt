@@ -13,10 +13,10 @@ use Rattle.hal_reach.specs.Reach.{inAngle}
 use Rattle.hal.specs.Exp.{inDown}
 use Rattle.descriptor_patch.specs.Patch.{inGrid}
 use Rattle.descriptor_patch.specs.declared.Sample.{Sample}
-use Rattle.descriptor_grid.specs.Grid.{floorI}
-use Rattle.descriptor_grid.specs.declared.Spot.{Spot}
-use Rattle.descriptor_grid.specs.declared.Split.{Split}
-use Rattle.descriptor_grid.specs.declared.Landed.{Landed}
+use Rattle.descriptor_shares.specs.Sharing.{floorI}
+use Rattle.descriptor_shares.specs.declared.Spot.{Spot}
+use Rattle.descriptor_shares.specs.declared.Split.{Split}
+use Rattle.descriptor_shares.specs.declared.Landed.{Landed}
 
 -- v lies in -8 to 8
 pub record Near (v : Float) : Type 0 where

@@ -19,10 +19,10 @@ use Rattle.ieee.specs.Numbers.{nought, one}
 use Rattle.ieee_laws.proofs.Order.{le-fin, lt-le, le-number, lt-not-le, le-or-lt-float}
 use Rattle.ieee_laws.proofs.Monotone.{add-le, toUnsigned-le}
 use Rattle.ieee_laws.proofs.Bounds.{Bounds, bounds-point, bounds-finite, add-bounds}
-use Rattle.descriptor_grid.specs.Grid.{floorI}
-use Rattle.descriptor_grid.specs.Reach.{Near, base, splitOf}
-use Rattle.descriptor_grid.specs.declared.Split.{Split}
-use Rattle.descriptor_grid.proofs.Steps.{lowered, start, first, raised, Step, step}
+use Rattle.descriptor_shares.specs.Sharing.{floorI}
+use Rattle.descriptor_shares.specs.Reach.{Near, base, splitOf}
+use Rattle.descriptor_shares.specs.declared.Split.{Split}
+use Rattle.descriptor_shares.proofs.Steps.{lowered, start, first, raised, Step, step}
 
 -- the whole number at or below v is k - 8
 pub record Floored (v : Float) (k : ℕ) : Type 0 where

@@ -1,13 +1,13 @@
 use mathlib.Core.Path.{sym, _∙_, subst}
-use Rattle.descriptor_grid.specs.Reach.{Inside}
-use Rattle.descriptor_grid.proofs.Spots.{turn-near, row-fits, col-fits, spot-split, spot-inside}
+use Rattle.descriptor_shares.specs.Reach.{Inside}
+use Rattle.descriptor_shares.proofs.Spots.{turn-near, row-fits, col-fits, spot-split, spot-inside}
 use borrow.Author.Needs.{needs}
-use Rattle.descriptor_grid.proofs.spot_of.Statement.{statement}
-use Rattle.descriptor_grid.proofs.spot_of.Tie as tie
-use Rattle.descriptor_grid.proofs.spot_of.Reads as reads
-use Rattle.descriptor_grid.proofs.spot_of.Lts as lts
-use Rattle.descriptor_grid.proofs.shares_of.Reads as shares-of-reads
-use Rattle.descriptor_grid.proofs.split_of.Reads as split-of-reads
+use Rattle.descriptor_shares.proofs.spot_of.Statement.{statement}
+use Rattle.descriptor_shares.proofs.spot_of.Tie as tie
+use Rattle.descriptor_shares.proofs.spot_of.Reads as reads
+use Rattle.descriptor_shares.proofs.spot_of.Lts as lts
+use Rattle.descriptor_shares.proofs.shares_of.Reads as shares-of-reads
+use Rattle.descriptor_shares.proofs.split_of.Reads as split-of-reads
 use Rattle.hal_angle.proofs.angle_in.Reads as angle-in-reads
 use Rattle.hal.proofs.exp_in.Reads as exp-in-reads
 use Rattle.hal_magnitude.proofs.magnitude_in.Reads as magnitude-in-reads

@@ -8,8 +8,8 @@ use lib.Ieee.{binary32, ofBits, ofInt, add, sub, toBits, toSigned, toUnsigned, i
 use lib.Ieee.Scale.{finite}
 use Rattle.ieee.specs.F32.{_⊕_, _⊖_, toI32, float, floatZ, bitsOf}
 use Rattle.ieee.specs.Numbers.{nought, one}
-use Rattle.descriptor_grid.specs.Grid.{slotOf, fromBorder}
-use Rattle.descriptor_grid.specs.Reach.{base}
+use Rattle.descriptor_shares.specs.Sharing.{slotOf, fromBorder}
+use Rattle.descriptor_shares.specs.Reach.{base}
 
 -- whole numbers are counted from -8
 abbrev pub lowered : ℕ → ℤ

@@ -1,9 +1,9 @@
 use mathlib.Core.Logic.{⊎-elim}
-use Rattle.descriptor_grid.proofs.Floors.{Parted, parted-up, parted-down, split-parted, split-number}
-use Rattle.descriptor_grid.proofs.split_of.Statement.{statement}
-use Rattle.descriptor_grid.proofs.split_of.Tie as tie
-use Rattle.descriptor_grid.proofs.split_of.Reads as reads
-use Rattle.descriptor_grid.proofs.split_of.Lts as lts
+use Rattle.descriptor_shares.proofs.Floors.{Parted, parted-up, parted-down, split-parted, split-number}
+use Rattle.descriptor_shares.proofs.split_of.Statement.{statement}
+use Rattle.descriptor_shares.proofs.split_of.Tie as tie
+use Rattle.descriptor_shares.proofs.split_of.Reads as reads
+use Rattle.descriptor_shares.proofs.split_of.Lts as lts
 
 parted-of : (c : tie.Joined1) → Parted (c .before .args .v) (c .if1 .one)
 parted-of c =

@@ -17,7 +17,8 @@ use Rattle.params.proofs.Bools.{or-neither, in-range}
 use Rattle.params.proofs.Accepted.{accepted}
 use Rattle.params.specs.Answers.{onFault}
 use Rattle.detect.specs.Entry.{faultOf}
-use Rattle.detect.specs.Room.{formFault, sampleFault}
+use Rattle.detect_room.specs.Room.{sampleFault}
+use Rattle.detect.specs.Form.{formFault}
 use Rattle.picture.specs.declared.Shape.{Shape}
 use Rattle.detect_refine.specs.Place.{Searched}
 use Rattle.detect_keypoint.specs.Search.{searchOf}

@@ -1,4 +1,4 @@
 pub mod Entry
-pub mod Room
+pub mod Form
 pub mod SignLaw
 pub mod Rules

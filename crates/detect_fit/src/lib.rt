@@ -4,7 +4,16 @@ use picture::Shape;
 ghost use mathlib.Core.Path.{_≡_};
 ghost use lib.ListN.{length};
 ghost use Rattle.detect_fit.specs.Fit.{patchOf, gradientOf, bendOf, mulSub, outer, detOf, offsetOf};
-ghost use Rattle.detect_fit.specs.Place.{Around};
+ghost use Rattle.detect_fit.specs.Place.{Amid, Around, nearOf};
+
+// A cell and its four nearest in its plane: left, right, up and down.
+pub struct Near {
+    pub m: f32,
+    pub l: f32,
+    pub r: f32,
+    pub u: f32,
+    pub d: f32,
+}
 
 // The nineteen samples that the fit reads: the middle plane's nine, and five of the plane before and of the plane after.
 pub struct Patch {
@@ -60,31 +69,48 @@ const DERIV: f32 = 0.001960784429684281;
 
 const CROSS: f32 = 0.0009803922148421407;
 
+// The sample at (p, r, c) and its four nearest in the plane.
+pub fn near_at(dog: &[f32], t: Shape, p: usize, r: usize, c: usize) -> Near
+    requires { ⌜ Amid (length (now dog)) t p r c ⌝ }
+    ensures { λ x. ⌜ x ≡ nearOf (now (dog .entry)) t p r c ⌝ }
+{
+    Near {
+        m: picture::at(dog, t, p, r, c),
+        l: picture::at(dog, t, p, r, c - 1),
+        r: picture::at(dog, t, p, r, c + 1),
+        u: picture::at(dog, t, p, r - 1, c),
+        d: picture::at(dog, t, p, r + 1, c),
+    }
+}
+
 // The samples about (p, r, c).
 pub fn patch_at(dog: &[f32], t: Shape, p: usize, r: usize, c: usize) -> Patch
     requires { ⌜ Around (length (now dog)) t p r c ⌝ }
     ensures { λ patch. ⌜ patch ≡ patchOf (now (dog .entry)) t p r c ⌝ }
 {
+    let i = near_at(dog, t, p, r, c);
+    let b = near_at(dog, t, p - 1, r, c);
+    let n = near_at(dog, t, p + 1, r, c);
     Patch {
-        im: picture::at(dog, t, p, r, c),
-        il: picture::at(dog, t, p, r, c - 1),
-        ir: picture::at(dog, t, p, r, c + 1),
-        iu: picture::at(dog, t, p, r - 1, c),
-        id: picture::at(dog, t, p, r + 1, c),
+        im: i.m,
+        il: i.l,
+        ir: i.r,
+        iu: i.u,
+        id: i.d,
         iul: picture::at(dog, t, p, r - 1, c - 1),
         iur: picture::at(dog, t, p, r - 1, c + 1),
         idl: picture::at(dog, t, p, r + 1, c - 1),
         idr: picture::at(dog, t, p, r + 1, c + 1),
-        pm: picture::at(dog, t, p - 1, r, c),
-        pl: picture::at(dog, t, p - 1, r, c - 1),
-        pr: picture::at(dog, t, p - 1, r, c + 1),
-        pu: picture::at(dog, t, p - 1, r - 1, c),
-        pd: picture::at(dog, t, p - 1, r + 1, c),
-        nm: picture::at(dog, t, p + 1, r, c),
-        nl: picture::at(dog, t, p + 1, r, c - 1),
-        nr: picture::at(dog, t, p + 1, r, c + 1),
-        nu: picture::at(dog, t, p + 1, r - 1, c),
-        nd: picture::at(dog, t, p + 1, r + 1, c),
+        pm: b.m,
+        pl: b.l,
+        pr: b.r,
+        pu: b.u,
+        pd: b.d,
+        nm: n.m,
+        nl: n.l,
+        nr: n.r,
+        nu: n.u,
+        nd: n.d,
     }
 }
 

@@ -8,6 +8,7 @@ use Rattle.ieee.specs.F32.{_<ᶠ_}
 use Rattle.lists.specs.Ranges.{every, joined}
 use Rattle.picture.specs.Stack.{sample}
 use Rattle.picture.specs.declared.Shape.{Shape}
+use Rattle.detect_fit.specs.declared.Near.{Near}
 use Rattle.detect_keypoint.specs.declared.Search.{Search}
 use Rattle.detect_extrema.specs.Neighbours.{tied, keepsAs, loud}
 
@@ -17,6 +18,10 @@ greaterOf a b = cond (a <ᶠ b) b a
 
 unfoldable pub lesserOf : Float → Float → Float
 lesserOf a b = cond (a <ᶠ b) a b
+
+-- what a selection leaves of the four nearest neighbours in the plane, one before and one after
+unfoldable pub ofSix : (Float → Float → Float) → Near → Float → Float → Float
+ofSix pick n before after = pick (pick (n .l) (n .r)) (pick (pick (n .u) (n .d)) (pick before after))
 
 -- what a selection leaves of the six nearest neighbours: left and right, above and below, in the plane before and after
 unfoldable pub ofNear : (Float → Float → Float) → List Float → Shape → ℕ → ℕ → ℕ → Float

@@ -9,8 +9,9 @@ ghost use Rattle.detect_fit.specs.Place.{Around};
 ghost use Rattle.detect_refine.specs.Place.{Searched, Placed};
 ghost use Rattle.detect_extrema.specs.Neighbours.{tied};
 ghost use Rattle.detect_extrema.specs.Scan.{kept, cellOf, found};
-ghost use Rattle.detect_look.specs.Hints.{greaterOf, lesserOf, hintAt, beyond, anyLoud, anyHint, looks, hinted};
+ghost use Rattle.detect_look.specs.Hints.{greaterOf, lesserOf, ofSix, hintAt, beyond, anyLoud, anyHint, looks, hinted};
 ghost use Rattle.detect_look.specs.Place.{group, Along};
+use detect_fit::Near;
 use detect_keypoint::Search;
 use detect_refine::Refined;
 use picture::Shape;
@@ -42,27 +43,37 @@ fn lesser(a: f32, b: f32) -> f32
     if a < b { a } else { b }
 }
 
+// The greatest of a cell's six nearest neighbours, and the least.
+fn greatest(n: Near, before: f32, after: f32) -> f32
+    ensures { λ x. ⌜ x ≡ ofSix greaterOf n before after ⌝ }
+{
+    greater(
+        greater(n.l, n.r),
+        greater(greater(n.u, n.d), greater(before, after)),
+    )
+}
+
+fn least(n: Near, before: f32, after: f32) -> f32
+    ensures { λ x. ⌜ x ≡ ofSix lesserOf n before after ⌝ }
+{
+    lesser(
+        lesser(n.l, n.r),
+        lesser(lesser(n.u, n.d), lesser(before, after)),
+    )
+}
+
 // A first look: whether the cell (p, r, c) is above the threshold and not beaten by the greatest of its six nearest neighbours, or below its negative and not beaten
 // by the least. Every candidate passes.
 fn may_be(dog: &[f32], t: Shape, threshold: f32, p: usize, r: usize, c: usize) -> bool
     requires { ⌜ Around (length (now dog)) t p r c ⌝ }
     ensures { λ x. ⌜ x ≡ hintAt threshold (now (dog .entry)) t p r c ⌝ }
 {
-    let v = picture::at(dog, t, p, r, c);
-    let left = picture::at(dog, t, p, r, c - 1);
-    let right = picture::at(dog, t, p, r, c + 1);
-    let above = picture::at(dog, t, p, r - 1, c);
-    let below = picture::at(dog, t, p, r + 1, c);
+    let near = detect_fit::near_at(dog, t, p, r, c);
     let before = picture::at(dog, t, p - 1, r, c);
     let after = picture::at(dog, t, p + 1, r, c);
-    let hi = greater(
-        greater(left, right),
-        greater(greater(above, below), greater(before, after)),
-    );
-    let lo = lesser(
-        lesser(left, right),
-        lesser(lesser(above, below), lesser(before, after)),
-    );
+    let v = near.m;
+    let hi = greatest(near, before, after);
+    let lo = least(near, before, after);
     ((v > threshold) & (v >= hi)) | ((v < -threshold) & (v <= lo))
 }
 

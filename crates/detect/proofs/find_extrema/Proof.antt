@@ -1,7 +1,8 @@
 use native.Mathlib.Omega.{arith}
 use borrow.Author.Needs.{needs}
 use Rattle.detect_extrema.proofs.Rows.{few-rows, few-columns}
-use Rattle.detect.proofs.Answers.{none, refused, accepted}
+use Rattle.detect_room.proofs.Room.{none}
+use Rattle.detect.proofs.Answers.{refused, accepted}
 use Rattle.detect.proofs.find_extrema.Statement.{statement}
 use Rattle.detect.proofs.find_extrema.Tie as tie
 

@@ -1,4 +1,5 @@
-use Rattle.detect_fit.specs.Fit.{detOf}
+use mathlib.Core.Path.{_∙_}
+use Rattle.detect_fit.specs.Fit.{detOf, outer}
 use borrow.Author.Needs.{needs}
 use Rattle.detect_fit.proofs.det_of.Statement.{statement}
 use Rattle.detect_fit.proofs.det_of.Tie as tie
@@ -21,7 +22,9 @@ outer3-requires c κs = search needs
 
 returns : tie.Need-returns
 unfolding detOf
-returns c = cc
+returns c =
+    let h = c .before .before .before .before .args .h in
+    c .outer3 .ensures ∙ (λ i. outer (h .xx) (c .before .before .before .mul-sub .ensures i) (h .xy) (c .before .before .mul-sub2 .ensures i) (h .xs) (c .before .mul-sub3 .ensures i))
 
 pub det-of-spec : {M : Type 1} → statement M
 det-of-spec =

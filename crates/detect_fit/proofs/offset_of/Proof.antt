@@ -1,4 +1,8 @@
-use Rattle.detect_fit.specs.Fit.{offsetOf}
+use mathlib.Core.Path.{_∙_}
+use lib.Ieee.{neg}
+use Rattle.ieee.specs.Numbers.{one}
+use Rattle.ieee.specs.F32.{_⊗_, _⊘_}
+use Rattle.detect_fit.specs.Fit.{offsetOf, outer}
 use borrow.Author.Needs.{needs}
 use Rattle.detect_fit.proofs.offset_of.Statement.{statement}
 use Rattle.detect_fit.proofs.offset_of.Tie as tie
@@ -37,7 +41,16 @@ outer3-requires-3 c κs = search needs
 returns : tie.Need-returns
 unfolding offsetOf
 returns c =
-    rw (c .outer33 .ensures, c .before .mul-sub6 .ensures, c .before .before .outer32 .ensures, c .before .before .before .mul-sub5 .ensures, c .before .before .before .before .outer3 .ensures, c .before .before .before .before .before .mul-sub4 .ensures, c .before .before .before .before .before .before .mul-sub3 .ensures, c .before .before .before .before .before .before .before .mul-sub2 .ensures, c .before .before .before .before .before .before .before .before .mul-sub .ensures)
+    let g = c .before .before .before .before .before .before .before .before .before .args .g in
+    let h = c .before .before .before .before .before .before .before .before .before .args .h in
+    let d = one ⊘ c .before .before .before .before .before .before .before .before .before .args .det in
+    let a = c .before .before .before .before .before .before .before .before .mul-sub .ensures in
+    let b = c .before .before .before .before .before .before .before .mul-sub2 .ensures in
+    let e = c .before .before .before .before .before .before .mul-sub3 .ensures in
+    let x0 = c .before .before .before .before .outer3 .ensures ∙ (λ i. outer (g .dx) (c .before .before .before .before .before .mul-sub4 .ensures i) (h .xy) (a i) (h .xs) (b i)) in
+    let x1 = c .before .before .outer32 .ensures ∙ (λ i. outer (h .xx) (a i) (g .dx) (c .before .before .before .mul-sub5 .ensures i) (h .xs) (e i)) in
+    let x2 = c .outer33 .ensures ∙ (λ i. outer (h .xx) (neg (b i)) (h .xy) (e i) (g .dx) (c .before .mul-sub6 .ensures i)) in
+    λ i. record { xi = neg (d ⊗ x2 i); xr = neg (d ⊗ x1 i); xc = neg (d ⊗ x0 i) }
 
 pub offset-of-spec : {M : Type 1} → statement M
 offset-of-spec =

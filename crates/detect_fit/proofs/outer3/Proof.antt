@@ -1,3 +1,5 @@
+use mathlib.Core.Path.{_∙_}
+use Rattle.ieee.specs.F32.{fused}
 use Rattle.detect_fit.specs.Fit.{outer}
 use borrow.Author.Needs.{needs}
 use Rattle.detect_fit.proofs.outer3.Statement.{statement}
@@ -14,7 +16,9 @@ mul-add-requires-2 c κs = search needs
 
 returns : tie.Need-returns
 unfolding outer
-returns c = cc
+returns c =
+    let a = c .before .before .args in
+    c .mul-add2 .ensures .0 ∙ (λ i. fused (a .r0) (a .r1) (c .before .mul-add .ensures .0 i))
 
 pub outer3-spec : {M : Type 1} → statement M
 outer3-spec = tie.close (tie.spec mul-add-requires mul-add-requires-2 returns)

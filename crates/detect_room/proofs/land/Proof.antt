@@ -7,11 +7,11 @@ use borrow.Author.Needs.{needs}
 use Rattle.params.specs.Limits.{border, maxSide}
 use Rattle.detect_extrema.specs.Neighbours.{tied}
 use Rattle.detect_extrema.specs.Scan.{keypoints}
-use Rattle.detect.proofs.Answers.{gave, lacked}
+use Rattle.detect_room.proofs.Room.{gave, lacked}
 use Rattle.detect_hold.proofs.Few.{keypoints-few}
 use Rattle.detect_hold.proofs.Parts.{hints-few, held-few, held-most, held-all}
-use Rattle.detect.proofs.land.Statement.{statement}
-use Rattle.detect.proofs.land.Tie as tie
+use Rattle.detect_room.proofs.land.Statement.{statement}
+use Rattle.detect_room.proofs.land.Tie as tie
 
 -- so few are held and have a hint that no sum of places wraps
 few : (c : tie.After-rest-hints) → (c .before .before .before .before .args .f .count ≤ maxSide * maxSide) × (c .rest-hints .result ≤ maxSide * maxSide)

@@ -9,11 +9,11 @@ use Rattle.params.specs.Limits.{border}
 use Rattle.detect_extrema.specs.Neighbours.{tied}
 use Rattle.detect_extrema.specs.Scan.{keypoints, keypointWords}
 use Rattle.detect_words.proofs.Words.{length-words}
-use Rattle.detect.proofs.Answers.{gave, bad, good}
+use Rattle.detect_room.proofs.Room.{gave, bad, good}
 use Rattle.detect_hold.proofs.Few.{few-cells, cells-few}
 use Rattle.detect_hold.proofs.Parts.{all-left}
-use Rattle.detect.proofs.search.Statement.{statement}
-use Rattle.detect.proofs.search.Tie as tie
+use Rattle.detect_room.proofs.search.Statement.{statement}
+use Rattle.detect_room.proofs.search.Tie as tie
 
 sub-if1 : tie.Need-sub-if1
 sub-if1 c = search needs

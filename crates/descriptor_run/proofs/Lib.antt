@@ -1,3 +1,4 @@
 pub mod Whole
 pub mod Runs
 pub mod Rules
+pub mod Steps

@@ -7,8 +7,11 @@ use native.Mathlib.Omega.{arith}
 use lib.ListN.{length, take, set}
 use lib.Seq.{take-suc-set, take-all}
 use lib.Ieee.{Float}
-use Rattle.ieee.specs.F32.{_⊕_, _⊗_, fused}
-use Rattle.descriptor_values.specs.Values.{at, lane, norm2, plainNorm}
+use Rattle.ieee.specs.F32.{_⊕_, _⊗_, _⊘_, fused, rootOf}
+use Rattle.ieee.specs.Numbers.{epsilon}
+use Rattle.bounds.specs.Bounds.{maxOf}
+use Rattle.params.specs.Limits.{valueCount}
+use Rattle.descriptor_values.specs.Values.{factor, rawOf, at, lane, norm2, clamped, plainNorm, scaleOf, finished, valuesOf}
 use Rattle.lists.specs.Ranges.{joined}
 use Rattle.lists.proofs.Ranges.{joined-more}
 
@@ -40,6 +43,19 @@ pub norm-of : (v : List Float) (n : ℕ) {a b c d : Float} → n ≡ 32 → a �
 unfolding norm2
 norm-of v n e a b c d = rw (a, b, c, d, e)
 
-pub plain-more : (v : List Float) (n : ℕ) → plainNorm v (n + 1) ≡ plainNorm v n ⊕ at v n ⊗ at v n
+plain-more : (v : List Float) (n : ℕ) → plainNorm v (n + 1) ≡ plainNorm v n ⊕ at v n ⊗ at v n
 unfolding plainNorm
 plain-more v n = rw add-one
+
+-- a turn of that sum
+pub plain-on : (v : List Float) (n : ℕ) (s : Float) → s ≡ plainNorm v n → s ⊕ at v n ⊗ at v n ≡ plainNorm v (n + 1)
+plain-on v n s e = ap (λ (z : Float). z ⊕ at v n ⊗ at v n) e ∙ sym (plain-more v n)
+
+-- what the calls give, put together
+pub scale-is : (v : List Float) (s r m : Float) → s ≡ plainNorm v valueCount → r ≡ rootOf s → m ≡ maxOf r epsilon → factor ⊘ m ≡ scaleOf v
+unfolding scaleOf
+scale-is v s r m es er em = rw (em, er, es) refl
+
+pub values-is : (h a b c : List Float) → a ≡ rawOf h → b ≡ clamped a → c ≡ finished b → c ≡ valuesOf h
+unfolding valuesOf
+values-is h a b c ea eb ec = rw (ec, eb, ea) refl

@@ -103,7 +103,7 @@ fn angles_about(img: &[f32], s: Size, k: RawKeypoint) -> Directions
     requires { ⌜ Ready (now img) s k ⌝ }
     ensures { λ d. ⌜ d ≡ directionsOf (now (img .entry)) s k ⌝ }
 {
-    let g = orient_tally::tally_of(img, window_at(s, k));
+    let g = orient_gather::tally_of(img, window_at(s, k));
     let t = g.tally;
     let b = t.bins;
     Directions {

@@ -1,5 +1,4 @@
 pub mod After
-pub mod Runs
 pub mod Lifted
 pub mod Values
 pub mod Squares

@@ -1,4 +1,4 @@
-// The tally of 36 bins about a keypoint: a sample of each cell of a window, and the tally that is lent from sample to sample.
+// The tally of 36 bins about a keypoint: the sample of a cell, and the tally that it is added to where it lies.
 
 use orient_window::Window;
 ghost use mathlib.Core.Path.{_≡_};
@@ -15,9 +15,9 @@ ghost use Rattle.hal_reach.specs.Reach.{inAngle};
 ghost use Rattle.orient_window.specs.Window.{cell};
 ghost use Rattle.orient_window.specs.Place.{maxReach};
 ghost use Rattle.orient_tally.specs.Sample.{bins, apart, weightAt, binOf};
-ghost use Rattle.orient_tally.specs.Tally.{early, shareOf, added, tallied, empty, tallyOf, gatheredOf};
-ghost use Rattle.orient_tally.specs.Place.{Near, exponentAt, Asked, InRange};
-ghost use Rattle.orient_tally.specs.Runs.{runOf, runLength, sampleIn};
+ghost use Rattle.orient_tally.specs.Tally.{shareOf, added, tallied, empty};
+ghost use Rattle.orient_tally.specs.Place.{Near, exponentAt, Asked};
+ghost use Rattle.orient_tally.specs.Runs.{sampleIn};
 
 // The tally: a sum of weighted magnitudes for each 10 degrees of direction.
 pub struct Tally {
@@ -33,11 +33,11 @@ pub struct Sample {
 }
 
 // Cells of row y, one after the other from a column on, that are all early or all late.
-struct Run {
-    win: Window,
-    y: usize,
-    from: usize,
-    late: bool,
+pub struct Run {
+    pub win: Window,
+    pub y: usize,
+    pub from: usize,
+    pub late: bool,
 }
 
 // The tally of a window, and the number of cells read for it.
@@ -77,7 +77,7 @@ fn bin_of(turns: &[f32; 272], dx: f32, dy: f32) -> usize
 }
 
 // The sample of cell i of a run.
-fn sample_at<'a>(
+pub fn sample_at<'a>(
     img: &'a [f32],
     pairs: &'a [u32; 512],
     cubics: &'a [f64; 256],
@@ -99,42 +99,6 @@ fn sample_at<'a>(
         magnitude: magnitude,
         late: run.late,
     }
-}
-
-// ---- runs of cells
-
-// How many of n samples are early: all but the last n mod 4.
-fn early_of(n: usize) -> usize
-    ensures { λ r. ⌜ r ≡ early n ⌝ }
-{
-    n - n % 4
-}
-
-// Of n cells read the longest run that starts with the one after k others, lies in one row, and is early or late as a whole: where it starts.
-fn run_at(win: Window, n: usize, k: usize) -> Run
-    requires { ⌜ (win .top + win .rows ≤ maxSide) × ((win .left + win .cols ≤ maxSide) × ((n ≡ win .rows * win .cols) × (k < n))) ⌝ }
-    ensures { λ r. ⌜ r ≡ runOf win n k ⌝ }
-{
-    let late = early_of(n) <= k;
-    Run {
-        win: win,
-        y: win.top + k / win.cols,
-        from: win.left + k % win.cols,
-        late: late,
-    }
-}
-
-// How many cells it has: as many as are left of the row, or of the early ones.
-fn cells_at(win: Window, n: usize, k: usize) -> usize
-    requires { ⌜ (n ≡ win .rows * win .cols) × (k < n) ⌝ }
-    ensures { λ m. ⌜ m ≡ runLength win n k ⌝ }
-{
-    let early = early_of(n);
-    let rest = win.cols - k % win.cols;
-    if early <= k {
-        return rest;
-    }
-    if early - k < rest { early - k } else { rest }
 }
 
 // ---- the tally
@@ -159,57 +123,16 @@ fn add_in(b: &mut [f32; 36], s: Sample)
     b[bin] = share(b[bin], s);
 }
 
-fn fresh() -> Tally
+pub fn fresh() -> Tally
     ensures { λ r. ⌜ r ≡ empty ⌝ }
 {
     Tally { bins: [0.0; 36] }
 }
 
 // The tally is lent, and filled where it lies.
-fn add_sample(t: &mut Tally, s: Sample)
+pub fn add_sample(t: &mut Tally, s: Sample)
     requires { ⌜ s .bin < bins ⌝ }
     ensures { λ _. ⌜ now (t .exit) ≡ tallied (now (t .entry)) s ⌝ }
 {
     add_in(&mut t.bins, s);
-}
-
-// The tally is lent from sample to sample, run after run of the n cells that are read.
-fn gather<'a>(
-    img: &'a [f32],
-    pairs: &'a [u32; 512],
-    cubics: &'a [f64; 256],
-    turns: &'a [f32; 272],
-    win: Window,
-    n: usize,
-) -> Tally
-    requires { ⌜ (now pairs ≡ pairTable) × ((now cubics ≡ cubicTable) × ((now turns ≡ turnTable) × (InRange (now img) win × (n ≡ win .rows * win .cols)))) ⌝ }
-    ensures { λ r. ⌜ r ≡ tallyOf (now (img .entry)) win ⌝ }
-{
-    let mut t = fresh();
-    let mut k = 0;
-    while k < n {
-        let run = run_at(win, n, k);
-        let m = cells_at(win, n, k);
-        let mut i = 0;
-        while i < m {
-            let s = sample_at(img, pairs, cubics, turns, run, i);
-            add_sample(&mut t, s);
-            i += 1;
-        }
-        k += m;
-    }
-    t
-}
-
-// The tally of a window, and the number of cells read.
-pub fn tally_of(img: &[f32], win: Window) -> Gathered
-    requires { ⌜ InRange (now img) win ⌝ }
-    ensures { λ r. ⌜ r ≡ gatheredOf (now (img .entry)) win ⌝ }
-{
-    let pairs = hal::pair_table();
-    let cubics = hal_magnitude::cubic_table();
-    let turns = hal_angle::turn_table();
-    let n = win.rows * win.cols;
-    let t = gather(img, &pairs, &cubics, &turns, win, n);
-    Gathered { tally: t, read: n }
 }

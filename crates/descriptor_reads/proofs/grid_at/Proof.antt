@@ -1,4 +1,4 @@
-use Rattle.descriptor_patch.specs.Patch.{gridAt}
+use Rattle.descriptor_reads.proofs.Steps.{grid-is}
 use borrow.Author.Needs.{needs}
 use Rattle.descriptor_reads.proofs.grid_at.Statement.{statement}
 use Rattle.descriptor_reads.proofs.grid_at.Tie as tie
@@ -28,8 +28,14 @@ in-grid-requires-2 : tie.Need-in-grid-requires-2
 in-grid-requires-2 c κs = search needs
 
 returns : tie.Need-returns
-unfolding gridAt
-returns c = cc
+returns c =
+    let q = c .before in
+    let x = q .before in
+    let a = x .before in
+    let p = a .before in
+    let y = p .before in
+    let s = y .before .args in
+    grid-is (s .t) (s .r) (s .c) _ _ _ _ _ _ (y .rot-row .ensures) (p .bin-of .ensures) (a .in-grid .ensures) (x .rot-col .ensures) (q .bin-of2 .ensures) (c .in-grid2 .ensures)
 
 pub grid-at-spec : {M : Type 1} → statement M
 grid-at-spec =

@@ -1,4 +1,4 @@
-use Rattle.descriptor_run.specs.Cells.{endsOf}
+use Rattle.descriptor_run.proofs.Steps.{ends-is}
 use borrow.Author.Needs.{needs}
 use Rattle.descriptor_run.proofs.ends_of.Statement.{statement}
 use Rattle.descriptor_run.proofs.ends_of.Tie as tie
@@ -21,8 +21,11 @@ clip-j-requires-2 : tie.Need-clip-j-requires-2
 clip-j-requires-2 c κs = search needs
 
 returns : tie.Need-returns
-unfolding endsOf
-returns c = cc
+returns c =
+    let m = c .before .before in
+    let f = m .before .before in
+    let a = f .before .before .args in
+    ends-is (a .t) (a .r) _ _ (m .clip-j .result) _ (f .before .apart .ensures) (f .float .ensures) (m .clip-j .ensures) (c .clip-j2 .ensures)
 
 pub ends-of-spec : {M : Type 1} → statement M
 ends-of-spec =

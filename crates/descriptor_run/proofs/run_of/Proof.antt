@@ -1,4 +1,4 @@
-use Rattle.descriptor_run.specs.Run.{runOf}
+use Rattle.descriptor_run.proofs.Steps.{run-is}
 use borrow.Author.Needs.{needs}
 use Rattle.descriptor_run.proofs.run_of.Statement.{statement}
 use Rattle.descriptor_run.proofs.run_of.Tie as tie
@@ -22,8 +22,12 @@ columns-requires : tie.Need-columns-requires
 columns-requires c κs = search needs
 
 returns : tie.Need-returns
-unfolding runOf
-returns c = cc
+returns c =
+    let e = c .before in
+    let p = e .before in
+    let f = p .before in
+    let a = f .before .args in
+    run-is (a .t) (a .r) _ _ _ _ (f .first-in .ensures) (p .past-in .ensures) (e .ends-of .ensures) (c .columns .ensures)
 
 pub run-of-spec : {M : Type 1} → statement M
 run-of-spec =

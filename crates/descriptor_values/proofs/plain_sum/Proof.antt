@@ -1,11 +1,11 @@
 -- The sum so far is that of the values passed. Assumes nothing.
 use Prim.Native.Nat.{_-_, _≤_}
-use mathlib.Core.Path.{_≡_}
+use mathlib.Core.Path.{_≡_, ap, _∙_}
 use native.Mathlib.Omega.{arith}
 use borrow.Author.Needs.{needs}
 use Rattle.params.specs.Limits.{valueCount}
 use Rattle.descriptor_values.specs.Values.{plainNorm}
-use Rattle.descriptor_values.proofs.Listed.{plain-more}
+use Rattle.descriptor_values.proofs.Listed.{plain-on}
 use Rattle.descriptor_values.proofs.plain_sum.Statement.{statement}
 use Rattle.descriptor_values.proofs.plain_sum.Tie as tie
 use Rattle.descriptor_values.proofs.plain_sum.Reads as reads
@@ -34,10 +34,15 @@ loop-less : tie.Need-loop-less Inv-loop μ-loop
 loop-less c = omega arith
 
 loop-again : tie.Need-loop-again Inv-loop μ-loop
-loop-again c = (omega arith, rw plain-more (cc))
+loop-again c =
+    let l = c .before .before .loop in
+    (omega arith, plain-on (c .before .before .before .args .v .now) (l .n) (l .s) (l .inv .1))
 
 returns : tie.Need-returns Inv-loop μ-loop
-returns c = let e : c .before .loop .n ≡ valueCount = omega arith in cc
+returns c =
+    let l = c .before .loop in
+    let e : l .n ≡ valueCount = omega arith in
+    l .inv .1 ∙ ap (plainNorm (c .before .before .args .v .now)) e
 
 pub plain-sum-spec : {M : Type 1} → statement M
 plain-sum-spec =

@@ -1,4 +1,4 @@
-use Rattle.descriptor_values.specs.Values.{scaleOf}
+use Rattle.descriptor_values.proofs.Listed.{scale-is}
 use borrow.Author.Needs.{needs}
 use Rattle.descriptor_values.proofs.scale.Statement.{statement}
 use Rattle.descriptor_values.proofs.scale.Tie as tie
@@ -22,8 +22,9 @@ max-requires c κs = search needs
 
 -- src/lib.rt:82:1
 returns : tie.Need-returns
-unfolding scaleOf
-returns c = cc
+returns c =
+    let s = c .before .before in
+    scale-is (s .before .args .v .now) _ _ _ (s .plain-sum .ensures) (c .before .sqrt .ensures .0) (c .max .ensures)
 
 pub scale-spec : {M : Type 1} → statement M
 scale-spec = tie.close (tie.spec plain-sum-requires sqrt-requires max-requires returns)

@@ -1,4 +1,4 @@
-use Rattle.descriptor_values.specs.Values.{valuesOf}
+use Rattle.descriptor_values.proofs.Listed.{values-is}
 use borrow.Author.Needs.{needs}
 use Rattle.descriptor_values.proofs.values.Statement.{statement}
 use Rattle.descriptor_values.proofs.values.Tie as tie
@@ -22,8 +22,10 @@ finish-requires c κs = search needs
 
 -- src/lib.rt:103:1
 returns : tie.Need-returns
-unfolding valuesOf
-returns c = cc
+returns c =
+    let u = c .before .before in
+    let v = u .before .before in
+    values-is (v .before .args .hist .now) (v .raw .result) (u .clamp-all .result) (c .finish .result) (v .raw .ensures) (u .clamp-all .ensures) (c .finish .ensures)
 
 pub values-spec : {M : Type 1} → statement M
 values-spec = tie.close (tie.spec raw-requires clamp-all-requires finish-requires returns)

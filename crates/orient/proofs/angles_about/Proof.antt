@@ -6,7 +6,7 @@ use Rattle.orient.proofs.angles_about.Reads as reads
 use Rattle.orient.proofs.angles_about.Lts as lts
 use Rattle.orient.proofs.window_at.Reads as window-at-reads
 use Rattle.orient_peaks.proofs.angles_of.Reads as angles-of-reads
-use Rattle.orient_tally.proofs.tally_of.Reads as tally-of-reads
+use Rattle.orient_gather.proofs.tally_of.Reads as tally-of-reads
 
 window-at-requires : tie.Need-window-at-requires
 window-at-requires c κs = search needs

@@ -1,4 +1,4 @@
--- `orient_tally::gather` meets its contract: a walk of its MIR, by hand. The tally lies in a local. In each turn of the inner loop it is lent to `add_sample` for a lifetime that is made for the call, and comes back with one sample more.
+-- `orient_gather::gather` meets its contract: a walk of its MIR, by hand. The tally lies in a local. In each turn of the inner loop it is lent to `add_sample` for a lifetime that is made for the call, and comes back with one sample more.
 -- The outer loop's invariant at the number k of samples passed: the local holds `after img win k`. The inner loop's at cell i of the run that starts there: it holds `after img win (k + i)`.
 -- All that the proof knows of `fresh`, `run_at`, `cells_at`, `sample_at` and `add_sample` is that they meet their contracts.
 -- Assumes nothing.
@@ -55,49 +55,50 @@ use Rattle.params.specs.Limits.{maxSide}
 use Rattle.hal.specs.Powers.{pairs as pairTable}
 use Rattle.hal_magnitude.specs.Cubics.{cubics as cubicTable}
 use Rattle.hal_angle.specs.Turns.{turns as turnTable}
 use Rattle.orient_tally.specs.Sample.{bins}
 use Rattle.orient_tally.specs.Tally.{tallied, tallyOf, empty}
 use Rattle.orient_tally.specs.Place.{InRange}
-use Rattle.orient_tally.specs.Runs.{runOf, runLength, sampleIn}
+use Rattle.orient_tally.specs.Runs.{sampleIn}
+use Rattle.orient_gather.specs.Runs.{runOf, runLength}
 use Rattle.orient_tally.proofs.After.{after, after-none, after-all}
-use Rattle.orient_tally.proofs.Runs.{Goes, goes, after-run, asked-in}
+use Rattle.orient_gather.proofs.Runs.{Goes, goes, after-run, asked-in}
 use Rattle.orient_tally.specs.declared.Tally.{Tally}
 use Rattle.orient_tally.specs.declared.Sample.{Sample}
 use Rattle.orient_window.specs.declared.Window.{Window}
 use Rattle.orient_tally.specs.declared.Run.{Run}
 use Rattle.orient_tally.proofs.Tally as T
 use Rattle.orient_tally.proofs.Tally.Laws as T′
 use Rattle.orient_tally.proofs.Sample as S
 use Rattle.orient_tally.proofs.Sample.Laws as S′
 use Rattle.orient_window.proofs.Window as N
 use Rattle.orient_window.proofs.Window.Laws as N′
 use Rattle.orient_tally.proofs.Run as U
 use Rattle.orient_tally.proofs.Run.Laws as U′
 use Rattle.orient_tally.proofs.fresh as fresh
 use Rattle.orient_tally.proofs.fresh.Symbol as fresh-def
 use Rattle.orient_tally.proofs.fresh.Symbol.{name as #orient-tally·fresh}
 use Rattle.orient_tally.proofs.fresh.Met as fresh-thm
-use Rattle.orient_tally.proofs.run_at as run-at
-use Rattle.orient_tally.proofs.run_at.Symbol as run-at-def
-use Rattle.orient_tally.proofs.run_at.Symbol.{name as #orient-tally·run-at}
-use Rattle.orient_tally.proofs.run_at.Met as run-at-thm
-use Rattle.orient_tally.proofs.cells_at as cells-at
-use Rattle.orient_tally.proofs.cells_at.Symbol as cells-at-def
-use Rattle.orient_tally.proofs.cells_at.Symbol.{name as #orient-tally·cells-at}
-use Rattle.orient_tally.proofs.cells_at.Met as cells-at-thm
+use Rattle.orient_gather.proofs.run_at as run-at
+use Rattle.orient_gather.proofs.run_at.Symbol as run-at-def
+use Rattle.orient_gather.proofs.run_at.Symbol.{name as #orient-gather·run-at}
+use Rattle.orient_gather.proofs.run_at.Met as run-at-thm
+use Rattle.orient_gather.proofs.cells_at as cells-at
+use Rattle.orient_gather.proofs.cells_at.Symbol as cells-at-def
+use Rattle.orient_gather.proofs.cells_at.Symbol.{name as #orient-gather·cells-at}
+use Rattle.orient_gather.proofs.cells_at.Met as cells-at-thm
 use Rattle.orient_tally.proofs.sample_at as sample-at
 use Rattle.orient_tally.proofs.sample_at.Symbol as sample-at-def
 use Rattle.orient_tally.proofs.sample_at.Symbol.{name as #orient-tally·sample-at}
 use Rattle.orient_tally.proofs.sample_at.Met as sample-at-thm
 use Rattle.orient_tally.proofs.add_sample as add-sample
 use Rattle.orient_tally.proofs.add_sample.Symbol as add-sample-def
 use Rattle.orient_tally.proofs.add_sample.Symbol.{name as #orient-tally·add-sample}
 use Rattle.orient_tally.proofs.add_sample.Met as add-sample-thm
-use Rattle.orient_tally.proofs.gather.Key.{name as #orient-tally·gather}
-use Rattle.orient_tally.proofs.gather as f
-use Rattle.orient_tally.proofs.gather.Statement as stated
-use Rattle.orient_tally.proofs.gather.Code as code
-use Rattle.orient_tally.proofs.gather.Code.Mir as code′
+use Rattle.orient_gather.proofs.gather.Key.{name as #orient-gather·gather}
+use Rattle.orient_gather.proofs.gather as f
+use Rattle.orient_gather.proofs.gather.Statement as stated
+use Rattle.orient_gather.proofs.gather.Code as code
+use Rattle.orient_gather.proofs.gather.Code.Mir as code′
 
 abbrev R : RattleType
 R = T.the-row
@@ -156,8 +157,8 @@ inner = seq (block (loop code′.turn-1)) rest
 
 abbrev outer : Body
 outer =
-    seq (call #orient-tally·run-at (copy (place 5 []) ∷ copy (place 6 []) ∷ copy (place 8 []) ∷ []) (place 9 []))
-    (seq (call #orient-tally·cells-at (copy (place 5 []) ∷ copy (place 6 []) ∷ copy (place 8 []) ∷ []) (place 10 []))
+    seq (call #orient-gather·run-at (copy (place 5 []) ∷ copy (place 6 []) ∷ copy (place 8 []) ∷ []) (place 9 []))
+    (seq (call #orient-gather·cells-at (copy (place 5 []) ∷ copy (place 6 []) ∷ copy (place 8 []) ∷ []) (place 10 []))
     (seq (assign (place 11 []) (rvOpd (int w64 0))) inner))
 
 module _ {M : Type 1} (𝓤 : URA M) (H : Heap 𝓤) (A : Atoms 𝓤) (at-mem : Memory → SProp 𝓤) (run : Routine → Fun 𝓤) where
@@ -325,7 +326,7 @@ module _ {M : Type 1} (𝓤 : URA M) (H : Heap 𝓤) (A : Atoms 𝓤) (W : Given
   fits : (j : Upto n) → j .0 < 2 ^ 64
   fits j = lt-of-le-of-lt (j .1) gn
 
-  module _ (𝓣 : Tables 𝓤 H) (known-fresh : Triple 𝓤 (𝓣 .C #orient-tally·fresh) (Fresh 𝓤 H A at-mem run)) (known-run-at : Triple 𝓤 (𝓣 .C #orient-tally·run-at) (RunAt 𝓤 H A at-mem run)) (known-cells-at : Triple 𝓤 (𝓣 .C #orient-tally·cells-at) (CellsAt 𝓤 H A at-mem run))
+  module _ (𝓣 : Tables 𝓤 H) (known-fresh : Triple 𝓤 (𝓣 .C #orient-tally·fresh) (Fresh 𝓤 H A at-mem run)) (known-run-at : Triple 𝓤 (𝓣 .C #orient-gather·run-at) (RunAt 𝓤 H A at-mem run)) (known-cells-at : Triple 𝓤 (𝓣 .C #orient-gather·cells-at) (CellsAt 𝓤 H A at-mem run))
       (known-sample-at : Triple 𝓤 (𝓣 .C #orient-tally·sample-at) (SampleAt 𝓤 H A at-mem run)) (known-add-sample : Triple 𝓤 (𝓣 .C #orient-tally·add-sample) (AddSample 𝓤 H A at-mem run)) where
     abbrev C : Calls 𝓤 H
     C = 𝓣 .C
@@ -507,7 +508,7 @@ module _ {M : Type 1} (𝓤 : URA M) (H : Heap 𝓤) (A : Atoms 𝓤) (W : Given
         starts l₀ l₁ l₂ l₃ l₄ l₅ l₆ l₇ l₈ l₉ l₁₀ l₁₁ l₁₂ l₁₃ l₁₄ l₁₅ l₁₆ l₁₇))))))))))))))))))
 
 module _ {M : Type 1} (𝓤 : URA M) (H : Heap 𝓤) (A : Atoms 𝓤) (W : Given 𝓤 H A) (at-mem : Memory → SProp 𝓤) (run : Routine → Fun 𝓤) (𝓣 : Tables 𝓤 H)
-    (known-fresh : Triple 𝓤 (𝓣 .C #orient-tally·fresh) (Fresh 𝓤 H A at-mem run)) (known-run-at : Triple 𝓤 (𝓣 .C #orient-tally·run-at) (RunAt 𝓤 H A at-mem run)) (known-cells-at : Triple 𝓤 (𝓣 .C #orient-tally·cells-at) (CellsAt 𝓤 H A at-mem run))
+    (known-fresh : Triple 𝓤 (𝓣 .C #orient-tally·fresh) (Fresh 𝓤 H A at-mem run)) (known-run-at : Triple 𝓤 (𝓣 .C #orient-gather·run-at) (RunAt 𝓤 H A at-mem run)) (known-cells-at : Triple 𝓤 (𝓣 .C #orient-gather·cells-at) (CellsAt 𝓤 H A at-mem run))
     (known-sample-at : Triple 𝓤 (𝓣 .C #orient-tally·sample-at) (SampleAt 𝓤 H A at-mem run)) (known-add-sample : Triple 𝓤 (𝓣 .C #orient-tally·add-sample) (AddSample 𝓤 H A at-mem run)) where
   gather-walks : Walks 𝓤 H A f.ended stayed (WpFn 𝓤 H (𝓣 .C) (𝓣 .Λ) code.function) (f.clauses 𝓤 H A at-mem run)
   gather-walks = walked 𝓤 H A f.ended stayed (f.clauses 𝓤 H A at-mem run) (WpFn 𝓤 H (𝓣 .C) (𝓣 .Λ) code.function) (λ κs. (slice-vals, (ptr-vals, (ptr-vals, (ptr-vals, (LL.vals N.the-type N′.the-laws, (uint-vals w64, tt)))))))
@@ -525,10 +526,10 @@ pub gather-spec : {M : Type 1} → stated.statement M
 unfolding code.routine tablesOf
 gather-spec 𝓤 H 𝓜 𝓖 𝓡 =
     entered 𝓤 H (tripleOf 𝓤 H (𝓖 .A) f.signature (f.spec 𝓤 H (𝓖 .A) (𝓜 .mem) (𝓡 .run)))
-    (tables 𝓤 H 𝓜 𝓡 code.env .C) (tables 𝓤 H 𝓜 𝓡 code.env .Λ) #orient-tally·gather code.function (code.unfolded 𝓤 H 𝓜 𝓡)
+    (tables 𝓤 H 𝓜 𝓡 code.env .C) (tables 𝓤 H 𝓜 𝓡 code.env .Λ) #orient-gather·gather code.function (code.unfolded 𝓤 H 𝓜 𝓡)
     (gather-meets 𝓤 H (𝓖 .A) (givenOf 𝓤 H 𝓜 𝓖) (𝓜 .mem) (𝓡 .run) (tablesOf 𝓤 H 𝓜 (tables 𝓤 H 𝓜 𝓡 code.env))
     (cited 𝓤 H (Fresh 𝓤 H (𝓖 .A) (𝓜 .mem) (𝓡 .run)) 𝓜 𝓡 code.env #orient-tally·fresh fresh-def.routine code.calls-orient-tally·fresh (fresh-thm.met 𝓤 H 𝓜 𝓖 𝓡))
-    (cited 𝓤 H (RunAt 𝓤 H (𝓖 .A) (𝓜 .mem) (𝓡 .run)) 𝓜 𝓡 code.env #orient-tally·run-at run-at-def.routine code.calls-orient-tally·run-at (run-at-thm.met 𝓤 H 𝓜 𝓖 𝓡))
-    (cited 𝓤 H (CellsAt 𝓤 H (𝓖 .A) (𝓜 .mem) (𝓡 .run)) 𝓜 𝓡 code.env #orient-tally·cells-at cells-at-def.routine code.calls-orient-tally·cells-at (cells-at-thm.met 𝓤 H 𝓜 𝓖 𝓡))
+    (cited 𝓤 H (RunAt 𝓤 H (𝓖 .A) (𝓜 .mem) (𝓡 .run)) 𝓜 𝓡 code.env #orient-gather·run-at run-at-def.routine code.calls-orient-gather·run-at (run-at-thm.met 𝓤 H 𝓜 𝓖 𝓡))
+    (cited 𝓤 H (CellsAt 𝓤 H (𝓖 .A) (𝓜 .mem) (𝓡 .run)) 𝓜 𝓡 code.env #orient-gather·cells-at cells-at-def.routine code.calls-orient-gather·cells-at (cells-at-thm.met 𝓤 H 𝓜 𝓖 𝓡))
     (cited 𝓤 H (SampleAt 𝓤 H (𝓖 .A) (𝓜 .mem) (𝓡 .run)) 𝓜 𝓡 code.env #orient-tally·sample-at sample-at-def.routine code.calls-orient-tally·sample-at (sample-at-thm.met 𝓤 H 𝓜 𝓖 𝓡))
     (cited 𝓤 H (AddSample 𝓤 H (𝓖 .A) (𝓜 .mem) (𝓡 .run)) 𝓜 𝓡 code.env #orient-tally·add-sample add-sample-def.routine code.calls-orient-tally·add-sample (add-sample-thm.met 𝓤 H 𝓜 𝓖 𝓡)))

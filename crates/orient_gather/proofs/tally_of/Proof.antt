@@ -1,17 +1,17 @@
 use native.Mathlib.Nat.{mul-le-mul}
 use native.Mathlib.Omega.{arith}
 use Rattle.params.specs.Limits.{maxSide}
 use Rattle.orient_tally.specs.Tally.{gatheredOf}
 use Rattle.orient_window.proofs.Cells.{read-is}
 use borrow.Author.Needs.{needs}
-use Rattle.orient_tally.proofs.tally_of.Statement.{statement}
-use Rattle.orient_tally.proofs.tally_of.Tie as tie
-use Rattle.orient_tally.proofs.tally_of.Reads as reads
-use Rattle.orient_tally.proofs.tally_of.Lts as lts
+use Rattle.orient_gather.proofs.tally_of.Statement.{statement}
+use Rattle.orient_gather.proofs.tally_of.Tie as tie
+use Rattle.orient_gather.proofs.tally_of.Reads as reads
+use Rattle.orient_gather.proofs.tally_of.Lts as lts
 use Rattle.hal_magnitude.proofs.cubic_table.Reads as cubic-table-reads
 use Rattle.hal.proofs.pair_table.Reads as pair-table-reads
 use Rattle.hal_angle.proofs.turn_table.Reads as turn-table-reads
-use Rattle.orient_tally.proofs.gather.Reads as gather-reads
+use Rattle.orient_gather.proofs.gather.Reads as gather-reads
 
 pair-table-requires : tie.Need-pair-table-requires
 pair-table-requires c κs = search needs

@@ -1,12 +1,12 @@
 use native.Mathlib.Omega.{arith}
-use Rattle.orient_tally.specs.Runs.{runOf}
+use Rattle.orient_gather.specs.Runs.{runOf}
 use Rattle.orient_window.proofs.Cells.{at-cell}
 use borrow.Author.Needs.{needs}
-use Rattle.orient_tally.proofs.run_at.Statement.{statement}
-use Rattle.orient_tally.proofs.run_at.Tie as tie
-use Rattle.orient_tally.proofs.run_at.Reads as reads
-use Rattle.orient_tally.proofs.run_at.Lts as lts
-use Rattle.orient_tally.proofs.early_of.Reads as early-of-reads
+use Rattle.orient_gather.proofs.run_at.Statement.{statement}
+use Rattle.orient_gather.proofs.run_at.Tie as tie
+use Rattle.orient_gather.proofs.run_at.Reads as reads
+use Rattle.orient_gather.proofs.run_at.Lts as lts
+use Rattle.orient_gather.proofs.early_of.Reads as early-of-reads
 
 early-of-requires : tie.Need-early-of-requires
 early-of-requires c κs = search needs

@@ -13,14 +13,15 @@ use Rattle.orient_window.specs.Window.{cell}
 use Rattle.orient_window.specs.Place.{Fits, cellAt}
 use Rattle.orient_window.specs.declared.Window.{Window}
 use Rattle.orient_window.proofs.Cells.{at-cell, cell-around}
 use Rattle.orient_tally.specs.Tally.{early, sampleOf, tallied}
 use Rattle.orient_tally.specs.Place.{Placed, Asked, InRange}
-use Rattle.orient_tally.specs.Runs.{runOf, runLength, sampleIn}
+use Rattle.orient_tally.specs.Runs.{sampleIn}
+use Rattle.orient_gather.specs.Runs.{runOf, runLength}
 use Rattle.orient_tally.specs.declared.Sample.{Sample}
 use Rattle.orient_tally.specs.declared.Run.{Run}
 use Rattle.orient_tally.specs.declared.Tally.{Tally}
 use Rattle.orient_tally.proofs.After.{after, after-more}
 use Rattle.orient_tally.proofs.Rules.{tally-rule}
 
 -- ---- how long a run is
 

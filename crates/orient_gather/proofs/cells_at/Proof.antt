@@ -1,13 +1,13 @@
 use mathlib.Core.Path.{refl}
 use native.Mathlib.Omega.{arith}
 use Rattle.orient_window.proofs.Cells.{at-cell}
-use Rattle.orient_tally.proofs.Runs.{length-late, length-early}
+use Rattle.orient_gather.proofs.Runs.{length-late, length-early}
 use borrow.Author.Needs.{needs}
-use Rattle.orient_tally.proofs.cells_at.Statement.{statement}
-use Rattle.orient_tally.proofs.cells_at.Tie as tie
-use Rattle.orient_tally.proofs.cells_at.Reads as reads
-use Rattle.orient_tally.proofs.cells_at.Lts as lts
-use Rattle.orient_tally.proofs.early_of.Reads as early-of-reads
+use Rattle.orient_gather.proofs.cells_at.Statement.{statement}
+use Rattle.orient_gather.proofs.cells_at.Tie as tie
+use Rattle.orient_gather.proofs.cells_at.Reads as reads
+use Rattle.orient_gather.proofs.cells_at.Lts as lts
+use Rattle.orient_gather.proofs.early_of.Reads as early-of-reads
 
 early-of-requires : tie.Need-early-of-requires
 early-of-requires c κs = search needs

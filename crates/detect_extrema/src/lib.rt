@@ -1,4 +1,4 @@
-// The cells of one layer of a stack of difference planes: the search among a cell's neighbours, and what a cell gives.
+// A cell of one layer of a stack of difference planes: whether it is loud, and the search among its neighbours.
 
 ghost use mathlib.Core.Path.{_≡_};
 ghost use lib.ListN.{length};
@@ -6,12 +6,7 @@ ghost use Rattle.ieee.specs.F32.{_<ᶠ_};
 ghost use Rattle.ieee.specs.Numbers.{nought};
 ghost use Rattle.picture.specs.Stack.{sample};
 ghost use Rattle.detect_fit.specs.Place.{Around};
-ghost use Rattle.detect_refine.specs.Place.{Searched, Placed};
 ghost use Rattle.detect_extrema.specs.Neighbours.{tied, keepsAs, centre, isExtremum, loud};
-ghost use Rattle.detect_extrema.specs.Scan.{kept, cellOf, found};
-use detect_keypoint::Cell;
-use detect_keypoint::Search;
-use detect_refine::Refined;
 use picture::Shape;
 
 // The middle one of the 27 places about a cell is the cell itself.
@@ -72,29 +67,4 @@ pub fn is_loud(threshold: f32, val: f32) -> bool
     ensures { λ b. ⌜ b ≡ loud threshold val ⌝ }
 {
     ieee::abs(val) > threshold
-}
-
-// What a cell gives: nothing where it is no candidate, else what it is refined to. `kept` tells the two cases apart, so that its value names the answer.
-pub fn cell(dog: &[f32], t: Shape, s: Search, r: usize, c: usize) -> Refined
-    requires { ⌜ Searched (length (now dog)) t s ⌝ }
-    requires { ⌜ Placed t (s .settings .layers) (cellOf s r c) ⌝ }
-    ensures { λ x. ⌜ kept x ≡ found tied (now (dog .entry)) t s r c ⌝ }
-{
-    if !is_loud(s.threshold, picture::at(dog, t, s.layer, r, c)) {
-        return Refined::Dropped;
-    }
-    if is_extremum(dog, t, s.layer, r, c) {
-        detect_refine::refine(
-            dog,
-            t,
-            s,
-            Cell {
-                p: s.layer,
-                r: r,
-                c: c,
-            },
-        )
-    } else {
-        Refined::Dropped
-    }
 }

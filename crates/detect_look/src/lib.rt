@@ -6,14 +6,11 @@ ghost use Prim.Native.Nat.{_+_, _≤_};
 ghost use lib.ListN.{length, replicate};
 ghost use lib.Seq.{sets};
 ghost use Rattle.detect_fit.specs.Place.{Around};
-ghost use Rattle.detect_refine.specs.Place.{Searched, Placed};
-ghost use Rattle.detect_extrema.specs.Neighbours.{tied};
-ghost use Rattle.detect_extrema.specs.Scan.{kept, cellOf, found};
+ghost use Rattle.detect_refine.specs.Place.{Searched};
 ghost use Rattle.detect_look.specs.Hints.{greaterOf, lesserOf, ofSix, hintAt, beyond, anyLoud, anyHint, looks, hinted};
 ghost use Rattle.detect_look.specs.Place.{group, Along};
 use detect_fit::Near;
 use detect_keypoint::Search;
-use detect_refine::Refined;
 use picture::Shape;
 
 // So many cells of a row are asked at once whether one of them is loud. Where none is, which is the rule in a calm frame, nothing but the cells themselves is read:
@@ -141,18 +138,4 @@ pub fn mark(dog: &[f32], t: Shape, s: Search, u: Run) -> [bool; GROUP]
         marks[c - u.lo] = may_be(dog, t, s.threshold, s.layer, u.row, c);
     }
     marks
-}
-
-// What a cell gives after the first look at it, whose result is `mark`. `kept` tells the two cases apart, as in `cell`.
-pub fn seen(mark: bool, dog: &[f32], t: Shape, s: Search, r: usize, c: usize) -> Refined
-    requires { ⌜ Searched (length (now dog)) t s ⌝ }
-    requires { ⌜ Placed t (s .settings .layers) (cellOf s r c) ⌝ }
-    requires { ⌜ mark ≡ hintAt (s .threshold) (now dog) t (s .layer) r c ⌝ }
-    ensures { λ x. ⌜ kept x ≡ found tied (now (dog .entry)) t s r c ⌝ }
-{
-    if mark {
-        detect_extrema::cell(dog, t, s, r, c)
-    } else {
-        Refined::Dropped
-    }
 }

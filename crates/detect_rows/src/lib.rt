@@ -36,7 +36,7 @@ fn marked_words(dog: &[f32], t: Shape, s: Search, u: Run, p: Place, out: &mut [u
     let marks = detect_look::mark(dog, t, s, u);
     let mut n: usize = 0;
     for c in u.lo..u.hi {
-        let x = detect_look::seen(marks[c - u.lo], dog, t, s, u.row, c);
+        let x = detect_cell::seen(marks[c - u.lo], dog, t, s, u.row, c);
         n += detect_words::leave(
             x,
             u.row,

@@ -2,12 +2,12 @@ use mathlib.Core.Path.{_≡_, sym, ap, _∙_}
 use mathlib.Core.Bool.{Bool}
 use borrow.Author.Tests.{not-true, not-false}
 use lib.Ieee.{Float}
 use Rattle.detect_extrema.specs.Neighbours.{loud}
 use Rattle.detect_extrema.specs.Scan.{kept}
 use Rattle.detect_extrema.proofs.Cells.{found-quiet, found-yes, found-no}
 use borrow.Author.Needs.{needs}
-use Rattle.detect_extrema.proofs.cell.Statement.{statement}
-use Rattle.detect_extrema.proofs.cell.Tie as tie
+use Rattle.detect_cell.proofs.cell.Statement.{statement}
+use Rattle.detect_cell.proofs.cell.Tie as tie
 
 -- what the code tested is what the definition tests
 quiet : (b : Bool) (t v v' : Float) → b ≡ loud t v → v ≡ v' → loud t v' ≡ b

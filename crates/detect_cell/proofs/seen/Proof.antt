@@ -1,8 +1,8 @@
 use mathlib.Core.Path.{_≡_, sym, _∙_}
 use borrow.Author.Needs.{needs}
 use Rattle.detect_look.proofs.Hints.{unseen}
-use Rattle.detect_look.proofs.seen.Statement.{statement}
-use Rattle.detect_look.proofs.seen.Tie as tie
+use Rattle.detect_cell.proofs.seen.Statement.{statement}
+use Rattle.detect_cell.proofs.seen.Tie as tie
 
 cell-requires : tie.Need-cell-requires
 cell-requires c κs = search needs

@@ -1,14 +1,12 @@
 -- The laws of the inputs that specs/Rules.antt states. Assumes nothing.
-use Prim.Native.Nat.{ℕ, _+_, _*_, _^_, _<_, _≤_}
+use Prim.Native.Nat.{ℕ, _+_, _*_, _^_, _≤_}
 use mathlib.Core.Path.{_≡_, refl, sym, ap, _∙_}
 use mathlib.Core.Bool.{Bool, true, false, not, _&&_, cond}
-use mathlib.Core.List.{List}
 use native.Mathlib.Omega.{arith}
 use borrow.Author.Tests.{le-ltb}
 use lib.Dec.{ltb}
-use lib.ListN.{length, getD}
 use lib.IntN.{pos}
-use lib.Ieee.{Float, nan, binary32, ofBits, ofInt, sub, mul, div, lt, le}
+use lib.Ieee.{Float, binary32, ofBits, ofInt, sub, mul, div, lt, le}
 use lib.Ieee.Scale.{finite}
 use Rattle.lists.proofs.Bools.{and-both}
 use Rattle.ieee.specs.F32.{_⊖_, _⊗_, _⊘_, _<ᶠ_, absOf, float}
@@ -26,9 +24,6 @@ use Rattle.detect_keypoint.specs.declared.RawKeypoint.{RawKeypoint}
 use Rattle.lists.proofs.Every.{every-all}
 use Rattle.orient_words.specs.Oriented.{orientedOf}
 use Rattle.orient_words.specs.declared.OrientedKeypoint.{OrientedKeypoint}
-use Rattle.orient.specs.Entry.{orientedList}
-use Rattle.orient.specs.Rules.{Passed}
-use Rattle.orient.proofs.Rules.{orient-rule}
 use Rattle.descriptor_inputs.specs.Inputs.{octaveWrong, orientedWrong, shrinkOf, reversedOf, givenOf, inputsOf}
 use Rattle.descriptor_inputs.specs.Rules.{Taken, InputRule}
 use Rattle.descriptor_inputs.specs.declared.Inputs.{Inputs}
@@ -116,16 +111,16 @@ module _ (o : ℕ) (size : Float) (h : o ≤ maxOctave) (a : le (float (2 ^ o)) 
   size-from = rw nought-is (le-trans-float nil (float (2 ^ o)) size (and-both (le nil (float (2 ^ o))) _ (test .1) .0) a)
 
 -- ---- what orientation gives is accepted
-module _ (s : Size) (octave : ℕ) (settings : Settings) (k : RawKeypoint) (o : OrientedKeypoint) (in-range : octave ≤ maxOctave) (z : Sound (s .width) (s .height) settings octave k) (p : Passed k o) (angle : within nought wholeTurn (o .angle) ≡ true) where
+module _ (s : Size) (octave : ℕ) (settings : Settings) (k : RawKeypoint) (o : OrientedKeypoint) (in-range : octave ≤ maxOctave) (z : Sound (s .width) (s .height) settings octave k) (x : o .x ≡ k .x) (y : o .y ≡ k .y) (size : o .size ≡ k .size) (response : o .response ≡ k .response) (angle : within nought wholeTurn (o .angle) ≡ true) where
   size-low : le (float (2 ^ octave)) (o .size) ≡ true
-  size-low = rw (p .size) (z .size-from)
+  size-low = rw size (z .size-from)
 
   size-high : le (o .size) (float (2 ^ 7 * 2 ^ octave)) ≡ true
-  size-high = rw (p .size) (z .size-to)
+  size-high = rw size (z .size-to)
 
   oriented-right : orientedWrong o ≡ false
   unfolding orientedWrong
-  oriented-right = rw (size-from octave (o .size) in-range size-low size-high, angle, p .x, p .y, p .size, z .x-number .ends, z .y-number .ends, z .size-number .ends, p .response, finite-number (k .response) (z .response-number .ends))
+  oriented-right = rw (size-from octave (o .size) in-range size-low size-high, angle, x, y, size, z .x-number .ends, z .y-number .ends, z .size-number .ends, response, finite-number (k .response) (z .response-number .ends))
 
   is-given : inputsOf o (pos octave) ≡ givenOf o octave
   is-given = sym (accepted o (pos octave) (le-ltb maxOctave octave in-range) oriented-right)
@@ -145,5 +140,5 @@ pub input-rule : InputRule
 input-rule =
     record {
       reversed = reversed-in;
-      taken = λ img s octave settings k i in-range z l angle. taken s octave settings k _ in-range z (orient-rule .passed img s k i l) angle;
+      taken = λ s octave settings k turn in-range z angle. taken s octave settings k (orientedOf k turn) in-range z refl refl refl refl angle;
     }

@@ -1,11 +1,9 @@
 -- Law: what is proved of the descriptor's inputs beyond the entry's contract: proofs/Rules.antt proves each. Definitions only.
-use Prim.Native.Nat.{ℕ, _<_, _≤_}
+use Prim.Native.Nat.{ℕ, _≤_}
 use mathlib.Core.Path.{_≡_}
 use mathlib.Core.Bool.{true}
-use mathlib.Core.List.{List}
-use lib.ListN.{length, getD}
 use lib.IntN.{pos}
-use lib.Ieee.{Float, nan}
+use lib.Ieee.{Float}
 use Rattle.ieee.specs.Numbers.{nought, wholeTurn}
 use Rattle.params.specs.Limits.{maxOctave, scaleLow, scaleHigh}
 use Rattle.params.specs.Table.{within}
@@ -15,7 +13,6 @@ use Rattle.detect_keypoint.specs.Sound.{Sound}
 use Rattle.detect_keypoint.specs.declared.RawKeypoint.{RawKeypoint}
 use Rattle.orient_words.specs.Oriented.{orientedOf}
 use Rattle.orient_words.specs.declared.OrientedKeypoint.{OrientedKeypoint}
-use Rattle.orient.specs.Entry.{orientedList}
 use Rattle.descriptor_inputs.specs.Inputs.{reversedOf, givenOf, inputsOf}
 
 -- the oriented keypoint of that octave is accepted, and its scale and angle lie where the descriptor takes them
@@ -27,7 +24,6 @@ pub record Taken (o : OrientedKeypoint) (octave : ℕ) : Type 0 where
 pub record InputRule : Type 0 where
   -- an angle in 0 to 360 is reversed to one in 0 to 360
   pub reversed : (angle : Float) → within nought wholeTurn angle ≡ true → within nought wholeTurn (reversedOf angle) ≡ true
-  -- every oriented keypoint that orientation gives for a keypoint of detection, its angle in 0 to 360
-  pub taken : (img : List Float) (s : Size) (octave : ℕ) (settings : Settings) (k : RawKeypoint) (i : ℕ) → octave ≤ maxOctave → Sound (s .width) (s .height) settings octave k
-      → i < length (orientedList img s k) → within nought wholeTurn (getD (orientedList img s k) i (orientedOf k nan) .angle) ≡ true
-      → Taken (getD (orientedList img s k) i (orientedOf k nan)) octave
+  -- a keypoint of detection with any angle in 0 to 360, as orientation gives it
+  pub taken : (s : Size) (octave : ℕ) (settings : Settings) (k : RawKeypoint) (angle : Float) → octave ≤ maxOctave → Sound (s .width) (s .height) settings octave k
+      → within nought wholeTurn angle ≡ true → Taken (orientedOf k angle) octave

@@ -90,6 +90,9 @@ module _ (img : List Float) (good : allGood img ≡ true) where
 
 -- ---- an oriented keypoint of a sound one
 
+passed-is : (k : RawKeypoint) (o : OrientedKeypoint) → Passed k o → o ≡ orientedOf k (o .angle)
+passed-is k o p = rw (← p .x, ← p .y, ← p .size, ← p .response, ← p .octave) refl
+
 module _ (img : List Float) (z : Size) (octave : ℕ) (s : Settings) (k : RawKeypoint) (wide : z .width ≤ maxSide) (high : z .height ≤ maxSide) (low : octave ≤ maxOctave) (good : Sound (z .width) (z .height) s octave k) (i : ℕ) (l : i < length (orientedList img z k)) where
   abbrev given : OrientedKeypoint
   given = getD (orientedList img z k) i (orientedOf k nan)
@@ -102,7 +105,7 @@ module _ (img : List Float) (z : Size) (octave : ℕ) (s : Settings) (k : RawKey
     turn-in = rw (turn .least, lt-le (given .angle) wholeTurn (turn .below))
 
     taken : Taken given octave
-    taken = input-rule .taken img z octave s k i low good l turn-in
+    taken = subst (λ (o : OrientedKeypoint). Taken o octave) (sym (passed-is k given passed)) (input-rule .taken z octave s k (given .angle) low good turn-in)
 
     abbrev inputs : Inputs
     inputs = inputsOf given (pos octave)

@@ -1,4 +1,8 @@
-use Rattle.detect_keypoint.specs.Keypoint.{keypointWith}
+use mathlib.Core.Path.{sym, ap, _∙_}
+use Rattle.ieee.specs.F32.{_⊕_, _⊗_, _⊘_}
+use Rattle.ieee.specs.Numbers.{two}
+use Rattle.hal.specs.Exp.{exp2Of}
+use Rattle.detect_keypoint.specs.Keypoint.{octaveWord, keypointWith}
 use Rattle.detect_keypoint.proofs.Codes.{word-is}
 use Rattle.detect_keypoint.proofs.Offsets.{small-xi}
 use native.Mathlib.Omega.{arith}
@@ -70,8 +74,23 @@ returns c =
     let x = y .before .before in
     let l = x .before .before in
     let p = l .before .before in
-    let a = p .before .before .args in
-    rw (← k .code-of .ensures .0, word-is (a .s .octave) (a .k .p) (k .code-of .result) (omega arith) (omega arith) (k .code-of .ensures .1), n .narrow .ensures .0, y .float4 .ensures, x .float3 .ensures, x .before .exp2 .ensures, l .float2 .ensures, p .float .ensures, p .before .scale-of .ensures)
+    let b = p .before .before in
+    let a = b .args in
+    let scale = p .before .scale-of .ensures in
+    let power = x .before .exp2 .ensures ∙ (λ i. exp2Of ((p .float .ensures i ⊕ a .o .xi) ⊘ l .float2 .ensures i)) in
+    let word = sym (word-is (a .s .octave) (a .k .p) (k .code-of .result) (b .pre .0 .0) (b .pre .0 .2) (k .code-of .ensures .1)) ∙ ap (octaveWord (a .s .octave) (a .k .p)) (k .code-of .ensures .0) in
+    λ i. record {
+      x = (x .float3 .ensures i ⊕ a .o .xc) ⊗ scale i;
+      y = (y .float4 .ensures i ⊕ a .o .xr) ⊗ scale i;
+      size = n .narrow .ensures .0 i ⊗ power i ⊗ scale i ⊗ two;
+      response = a .response;
+      octave = word i;
+      layer = a .k .p;
+      xi = a .o .xi;
+      cc = a .k .c;
+      rr = a .k .r;
+      moves = a .moves;
+    }
 
 pub keypoint-of-spec : {M : Type 1} → statement M
 keypoint-of-spec =

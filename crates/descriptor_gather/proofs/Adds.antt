@@ -20,21 +20,21 @@ use Rattle.descriptor_patch.specs.declared.Sample.{Sample}
 use Rattle.descriptor_patch.specs.declared.Patch.{Patch}
 use Rattle.descriptor_run.proofs.Runs.{over-cells}
 use Rattle.descriptor_run.proofs.Rules.{good-part}
-use Rattle.descriptor_shares.specs.Sharing.{spotOf}
+use Rattle.descriptor_shares.specs.Sharing.{spreadOf}
 use Rattle.descriptor_grid.specs.Grid.{scattered, gatheredIn}
 use Rattle.descriptor_gather.specs.Gather.{sampleIn}
 
 pub gathered-append : (angle : Float) (h : List Float) (xs ys : List Sample) → gatheredIn angle h (xs ++ ys) ≡ gatheredIn angle (gatheredIn angle h xs) ys
 unfolding gatheredIn
 gathered-append angle h [] ys = refl
-gathered-append angle h (x ∷ xs) ys = gathered-append angle (scattered h (spotOf angle x)) xs ys
+gathered-append angle h (x ∷ xs) ys = gathered-append angle (scattered h (spreadOf angle x)) xs ys
 
 -- ss was gathered in h₀, which made it h, and counted
 pub record Holds (angle : Float) (h₀ : List Float) (ss : List Sample) (h : List Float) (n : ℕ) : Type 0 where
   pub held : h ≡ gatheredIn angle h₀ ss
   pub count : n ≡ length ss
 
-pub holds-used : (angle : Float) (h h' : List Float) (s s' : Sample) (g : Bool) → g ≡ true → s ≡ s' → h' ≡ scattered h (spotOf angle s) → Holds angle h (cond g (s' ∷ []) []) h' 1
+pub holds-used : (angle : Float) (h h' : List Float) (s s' : Sample) (g : Bool) → g ≡ true → s ≡ s' → h' ≡ scattered h (spreadOf angle s) → Holds angle h (cond g (s' ∷ []) []) h' 1
 unfolding gatheredIn
 holds-used angle h h' s s' g p e q = rw (p, ← e) (record { held = q; count = refl })
 

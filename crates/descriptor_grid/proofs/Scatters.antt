@@ -1,4 +1,4 @@
--- The four pairs of a spot, with the tests and places that the code has. Assumes nothing.
+-- The four pairs of a spread, with the tests and places that the code has. Assumes nothing.
 use Prim.Native.Nat.{ℕ, _+_, _≤_}
 use mathlib.Core.Path.{_≡_, refl, sym, _∙_}
 use mathlib.Core.Bool.{Bool, true, false, _&&_}
@@ -11,9 +11,9 @@ use Rattle.lists.proofs.Bools.{and-true}
 use Rattle.descriptor_values.specs.Places.{slots, rowPlaces, place}
 use Rattle.descriptor_grid.specs.Grid.{live, when, scattered}
 use Rattle.descriptor_shares.specs.Reach.{Inside}
-use Rattle.descriptor_shares.specs.declared.Spot.{Spot}
+use Rattle.descriptor_shares.specs.declared.Spread.{Spread}
 
--- a row or column that a spot has, and the next one
+-- a row or column that a spread has, and the next one
 live-here : (r : ℕ) → r ≤ 4 → live r ≡ leb 1 r
 unfolding live
 live-here r h = rw (le-leb r 4 h) (and-true (leb 1 r))
@@ -26,7 +26,7 @@ live-next r h = let a : leb 1 (r + 1) ≡ true = le-leb 1 (r + 1) (omega arith) 
     go true e = let l = leb-true r 3 e in le-leb (r + 1) 4 (omega arith) ∙ sym e
     go false e = let l = leb-false r 3 e in lt-leb (r + 1) 4 (omega arith) ∙ sym e
 
-pub four : (p : Spot) (h : List Float) {h1 h2 : List Float} → Inside p
+pub four : (p : Spread) (h : List Float) {h1 h2 : List Float} → Inside p
     → h1 ≡ when (leb 1 (p .row) && leb (p .col) 3) (when (leb 1 (p .row) && leb 1 (p .col)) h (place (p .row) (p .col) (p .slot)) (p .shares .v000) (p .shares .v001)) (place (p .row) (p .col) (p .slot) + slots) (p .shares .v010) (p .shares .v011)
     → h2 ≡ when (leb (p .row) 3 && leb (p .col) 3) (when (leb (p .row) 3 && leb 1 (p .col)) h1 (place (p .row) (p .col) (p .slot) + rowPlaces) (p .shares .v100) (p .shares .v101)) (place (p .row) (p .col) (p .slot) + rowPlaces + slots) (p .shares .v110) (p .shares .v111)
     → h2 ≡ scattered h p

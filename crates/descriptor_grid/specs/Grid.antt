@@ -9,8 +9,8 @@ use Rattle.ieee.specs.F32.{_⊕_}
 use Rattle.ieee.specs.Numbers.{nought}
 use Rattle.descriptor_values.specs.Places.{places, place}
 use Rattle.descriptor_patch.specs.declared.Sample.{Sample}
-use Rattle.descriptor_shares.specs.Sharing.{spotOf}
-use Rattle.descriptor_shares.specs.declared.Spot.{Spot}
+use Rattle.descriptor_shares.specs.Sharing.{spreadOf}
+use Rattle.descriptor_shares.specs.declared.Spread.{Spread}
 
 abbrev pub addAt : List Float → ℕ → Float → List Float
 addAt h i a = set h i (getD h i nan ⊕ a)
@@ -27,7 +27,7 @@ unfoldable pub live : ℕ → Bool
 live r = leb 1 r && leb r 4
 
 -- the eight shares in the source's order; pairs of the outer ring are left out
-unfoldable pub scattered : List Float → Spot → List Float
+unfoldable pub scattered : List Float → Spread → List Float
 scattered h p =
     let r = p .row in
     let c = p .col in
@@ -44,7 +44,7 @@ scattered h p =
 -- from an empty histogram, sample by sample
 unfoldable pub gatheredIn : Float → List Float → List Sample → List Float
 gatheredIn angle h [] = h
-gatheredIn angle h (s ∷ ss) = gatheredIn angle (scattered h (spotOf angle s)) ss
+gatheredIn angle h (s ∷ ss) = gatheredIn angle (scattered h (spreadOf angle s)) ss
 
 unfoldable pub gathered : Float → List Sample → List Float
 gathered angle ss = gatheredIn angle (replicate places nought) ss

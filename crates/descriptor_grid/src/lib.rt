@@ -1,13 +1,13 @@
 // The histogram of 6 by 6 cells of 10 slots, and what a sample adds to it: `scatter` of the source, a sample at a time.
 
 use descriptor_shares::Landed;
-use descriptor_shares::Spot;
+use descriptor_shares::Spread;
 ghost use mathlib.Core.Path.{_≡_};
 ghost use mathlib.Core.Bool.{_&&_};
 ghost use Prim.Native.Nat.{_+_, _<_};
 ghost use lib.Dec.{leb};
 ghost use Rattle.descriptor_values.specs.Places.{slots, places};
-ghost use Rattle.descriptor_shares.specs.Sharing.{spotOf};
+ghost use Rattle.descriptor_shares.specs.Sharing.{spreadOf};
 ghost use Rattle.descriptor_shares.specs.Reach.{Lent, Settled, Inside};
 ghost use Rattle.descriptor_grid.specs.Grid.{pairAt, when, scattered};
 
@@ -56,7 +56,7 @@ fn row_if(t: bool, hist: &mut [f32; 360], i: usize, col: usize, s: RowShares)
 }
 
 // The eight shares in the source's order; a row on lies the places of a row on. Pairs of the outer ring, which no value is made of, are left out: first by row, then by column.
-fn scatter(hist: &mut [f32; 360], p: Spot)
+fn scatter(hist: &mut [f32; 360], p: Spread)
     requires { ⌜ Inside p ⌝ }
     ensures { λ _. ⌜ now (hist .exit) ≡ scattered (now (hist .entry)) p ⌝ }
 {
@@ -88,10 +88,10 @@ pub fn add(
     l: Landed,
 )
     requires { ⌜ Lent (now pairs) (now cubics) (now turns) × Settled angle l ⌝ }
-    ensures { λ _. ⌜ now (hist .exit) ≡ scattered (now (hist .entry)) (spotOf angle (l .sample)) ⌝ }
+    ensures { λ _. ⌜ now (hist .exit) ≡ scattered (now (hist .entry)) (spreadOf angle (l .sample)) ⌝ }
 {
     scatter(
         hist,
-        descriptor_shares::spot_of(pairs, cubics, turns, angle, l),
+        descriptor_shares::spread_of(pairs, cubics, turns, angle, l),
     );
 }

@@ -1,4 +1,4 @@
--- The laws of a spot and of the histogram that specs/GridRules.antt states. Assumes nothing.
+-- The laws of a spread and of the histogram that specs/GridRules.antt states. Assumes nothing.
 use Prim.Native.Nat.{ℕ, _+_}
 use mathlib.Core.Path.{_≡_, refl, sym, _∙_, subst}
 use mathlib.Core.Bool.{true}
@@ -24,14 +24,14 @@ use Rattle.lists.specs.Each.{Each}
 use Rattle.descriptor_patch.specs.declared.Sample.{Sample}
 use Rattle.descriptor_values.specs.Places.{places}
 use Rattle.descriptor_laws.specs.ValuesRules.{Held}
-use Rattle.descriptor_shares.specs.Sharing.{spotOf}
+use Rattle.descriptor_shares.specs.Sharing.{spreadOf}
 use Rattle.descriptor_grid.specs.Grid.{gathered}
 use Rattle.descriptor_shares.specs.Reach.{Lands}
 use Rattle.descriptor_shares.specs.declared.Shares.{Shares}
-use Rattle.descriptor_shares.specs.declared.Spot.{Spot}
+use Rattle.descriptor_shares.specs.declared.Spread.{Spread}
 use Rattle.descriptor_shares.proofs.Steps.{lowered, step}
 use Rattle.descriptor_shares.proofs.Floors.{Floored}
-use Rattle.descriptor_shares.proofs.Spots.{turnOf, row, col, slot, is-spot, spot-inside}
+use Rattle.descriptor_shares.proofs.Spreads.{turnOf, row, col, slot, is-spread, spread-inside}
 use Rattle.descriptor_laws.specs.GridRules.{mostShare, Eight, Counts, Flat, GridRule}
 use Rattle.descriptor_laws.proofs.Parts.{Part, Top, split-product, shares-in}
 use Rattle.descriptor_laws.proofs.Sums.{held-add, held-none, none-add}
@@ -88,12 +88,12 @@ empty-part dx dy h p q = record { bounds = rw (flat-magnitude dx dy h p q) (boun
 
 -- ---- a sample's shares
 
-spot-parts : (angle : Float) (s : Sample) (l : Lands angle s) {top : Float} → Top top → Part top (magnitudeOf (s .dx) (s .dy)) → inDown (s .fall) ≡ true → Eight (Part top) (spotOf angle s .shares)
-spot-parts angle s l {top} t p h =
+spread-parts : (angle : Float) (s : Sample) (l : Lands angle s) {top : Float} → Top top → Part top (magnitudeOf (s .dx) (s .dy)) → inDown (s .fall) ≡ true → Eight (Part top) (spreadOf angle s .shares)
+spread-parts angle s l {top} t p h =
     let r = row angle s l in
     let c = col angle s l in
     let o = slot angle s l in
-    subst (λ (q : Spot). Eight (Part top) (q .shares)) (is-spot angle s l)
+    subst (λ (q : Spread). Eight (Part top) (q .shares)) (is-spread angle s l)
     (shares-in t (split-product t p (weight-bounds (s .fall) h)) (past-bounds (s .rbin) (r .at) (r .is)) (past-bounds (s .cbin) (c .at) (c .is)) (past-bounds (turnOf angle s) (o .at) (o .is)))
 
 eight-to : {P Q : Float → Type 0} {p : Shares} → ((x : Float) → P x → Q x) → Eight P p → Eight Q p
@@ -113,22 +113,22 @@ part-in : (x : Float) → Part mostShare x → In nought mostShare x
 unfolding ofBits
 part-in x p = record { least = subst T (sym (p .bounds .low)) tt; most = subst T (sym (p .bounds .high)) tt }
 
-counted-parts : (angle : Float) (s : Sample) → Counts angle s → Eight (Part mostShare) (spotOf angle s .shares)
-counted-parts angle s c = spot-parts angle s (c .lands) full-top (magnitude-part (s .dx) (s .dy) (c .lands .slopes)) (c .fall)
+counted-parts : (angle : Float) (s : Sample) → Counts angle s → Eight (Part mostShare) (spreadOf angle s .shares)
+counted-parts angle s c = spread-parts angle s (c .lands) full-top (magnitude-part (s .dx) (s .dy) (c .lands .slopes)) (c .fall)
 
 -- ---- the histogram
 
 held-places : (angle : Float) (ss : List Sample) → Each (Counts angle) ss → Places Held (gathered angle ss)
 unfolding gathered
 held-places angle ss e =
-    gathered-kept angle (λ s c. (spot-inside angle s (c .lands), eight-to (λ a p. record { kept = λ x h. held-add x a (p .bounds) h }) (counted-parts angle s c))) e (places-of held-none)
+    gathered-kept angle (λ s c. (spread-inside angle s (c .lands), eight-to (λ a p. record { kept = λ x h. held-add x a (p .bounds) h }) (counted-parts angle s c))) e (places-of held-none)
 
 flat-places : (angle : Float) (ss : List Sample) → Each (Flat angle) ss → Places (λ x. x ≡ nought) (gathered angle ss)
 unfolding gathered
 flat-places angle ss e =
     gathered-kept angle
     (λ s c.
-    (spot-inside angle s (c .counts .lands), eight-to (λ a p. record { kept = λ x h. none-add x a (p .bounds) h }) (spot-parts angle s (c .counts .lands) empty-top (empty-part (s .dx) (s .dy) (c .counts .lands .slopes) (c .dx) (c .dy)) (c .counts .fall))))
+    (spread-inside angle s (c .counts .lands), eight-to (λ a p. record { kept = λ x h. none-add x a (p .bounds) h }) (spread-parts angle s (c .counts .lands) empty-top (empty-part (s .dx) (s .dy) (c .counts .lands .slopes) (c .dx) (c .dy)) (c .counts .fall))))
     e (places-of refl)
 
 gathered-count : (angle : Float) (ss : List Sample) → length (gathered angle ss) ≡ places
@@ -138,7 +138,7 @@ gathered-count angle ss = gathered-length angle (replicate places nought) ss ∙
 pub grid-rule : GridRule
 grid-rule =
     record {
-      inside = spot-inside;
+      inside = spread-inside;
       shares = λ angle s c. eight-to part-in (counted-parts angle s c);
       count = gathered-count;
       held = λ angle ss e. held-places angle ss e .each;

@@ -13,10 +13,10 @@ use Rattle.ieee.specs.F32.{_⊕_}
 use Rattle.ieee.specs.Numbers.{nought}
 use Rattle.descriptor_patch.specs.declared.Sample.{Sample}
 use Rattle.descriptor_values.specs.Places.{places, place}
-use Rattle.descriptor_shares.specs.Sharing.{spotOf}
+use Rattle.descriptor_shares.specs.Sharing.{spreadOf}
 use Rattle.descriptor_grid.specs.Grid.{addAt, pairAt, when, live, scattered, gatheredIn}
 use Rattle.descriptor_shares.specs.Reach.{Inside}
-use Rattle.descriptor_shares.specs.declared.Spot.{Spot}
+use Rattle.descriptor_shares.specs.declared.Spread.{Spread}
 use Rattle.lists.specs.Each.{Each, none, more}
 use Rattle.descriptor_laws.specs.GridRules.{Eight}
 
@@ -50,7 +50,7 @@ module _ {P : Float → Type 0} where
   when-kept true i l f g p = pair-at i l f g p
   when-kept false i l f g p = p
 
-  pub scattered-kept : {h : List Float} (p : Spot) → Inside p → Eight (Adds P) (p .shares) → Places P h → Places P (scattered h p)
+  pub scattered-kept : {h : List Float} (p : Spread) → Inside p → Eight (Adds P) (p .shares) → Places P h → Places P (scattered h p)
   unfolding scattered
   scattered-kept p i s q =
       let a = i .row in
@@ -63,11 +63,11 @@ module _ {P : Float → Type 0} where
 
   -- sample by sample
   pub gathered-kept : {Q : Sample → Type 0} (angle : Float) {h : List Float} {ss : List Sample}
-      → ((s : Sample) → Q s → Inside (spotOf angle s) × Eight (Adds P) (spotOf angle s .shares)) → Each Q ss → Places P h → Places P (gatheredIn angle h ss)
+      → ((s : Sample) → Q s → Inside (spreadOf angle s) × Eight (Adds P) (spreadOf angle s .shares)) → Each Q ss → Places P h → Places P (gatheredIn angle h ss)
   unfolding gatheredIn
   gathered-kept angle f none p = p
   gathered-kept angle f (more {x = s} q qs) p =
-      let g = f s q in gathered-kept angle f qs (scattered-kept (spotOf angle s) (g .0) (g .1) p)
+      let g = f s q in gathered-kept angle f qs (scattered-kept (spreadOf angle s) (g .0) (g .1) p)
 
 pub places-of : {P : Float → Type 0} → P nought → Places P (replicate places nought)
 places-of {P} p =
@@ -89,11 +89,11 @@ unfolding when
 when-length true h i a b = pair-length h i a b
 when-length false h i a b = refl
 
-scattered-length : (h : List Float) (p : Spot) → length (scattered h p) ≡ length h
+scattered-length : (h : List Float) (p : Spread) → length (scattered h p) ≡ length h
 unfolding scattered
 scattered-length h p = simp when-length
 
 pub gathered-length : (angle : Float) (h : List Float) (ss : List Sample) → length (gatheredIn angle h ss) ≡ length h
 unfolding gatheredIn
 gathered-length angle h [] = refl
-gathered-length angle h (s ∷ ss) = gathered-length angle (scattered h (spotOf angle s)) ss ∙ scattered-length h (spotOf angle s)
+gathered-length angle h (s ∷ ss) = gathered-length angle (scattered h (spreadOf angle s)) ss ∙ scattered-length h (spreadOf angle s)

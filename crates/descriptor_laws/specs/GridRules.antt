@@ -1,4 +1,4 @@
--- Law: what is proved of a spot and of the histogram that samples make: proofs/GridRules.antt proves each. Definitions only.
+-- Law: what is proved of a spread and of the histogram that samples make: proofs/GridRules.antt proves each. Definitions only.
 use Prim.Native.Nat.{ℕ, _<_}
 use mathlib.Core.Path.{_≡_}
 use mathlib.Core.Bool.{true}
@@ -13,7 +13,7 @@ use Rattle.lists.specs.Each.{Each}
 use Rattle.descriptor_patch.specs.declared.Sample.{Sample}
 use Rattle.descriptor_values.specs.Places.{places}
 use Rattle.descriptor_laws.specs.ValuesRules.{Held}
-use Rattle.descriptor_shares.specs.Sharing.{spotOf}
+use Rattle.descriptor_shares.specs.Sharing.{spreadOf}
 use Rattle.descriptor_grid.specs.Grid.{gathered}
 use Rattle.descriptor_shares.specs.Reach.{Lands, Inside}
 use Rattle.descriptor_shares.specs.declared.Shares.{Shares}
@@ -46,9 +46,9 @@ pub record Flat (angle : Float) (s : Sample) : Type 0 where
 
 pub record GridRule : Type 0 where
   -- rows and columns 0 to 4, slots 0 to 7: none of the eight places leaves the histogram
-  pub inside : (angle : Float) (s : Sample) → Lands angle s → Inside (spotOf angle s)
+  pub inside : (angle : Float) (s : Sample) → Lands angle s → Inside (spreadOf angle s)
   -- every share lies in 0 to 2 ^ 22
-  pub shares : (angle : Float) (s : Sample) → Counts angle s → Eight (In nought mostShare) (spotOf angle s .shares)
+  pub shares : (angle : Float) (s : Sample) → Counts angle s → Eight (In nought mostShare) (spreadOf angle s .shares)
   -- 360 places
   pub count : (angle : Float) (ss : List Sample) → length (gathered angle ss) ≡ places
   -- each holds 0 to 2 ^ 46, however many samples there are, and no minus zero

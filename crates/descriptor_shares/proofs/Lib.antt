@@ -1,3 +1,3 @@
 pub mod Steps
 pub mod Floors
-pub mod Spots
+pub mod Spreads

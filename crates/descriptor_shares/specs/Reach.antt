@@ -1,4 +1,4 @@
--- Inner: what the code asks of a sample, of a number and of the tables, what a split is, and what is said of a spot. No part of what a caller is promised. Definitions only.
+-- Inner: what the code asks of a sample, of a number and of the tables, what a split is, and what is said of a spread. No part of what a caller is promised. Definitions only.
 use Prim.Native.Nat.{ℕ, _≤_}
 use mathlib.Core.Path.{_≡_}
 use mathlib.Core.Bool.{true}
@@ -14,7 +14,7 @@ use Rattle.hal.specs.Exp.{inDown}
 use Rattle.descriptor_patch.specs.Patch.{inGrid}
 use Rattle.descriptor_patch.specs.declared.Sample.{Sample}
 use Rattle.descriptor_shares.specs.Sharing.{floorI}
-use Rattle.descriptor_shares.specs.declared.Spot.{Spot}
+use Rattle.descriptor_shares.specs.declared.Spread.{Spread}
 use Rattle.descriptor_shares.specs.declared.Split.{Split}
 use Rattle.descriptor_shares.specs.declared.Landed.{Landed}
 
@@ -51,8 +51,8 @@ pub record Settled (angle : Float) (l : Landed) : Type 0 where
   pub row : l .row ≡ splitOf (l .sample .rbin)
   pub col : l .col ≡ splitOf (l .sample .cbin)
 
--- none of a spot's eight places leaves the histogram
-pub record Inside (p : Spot) : Type 0 where
+-- none of a spread's eight places leaves the histogram
+pub record Inside (p : Spread) : Type 0 where
   pub row : p .row ≤ 4
   pub col : p .col ≤ 4
   pub slot : p .slot ≤ 7

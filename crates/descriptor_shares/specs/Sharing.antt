@@ -11,7 +11,7 @@ use Rattle.hal_magnitude.specs.Magnitude.{magnitudeOf}
 use Rattle.descriptor_values.specs.Places.{bins}
 use Rattle.descriptor_patch.specs.declared.Sample.{Sample}
 use Rattle.descriptor_shares.specs.declared.Shares.{Shares}
-use Rattle.descriptor_shares.specs.declared.Spot.{Spot}
+use Rattle.descriptor_shares.specs.declared.Spread.{Spread}
 
 -- 8 / 360
 abbrev pub binsPerDegree : Float
@@ -52,8 +52,8 @@ sharesOf m rb cb ob =
     }
 
 -- a sample's shares and where they go, in a patch that is turned by `angle`
-unfoldable pub spotOf : Float → Sample → Spot
-spotOf angle s =
+unfoldable pub spreadOf : Float → Sample → Spread
+spreadOf angle s =
     let turn = (angleOf (s .dx) (s .dy) ⊖ angle) ⊗ binsPerDegree in
     let r0 = floorI (s .rbin) in
     let c0 = floorI (s .cbin) in

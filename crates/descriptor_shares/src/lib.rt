@@ -1,7 +1,7 @@
 // Where a sample lands in the grid, and its eight shares.
 
 ghost use mathlib.Core.Path.{_≡_};
-ghost use Rattle.descriptor_shares.specs.Sharing.{sharesOf, spotOf};
+ghost use Rattle.descriptor_shares.specs.Sharing.{sharesOf, spreadOf};
 ghost use Rattle.descriptor_shares.specs.Reach.{Near, splitOf, Lent, Settled, Inside};
 
 // A sample's eight shares: by row, column and slot of the grid, each the nearer one (0) or the next (1).
@@ -17,7 +17,7 @@ pub struct Shares {
 }
 
 // Where a sample's shares go: row and column of the 6 by 6 cells, and the first of its two slots.
-pub struct Spot {
+pub struct Spread {
     pub row: usize,
     pub col: usize,
     pub slot: usize,
@@ -80,15 +80,15 @@ fn shares_of(m: f32, rb: f32, cb: f32, ob: f32) -> Shares
 }
 
 // A sample's shares and where they go, in a patch that is turned by `angle`. -1 is row 63 of 64 by its digits, and so 0 after one more.
-pub fn spot_of(
+pub fn spread_of(
     pairs: &[u32; 512],
     cubics: &[f64; 256],
     turns: &[f32; 272],
     angle: f32,
     l: Landed,
-) -> Spot
+) -> Spread
     requires { ⌜ Lent (now pairs) (now cubics) (now turns) × Settled angle l ⌝ }
-    ensures { λ r. ⌜ (r ≡ spotOf angle (l .sample)) × Inside r ⌝ }
+    ensures { λ r. ⌜ (r ≡ spreadOf angle (l .sample)) × Inside r ⌝ }
 {
     let s = l.sample;
     let r = l.row;
@@ -96,7 +96,7 @@ pub fn spot_of(
     let m = hal_magnitude::magnitude_in(cubics, s.dx, s.dy) * hal::exp_in(pairs, s.fall);
     // 8 / 360 slots a degree
     let o = split_of((hal_angle::angle_in(turns, s.dx, s.dy) - angle) * 0.022222223);
-    Spot {
+    Spread {
         row: ((r.bits + 1) % 64) as usize,
         col: ((c.bits + 1) % 64) as usize,
         slot: (o.bits % 8) as usize,

@@ -1,7 +1,7 @@
 use mathlib.Core.Path.{_≡_, sym, _∙_}
 use mathlib.Core.Bool.{true, false}
 use Rattle.descriptor_patch.specs.Patch.{rotsOf, gridAt, sampleAt}
-use Rattle.descriptor_shares.proofs.Spots.{grid-near}
+use Rattle.descriptor_shares.proofs.Spreads.{grid-near}
 use Rattle.descriptor_gather.specs.Gather.{sampleIn}
 use Rattle.descriptor_gather.proofs.Adds.{holds-used, holds-unused}
 use Rattle.descriptor_gather.proofs.Cells.{Tested, grid-above, grid-beside, grid-in, settled}

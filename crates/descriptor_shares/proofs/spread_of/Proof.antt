@@ -1,11 +1,11 @@
 use mathlib.Core.Path.{sym, _∙_, subst}
 use Rattle.descriptor_shares.specs.Reach.{Inside}
-use Rattle.descriptor_shares.proofs.Spots.{turn-near, row-fits, col-fits, spot-split, spot-inside}
+use Rattle.descriptor_shares.proofs.Spreads.{turn-near, row-fits, col-fits, spread-split, spread-inside}
 use borrow.Author.Needs.{needs}
-use Rattle.descriptor_shares.proofs.spot_of.Statement.{statement}
-use Rattle.descriptor_shares.proofs.spot_of.Tie as tie
-use Rattle.descriptor_shares.proofs.spot_of.Reads as reads
-use Rattle.descriptor_shares.proofs.spot_of.Lts as lts
+use Rattle.descriptor_shares.proofs.spread_of.Statement.{statement}
+use Rattle.descriptor_shares.proofs.spread_of.Tie as tie
+use Rattle.descriptor_shares.proofs.spread_of.Reads as reads
+use Rattle.descriptor_shares.proofs.spread_of.Lts as lts
 use Rattle.descriptor_shares.proofs.shares_of.Reads as shares-of-reads
 use Rattle.descriptor_shares.proofs.split_of.Reads as split-of-reads
 use Rattle.hal_angle.proofs.angle_in.Reads as angle-in-reads
@@ -59,12 +59,12 @@ returns c =
     let b = m .before .before .before .before in
     let h = b .pre .1 in
     let k =
-    spot-split (b .args .angle) (b .args .l) h (o .split-of .result) (c .shares-of .result) (o .split-of .ensures ∙ rw (a .angle-in .ensures))
+    spread-split (b .args .angle) (b .args .l) h (o .split-of .result) (c .shares-of .result) (o .split-of .ensures ∙ rw (a .angle-in .ensures))
     (c .shares-of .ensures ∙ rw (m .magnitude-in .ensures, e .exp-in .ensures)) in
-    (k, subst Inside (sym k) (spot-inside (b .args .angle) (b .args .l .sample) (h .lands)))
+    (k, subst Inside (sym k) (spread-inside (b .args .angle) (b .args .l .sample) (h .lands)))
 
-pub spot-of-spec : {M : Type 1} → statement M
-spot-of-spec =
+pub spread-of-spec : {M : Type 1} → statement M
+spread-of-spec =
     tie.close
     (tie.spec
     magnitude-in-requires

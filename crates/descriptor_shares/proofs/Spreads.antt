@@ -1,4 +1,4 @@
--- A sample's spot: its row, column and slot lie in the histogram. Assumes nothing.
+-- A sample's spread: its row, column and slot lie in the histogram. Assumes nothing.
 use Prim.Native.Nat.{ℕ, _+_, _-_, _%_, _^_, _≤_, _<_}
 use mathlib.Core.Path.{_≡_, refl, sym, _∙_, subst}
 use mathlib.Core.Bool.{Bool, true, false, _&&_, false≢true}
@@ -21,9 +21,9 @@ use Rattle.hal_magnitude.specs.Magnitude.{magnitudeOf}
 use Rattle.hal_angle.proofs.Rules.{angle-rule}
 use Rattle.descriptor_patch.specs.Patch.{inGrid}
 use Rattle.descriptor_patch.specs.declared.Sample.{Sample}
-use Rattle.descriptor_shares.specs.Sharing.{binsPerDegree, sharesOf, spotOf}
+use Rattle.descriptor_shares.specs.Sharing.{binsPerDegree, sharesOf, spreadOf}
 use Rattle.descriptor_shares.specs.Reach.{Near, Lands, splitOf, Settled, Inside}
-use Rattle.descriptor_shares.specs.declared.Spot.{Spot}
+use Rattle.descriptor_shares.specs.declared.Spread.{Spread}
 use Rattle.descriptor_shares.specs.declared.Shares.{Shares}
 use Rattle.descriptor_shares.specs.declared.Split.{Split}
 use Rattle.descriptor_shares.specs.declared.Landed.{Landed}
@@ -93,24 +93,24 @@ turn-near dx dy angle h k =
     let b = turn-bounds (angleOf dx dy) angle (angle-rule .least dx dy (subst T (sym h) tt)) (angle-rule .below dx dy (subst T (sym h) tt)) k in
     record { low = b .low; high = b .high }
 
--- ---- the spot
+-- ---- the spread
 
 abbrev pub turnOf : Float → Sample → Float
 turnOf angle s = (angleOf (s .dx) (s .dy) ⊖ angle) ⊗ binsPerDegree
 
 -- by the floors, each 8 more, and the shares that they make
-spot-is : (angle : Float) (s : Sample) (r c o : ℕ) (p : Shares) → Floored (s .rbin) r → Floored (s .cbin) c → Floored (turnOf angle s) o
+spread-is : (angle : Float) (s : Sample) (r c o : ℕ) (p : Shares) → Floored (s .rbin) r → Floored (s .cbin) c → Floored (turnOf angle s) o
     → p ≡ sharesOf (magnitudeOf (s .dx) (s .dy) ⊗ expOf (s .fall)) (s .rbin ⊖ floatZ (lowered r)) (s .cbin ⊖ floatZ (lowered c)) (turnOf angle s ⊖ floatZ (lowered o))
-    → _≡_ {A = Spot} (record { row = r - 7; col = c - 7; slot = o % 8; shares = p }) (spotOf angle s)
-unfolding spotOf
-spot-is angle s r c o p f g h e =
+    → _≡_ {A = Spread} (record { row = r - 7; col = c - 7; slot = o % 8; shares = p }) (spreadOf angle s)
+unfolding spreadOf
+spread-is angle s r c o p f g h e =
     let a = step r (let t = f .top in omega arith) in
     let b = step c (let t = g .top in omega arith) in
     let d = step o (let t = h .top in omega arith) in
     rw (f .is, g .is, h .is, a .border, b .border, d .slot, e)
 
-spot-in : (r c o : ℕ) (p : Shares) → r ≤ 11 → c ≤ 11 → Inside (record { row = r - 7; col = c - 7; slot = o % 8; shares = p })
-spot-in r c o p f g = record { row = omega arith; col = omega arith; slot = omega arith }
+spread-in : (r c o : ℕ) (p : Shares) → r ≤ 11 → c ≤ 11 → Inside (record { row = r - 7; col = c - 7; slot = o % 8; shares = p })
+spread-in r c o p f g = record { row = omega arith; col = omega arith; slot = omega arith }
 
 module _ (angle : Float) (s : Sample) (l : Lands angle s) where
   pub row : Found (s .rbin)
@@ -126,11 +126,11 @@ module _ (angle : Float) (s : Sample) (l : Lands angle s) where
   parts =
       sharesOf (magnitudeOf (s .dx) (s .dy) ⊗ expOf (s .fall)) (s .rbin ⊖ floatZ (lowered (row .at))) (s .cbin ⊖ floatZ (lowered (col .at))) (turnOf angle s ⊖ floatZ (lowered (slot .at)))
 
-  abbrev pub spot : Spot
-  spot = record { row = row .at - 7; col = col .at - 7; slot = slot .at % 8; shares = parts }
+  abbrev pub spread : Spread
+  spread = record { row = row .at - 7; col = col .at - 7; slot = slot .at % 8; shares = parts }
 
-  pub is-spot : spot ≡ spotOf angle s
-  is-spot = spot-is angle s (row .at) (col .at) (slot .at) parts (row .is) (col .is) (slot .is) refl
+  pub is-spread : spread ≡ spreadOf angle s
+  is-spread = spread-is angle s (row .at) (col .at) (slot .at) parts (row .is) (col .is) (slot .is) refl
 
   row-range : (7 ≤ row .at) × (row .at ≤ 11)
   row-range = grid-range (s .rbin) (row .at) (l .row) (row .is)
@@ -138,8 +138,8 @@ module _ (angle : Float) (s : Sample) (l : Lands angle s) where
   col-range : (7 ≤ col .at) × (col .at ≤ 11)
   col-range = grid-range (s .cbin) (col .at) (l .col) (col .is)
 
-  pub spot-inside : Inside (spotOf angle s)
-  spot-inside = subst Inside is-spot (spot-in (row .at) (col .at) (slot .at) parts (row-range .1) (col-range .1))
+  pub spread-inside : Inside (spreadOf angle s)
+  spread-inside = subst Inside is-spread (spread-in (row .at) (col .at) (slot .at) parts (row-range .1) (col-range .1))
 
 -- ---- by the digits of the splits
 
@@ -167,9 +167,9 @@ module _ (angle : Float) (l : Landed) (h : Settled angle l) where
   col-fits = bits-fit (sample .cbin) (l .col) (grid-near (sample .cbin) (h .lands .col)) (h .col)
 
   -- what the code makes of the splits
-  pub spot-split : (o : Split) (p : Shares) → o ≡ splitOf (turnOf angle sample) → p ≡ sharesOf (magnitudeOf (sample .dx) (sample .dy) ⊗ expOf (sample .fall)) (l .row .past) (l .col .past) (o .past)
-      → _≡_ {A = Spot} (record { row = (l .row .bits + 1) % 64; col = (l .col .bits + 1) % 64; slot = o .bits % 8; shares = p }) (spotOf angle sample)
-  spot-split o p d e =
+  pub spread-split : (o : Split) (p : Shares) → o ≡ splitOf (turnOf angle sample) → p ≡ sharesOf (magnitudeOf (sample .dx) (sample .dy) ⊗ expOf (sample .fall)) (l .row .past) (l .col .past) (o .past)
+      → _≡_ {A = Spread} (record { row = (l .row .bits + 1) % 64; col = (l .col .bits + 1) % 64; slot = o .bits % 8; shares = p }) (spreadOf angle sample)
+  spread-split o p d e =
       let x = row angle sample (h .lands) in
       let y = col angle sample (h .lands) in
       let z = slot angle sample (h .lands) in
@@ -182,4 +182,4 @@ module _ (angle : Float) (l : Landed) (h : Settled angle l) where
       let g : (l .col .bits + 1) % 64 ≡ y .at - 7 = rw (h .col, b .bits) (digits (y .at) (v .0) (v .1)) in
       let w : o .bits % 8 ≡ z .at % 8 = rw (d, c .bits) (last-digits (z .at)) in
       let q : p ≡ parts angle sample (h .lands) = e ∙ rw (h .row, h .col, d, a .past, b .past, c .past) in
-      rw (f, g, w, q) (is-spot angle sample (h .lands))
+      rw (f, g, w, q) (is-spread angle sample (h .lands))

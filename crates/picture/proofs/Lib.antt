@@ -1,3 +1,3 @@
 pub mod Index
 pub mod Apart
-mod Round
+mod Slopes

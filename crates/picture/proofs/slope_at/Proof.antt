@@ -1,6 +1,6 @@
-use native.Mathlib.Omega.{arith}
 use denote.Ref.{now}
-use Rattle.picture.proofs.Round.{in-right, in-left, in-up, in-down, slope-of}
+use borrow.Author.Needs.{needs}
+use Rattle.picture.proofs.Slopes.{slope-of}
 use Rattle.picture.proofs.slope_at.Statement.{statement}
 use Rattle.picture.proofs.slope_at.Tie as tie
 use Rattle.picture.proofs.slope_at.Reads as reads
@@ -8,28 +8,28 @@ use Rattle.picture.proofs.slope_at.Lts as lts
 use Rattle.picture.proofs.pixel_at.Reads as pixel-at-reads
 
 add-pixel-at : tie.Need-add-pixel-at
-add-pixel-at c = omega (arith, c .before .pre .right, c .before .fits)
+add-pixel-at c = search needs
 
 pixel-at-requires : tie.Need-pixel-at-requires
-pixel-at-requires c κs = in-right (c .before .pre)
+pixel-at-requires c κs = search needs
 
 sub-pixel-at : tie.Need-sub-pixel-at
-sub-pixel-at c = c .before .before .pre .left
+sub-pixel-at c = search needs
 
 pixel-at-requires-2 : tie.Need-pixel-at-requires-2
-pixel-at-requires-2 c κs = in-left (c .before .before .pre)
+pixel-at-requires-2 c κs = search needs
 
 sub-pixel-at-2 : tie.Need-sub-pixel-at-2
-sub-pixel-at-2 c = c .before .before .before .pre .up
+sub-pixel-at-2 c = search needs
 
 pixel-at-requires-3 : tie.Need-pixel-at-requires-3
-pixel-at-requires-3 c κs = in-up (c .before .before .before .pre)
+pixel-at-requires-3 c κs = search needs
 
 add-pixel-at-2 : tie.Need-add-pixel-at-2
-add-pixel-at-2 c = omega (arith, c .before .before .before .before .pre .down, c .before .before .before .before .fits)
+add-pixel-at-2 c = search needs
 
 pixel-at-requires-4 : tie.Need-pixel-at-requires-4
-pixel-at-requires-4 c κs = in-down (c .before .before .before .before .pre)
+pixel-at-requires-4 c κs = search needs
 
 returns : tie.Need-returns
 returns c =

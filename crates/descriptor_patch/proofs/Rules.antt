@@ -12,7 +12,7 @@ use lib.Ieee.Scale.{finite}
 use Rattle.lists.proofs.Bools.{and-both}
 use Rattle.ieee.specs.F32.{_⊕_, _⊖_, _⊗_, f32, absOf}
 use Rattle.ieee.specs.Numbers.{half, two, four, minusOne}
-use Rattle.ieee_laws.specs.Sign.{Turned, of-fin, turned, nought as no-sign}
+use Rattle.ieee_laws.specs.Sign.{Turned, of-fin, turned, no-sign}
 use Rattle.ieee_laws.proofs.Order.{le-or-lt-float, le-trans-float, le-number, lt-le, lt-not-le}
 use Rattle.ieee_laws.proofs.Monotone.{nil, add-le, sub-le}
 use Rattle.ieee_laws.proofs.Bounds.{Bounds, bounds-finite, bounds-point, bounds-wider, add-bounds, mul-bounds, abs-nonneg}

@@ -19,7 +19,7 @@ abbrev pub deriv : Float
 deriv = f32 0x3b00_8081
 
 abbrev pub second : Float
-second = f32 0x3b80_8081
+second = imgScale
 
 abbrev pub cross : Float
 cross = f32 0x3a80_8081

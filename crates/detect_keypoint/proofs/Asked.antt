@@ -8,8 +8,8 @@ use lib.IntN.{pos}
 use lib.Ieee.{Float, fin, binary32, ofBits, ofInt, neg, add, div, lt, le}
 use lib.Ieee.Scale.{finite}
 use Rattle.lists.proofs.Bools.{and-left, and-right, both-and}
-use Rattle.ieee.specs.F32.{_⊕_, _⊘_, _<ᶠ_, f32, absOf, float}
-use Rattle.ieee.specs.Numbers.{half}
+use Rattle.ieee.specs.F32.{_⊕_, _⊘_, _<ᶠ_, absOf, float}
+use Rattle.ieee.specs.Numbers.{half, threeHalves}
 use Rattle.ieee_laws.proofs.Order.{le-trans-float}
 use Rattle.ieee_laws.proofs.Monotone.{nil}
 use Rattle.ieee_laws.proofs.Bounds.{Bounds, bounds-finite, bounds-wider, bounds-point, bounds-above, add-bounds, div-bounds-by, ofInt-bounds, abs-bounds}
@@ -22,7 +22,7 @@ use Rattle.lists.proofs.Every.{every-all}
 
 -- 1.5
 abbrev pub most : Float
-most = f32 0x3fc0_0000
+most = threeHalves
 
 -- ---- for each number of layers: half a layer over them is a number from 0 on, and all of them and a half is at most 1.5
 

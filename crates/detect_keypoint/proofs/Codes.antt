@@ -9,8 +9,8 @@ use lib.IntN.{pos}
 use lib.Ieee.{Float, nan, inf, fin, binary32, up, down, ofBits, neg, add, mul, lt, le, toUnsigned, toSigned}
 use lib.Ieee.Scale.{finite}
 use Rattle.ieee.specs.Whole.{roundEven}
-use Rattle.ieee.specs.F32.{_⊕_, _⊗_, _<ᶠ_, f32, absOf, rounded, toI32}
-use Rattle.ieee.specs.Numbers.{half, topByte}
+use Rattle.ieee.specs.F32.{_⊕_, _⊗_, _<ᶠ_, absOf, rounded, toI32}
+use Rattle.ieee.specs.Numbers.{half, topByte, one}
 use Rattle.ieee_laws.proofs.Order.{le-fin, le-lt-trans, lt-le-trans}
 use Rattle.ieee_laws.proofs.Monotone.{nil, toUnsigned-le}
 use Rattle.ieee_laws.proofs.Bounds.{Bounds, bounds-finite, bounds-point, add-bounds, mul-bounds-by, roundEven-bounds, abs-bounds}
@@ -40,7 +40,7 @@ module _ (xi : Float) (small : (absOf xi <ᶠ half) ≡ true) where
   unfolding ofBits neg add mul roundEven le
   code-bounds =
       roundEven-bounds binary32 {a = nil} {b = topByte} refl refl
-      (mul-bounds-by binary32 {a = nil} {b = f32 0x3f80_0000} topByte refl refl refl refl
+      (mul-bounds-by binary32 {a = nil} {b = one} topByte refl refl refl refl
       (add-bounds binary32 {a = neg half} {b = half} {c = half} {d = half} refl refl (abs-bounds xi half refl small) (bounds-point half refl)))
 
   -- what the cast asks

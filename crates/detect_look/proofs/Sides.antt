@@ -44,7 +44,7 @@ abs-under (inf false) h = clash (sym h)
 abs-under (fin true m e) h = of-fin (turned refl)
 abs-under (fin false m e) h =
     ⊎-elim
-    (λ z. of-fin (sign.nought z))
+    (λ z. of-fin (sign.no-sign z))
     (λ p. let l = ltb-false 0 (m * up e * 1) (sym (after-zero false m e) ∙ h) in
     let g : 0 < m * up e * 1 = mul-pos (mul-pos p (up-pos e)) (omega arith) in absurd (omega arith))
     (eq-zero-or-pos m)

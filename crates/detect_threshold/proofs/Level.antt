@@ -7,6 +7,7 @@ use lib.Ieee.{Float, fin, binary32, binary64, ofBits, ofInt, mul, div, lt, le}
 use Rattle.ieee.specs.Fused.{convert}
 use Rattle.ieee.specs.Whole.{floor}
 use Rattle.ieee.specs.F32.{f32}
+use Rattle.ieee.specs.Numbers.{nought}
 use Rattle.ieee_laws.proofs.Order.{le-lt-trans}
 use Rattle.ieee_laws.proofs.Monotone.{nil}
 use Rattle.ieee_laws.proofs.Bounds.{Bounds, bounds-point, mul-bounds, mul-bounds-by, div-bounds, floor-bounds, convert-bounds, ofInt-bounds}
@@ -36,6 +37,6 @@ module _ (contrast : Float) (right : contrastWrong contrast ≡ false) (layers :
   level-below = le-lt-trans level most (fin false 1 (pos 64)) (level-bounds .high) refl
 
   -- the threshold lies in 0 to 127
-  pub threshold-bounds : Bounds (f32 0) (f32 0x42fe_0000) (thresholdOf contrast layers)
+  pub threshold-bounds : Bounds nought (f32 0x42fe_0000) (thresholdOf contrast layers)
   unfolding thresholdOf ofBits floor convert
   threshold-bounds = convert-bounds binary32 {a = nil} {b = ofBits binary64 0x405f_c000_0000_0000} refl refl (floor-bounds binary64 {a = nil} {b = most} refl refl level-bounds)

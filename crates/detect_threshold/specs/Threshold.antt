@@ -4,9 +4,10 @@ use mathlib.Core.Bool.{Bool, false, _||_, not}
 use mathlib.Core.List.{[], _∷_}
 use lib.Dec.{leb, ltb, eqb}
 use lib.IntN.{pos}
-use lib.Ieee.{Float, fin, binary64, ofBits, ofInt, mul, div}
+use lib.Ieee.{Float, binary64, ofBits, ofInt, mul, div}
 use Rattle.ieee.specs.F32.{narrowed}
 use Rattle.ieee.specs.Whole.{floor}
+use Rattle.ieee.specs.Numbers.{nought}
 use Rattle.params.specs.Limits.{maxLayers}
 use Rattle.params.specs.Table.{line, firstFault, contrastWrong}
 use Rattle.params.specs.Answers.{onFault}
@@ -42,4 +43,4 @@ thresholdNumber (Refused k) = k
 
 abbrev pub thresholdValue : Threshold → Float
 thresholdValue (Given x) = x
-thresholdValue (Refused k) = fin false 0 (pos 0)
+thresholdValue (Refused k) = nought

@@ -4,8 +4,10 @@ use mathlib.Core.Path.{_≡_}
 use mathlib.Core.Bool.{true}
 use mathlib.Core.List.{List, [], _∷_}
 use lib.Dec.{T}
-use lib.Ieee.{Float, binary64, ofBits}
+use lib.Ieee.{Float}
 use Rattle.ieee.specs.F32.{_⊕_, _⊗_, f32, fused, floorOf, rounded}
+use Rattle.ieee.specs.Numbers.{nought, half, threeHalves, two, minusOne}
+use Rattle.params.specs.Limits.{contrastLow, contrastHigh}
 use Rattle.detect_threshold.specs.Threshold.{thresholdOf}
 
 infix 3 _gives_
@@ -27,7 +29,7 @@ answer (threshold contrast layers) = thresholdOf contrast layers
 pub data Row : Type 0 where
   _gives_ : Question → Float → Row
 
--- ---- the floats of the table
+-- ---- the floats that this table alone names; the contrasts 0 and 1 are the least and the largest that are accepted
 
 abbrev pub minusTwo : Float
 minusTwo = f32 0xc000_0000
@@ -35,23 +37,8 @@ minusTwo = f32 0xc000_0000
 abbrev pub minusOneAndAHalf : Float
 minusOneAndAHalf = f32 0xbfc0_0000
 
-abbrev pub minusOne : Float
-minusOne = f32 0xbf80_0000
-
 abbrev pub minusHalf : Float
 minusHalf = f32 0xbf00_0000
-
-abbrev pub nought : Float
-nought = f32 0
-
-abbrev pub half : Float
-half = f32 0x3f00_0000
-
-abbrev pub oneAndAHalf : Float
-oneAndAHalf = f32 0x3fc0_0000
-
-abbrev pub two : Float
-two = f32 0x4000_0000
 
 abbrev pub twoAndAHalf : Float
 twoAndAHalf = f32 0x4020_0000
@@ -73,13 +60,6 @@ c = f32 0xbf80_1000
 abbrev pub small : Float
 small = f32 0x3380_0000
 
--- 0 and 1 as f64s
-abbrev pub noContrast : Float
-noContrast = ofBits binary64 0
-
-abbrev pub fullContrast : Float
-fullContrast = ofBits binary64 0x3ff0_0000_0000_0000
-
 -- ---- the table
 
 abbrev pub marked : List Row
@@ -88,13 +68,13 @@ marked =
     ∷ (floored minusOne gives minusOne)
     ∷ (floored twoAndThreeQuarters gives two)
     ∷ (nearest half gives nought)
-    ∷ (nearest oneAndAHalf gives two)
+    ∷ (nearest threeHalves gives two)
     ∷ (nearest twoAndAHalf gives two)
     ∷ (nearest minusOneAndAHalf gives minusTwo)
     ∷ (fusedOnce a a c gives small)
     ∷ (roundedTwice a a c gives nought)
-    ∷ (threshold fullContrast 1 gives middle)
-    ∷ (threshold noContrast 1 gives nought)
+    ∷ (threshold contrastHigh 1 gives middle)
+    ∷ (threshold contrastLow 1 gives nought)
     ∷ []
 
 -- every row gives what stands beside it, sign of zero and all

@@ -14,7 +14,7 @@ use lib.Ieee.Fits.{up-pos, down-pos}
 use lib.Ieee.Scale.{round-same}
 use Rattle.lists.proofs.Bools.{and-false, not-not, or-true}
 use Rattle.ieee.proofs.SignedParts.{round-zero}
-use Rattle.ieee_laws.specs.Sign.{turn, Signs, turned, nought, Turned, of-nan, of-inf, of-fin}
+use Rattle.ieee_laws.specs.Sign.{turn, Signs, turned, no-sign, Turned, of-nan, of-inf, of-fin}
 
 -- ---- rounding
 
@@ -24,7 +24,7 @@ cond-turned false p q = q
 
 odd-turned : {b : Bool} (d : ℕ) (s t : Bool) (q k l : ℕ) → t ≡ turn b s → Turned b (odd d s q k l) (odd d t q k l)
 unfolding odd
-odd-turned d s t zero k l e = of-fin (nought refl)
+odd-turned d s t zero k l e = of-fin (no-sign refl)
 odd-turned d s t (suc q) k l e = of-fin (turned e)
 
 units-turned : {b : Bool} (f : Format) (s t : Bool) (q k : ℕ) → t ≡ turn b s → Turned b (units f s q k) (units f t q k)
@@ -35,7 +35,7 @@ units-turned f s t q k e =
 pub round-turned : {b : Bool} (f : Format) (s t : Bool) (n d : ℕ) → 0 < d → Signs b s t n → Turned b (round f s n d) (round f t n d)
 unfolding round
 round-turned f s t n d h (turned e) = units-turned f s t _ _ e
-round-turned f s t n d h (nought e) = rw (round-zero f s n d h e, round-zero f t n d h e) (of-fin (nought refl))
+round-turned f s t n d h (no-sign e) = rw (round-zero f s n d h e, round-zero f t n d h e) (of-fin (no-sign refl))
 
 -- ---- signs
 
@@ -68,7 +68,7 @@ turn-unlike true true false false = refl
 -- signs of one magnitude are signs of another that is 0 where it is
 pub signs-of : {b s t : Bool} {m n : ℕ} → (m ≡ 0 → n ≡ 0) → Signs b s t m → Signs b s t n
 signs-of h (turned e) = turned e
-signs-of h (nought e) = nought (h e)
+signs-of h (no-sign e) = no-sign (h e)
 
 -- ---- sums
 
@@ -77,7 +77,7 @@ and-turned true true true n e h = turned e
 and-turned true false true n e h = turned e
 and-turned false true true n e h = turned e
 and-turned false false true n e h = turned e
-and-turned s t false n e h = nought (h refl)
+and-turned s t false n e h = no-sign (h refl)
 
 -- two of unlike signs: p is whether the first is less, q whether the second is
 mixed : {b : Bool} (f : Format) (s t s' t' p q : Bool) (x y c : ℕ) → 0 < c → s' ≡ turn b s → t' ≡ turn b t → ltb x y ≡ p → ltb y x ≡ q
@@ -144,14 +144,14 @@ is-turned {b} f z z' t t' y c h i j g =
   where
     join : {s s' : Bool} → (s ≡ t) ⊎ (y ≡ 0) → (s' ≡ t') ⊎ (y ≡ 0) → Signs b t t' y → Signs b s s' y
     join (inl p) (inl q) (turned r) = turned (q ∙ r ∙ ap (turn b) (sym p))
-    join (inl p) (inl q) (nought r) = nought r
-    join (inl p) (inr q) r = nought q
-    join (inr p) q r = nought p
+    join (inl p) (inl q) (no-sign r) = no-sign r
+    join (inl p) (inr q) r = no-sign q
+    join (inr p) q r = no-sign p
 
 pub sum-turned : {b : Bool} (f : Format) (s t s' t' : Bool) (x y c : ℕ) → 0 < c → Signs b s s' x → Signs b t t' y → Turned b (sum f s x t y c) (sum f s' x t' y c)
 sum-turned {b} f s t s' t' x y c h (turned p) (turned q) = rw (p, q) (both b s t f x y c h)
-sum-turned f s t s' t' x y c h (nought p) g = is-turned f _ _ t t' y c h (left-zero f s t x y c p) (left-zero f s' t' x y c p) g
-sum-turned f s t s' t' x y c h (turned p) (nought q) = is-turned f _ _ s s' x c h (right-zero f s t x y c q) (right-zero f s' t' x y c q) (turned p)
+sum-turned f s t s' t' x y c h (no-sign p) g = is-turned f _ _ t t' y c h (left-zero f s t x y c p) (left-zero f s' t' x y c p) g
+sum-turned f s t s' t' x y c h (turned p) (no-sign q) = is-turned f _ _ s s' x c h (right-zero f s t x y c q) (right-zero f s' t' x y c q) (turned p)
 
 -- ---- the operations
 
@@ -160,7 +160,7 @@ unfolding neg
 neg-turned of-nan = of-nan
 neg-turned {b} (of-inf {s = s} e) = of-inf (ap not e ∙ turn-not b s)
 neg-turned {b} (of-fin {s = s} (turned e)) = of-fin (turned (ap not e ∙ turn-not b s))
-neg-turned (of-fin (nought e)) = of-fin (nought e)
+neg-turned (of-fin (no-sign e)) = of-fin (no-sign e)
 
 pub neg-opp : (x : Float) → Turned true x (neg x)
 unfolding neg
@@ -194,8 +194,8 @@ like a b s t s' t' e g = rw (e, g) (turn-unlike a b s t)
 
 pub product : {a b s t s' t' : Bool} {m n : ℕ} (k : ℕ) → (m ≡ 0 → k ≡ 0) → (n ≡ 0 → k ≡ 0) → Signs a s s' m → Signs b t t' n → Signs (unlike a b) (unlike s t) (unlike s' t') k
 product {a} {b} {s} {t} {s'} {t'} k h i (turned e) (turned g) = turned (like a b s t s' t' e g)
-product k h i (turned e) (nought g) = nought (i g)
-product k h i (nought e) g = nought (h e)
+product k h i (turned e) (no-sign g) = no-sign (i g)
+product k h i (no-sign e) g = no-sign (h e)
 
 pub mul-turned : {a b : Bool} (f : Format) {x y x' y' : Float} → Turned a x x' → Turned b y y' → Turned (unlike a b) (mul f x y) (mul f x' y')
 unfolding mul
@@ -204,11 +204,11 @@ mul-turned f (of-inf e) of-nan = of-nan
 mul-turned {a} {b} f (of-inf {s = s} {t = s'} e) (of-inf {s = t} {t = t'} g) = of-inf (like a b s t s' t' e g)
 mul-turned {a} {b} f (of-inf {s = s} {t = s'} e) (of-fin {s = t} {t = t'} {m = n} (turned g)) =
     cond-turned (eqb n 0) of-nan (of-inf (like a b s t s' t' e g))
-mul-turned f (of-inf e) (of-fin {m = n} (nought g)) = rw (eq-eqb n 0 g) of-nan
+mul-turned f (of-inf e) (of-fin {m = n} (no-sign g)) = rw (eq-eqb n 0 g) of-nan
 mul-turned f (of-fin e) of-nan = of-nan
 mul-turned {a} {b} f (of-fin {s = s} {t = s'} {m = m} (turned e)) (of-inf {s = t} {t = t'} g) =
     cond-turned (eqb m 0) of-nan (of-inf (like a b s t s' t' e g))
-mul-turned f (of-fin {m = m} (nought e)) (of-inf g) = rw (eq-eqb m 0 e) of-nan
+mul-turned f (of-fin {m = m} (no-sign e)) (of-inf g) = rw (eq-eqb m 0 e) of-nan
 mul-turned f (of-fin {s = s} {t = s'} {m = m} {e = e} p) (of-fin {s = t} {t = t'} {m = n} {e = d} q) =
     let k = m * up e * (n * up d) in
     round-turned f (unlike s t) (unlike s' t') k (down e * down d) (mul-pos (down-pos e) (down-pos d))
@@ -232,10 +232,10 @@ div-turned f of-nan q h = of-nan
 div-turned f (of-inf e) of-nan h = of-nan
 div-turned f (of-inf e) (of-inf g) h = of-nan
 div-turned {a} {b} f (of-inf {s = s} {t = s'} e) (of-fin {s = t} {t = t'} (turned g)) h = of-inf (like a b s t s' t' e g)
-div-turned f (of-inf e) (of-fin {m = n} (nought g)) h = absurd (no-zero n g h)
+div-turned f (of-inf e) (of-fin {m = n} (no-sign g)) h = absurd (no-zero n g h)
 div-turned f (of-fin e) of-nan h = of-nan
 div-turned {a} {b} f (of-fin {s = s} {t = s'} p) (of-inf {s = t} {t = t'} g) h =
-    of-fin (nought refl)
+    of-fin (no-sign refl)
 div-turned f (of-fin {s = s} {t = s'} {m = m} {e = e} p) (of-fin {s = t} {t = t'} {m = n} {e = d} q) h =
     let z = not-true (eqb n 0) h in
     let k = m * up e * down d in
@@ -292,9 +292,9 @@ none-below a y e = rw (le-ltb 0 y (omega arith)) (and-false a)
 
 below-turned : {b s t s' t' : Bool} (x y : ℕ) → Signs b s s' x → Signs b t t' y → below s' x t' y ≡ belowBy b s x t y
 below-turned {b} {s} {t} {s'} {t'} x y (turned p) (turned q) = rw (p, q) (below-both b s t x y)
-below-turned {b} {s} {t} {s'} {t'} x y (nought p) (turned q) = zero-left s' t' x y p ∙ (rw q) ∙ sym (by-left b s t x y p)
-below-turned {b} {s} {t} {s'} {t'} x y (turned p) (nought q) = zero-right s' t' x y q ∙ (rw p) ∙ sym (by-right b s t x y q)
-below-turned {b} {s} {t} {s'} {t'} x y (nought p) (nought q) =
+below-turned {b} {s} {t} {s'} {t'} x y (no-sign p) (turned q) = zero-left s' t' x y p ∙ (rw q) ∙ sym (by-left b s t x y p)
+below-turned {b} {s} {t} {s'} {t'} x y (turned p) (no-sign q) = zero-right s' t' x y q ∙ (rw p) ∙ sym (by-right b s t x y q)
+below-turned {b} {s} {t} {s'} {t'} x y (no-sign p) (no-sign q) =
     zero-left s' t' x y p ∙ none-below (not t') y q ∙ sym (by-left b s t x y p ∙ none-below (not (turn b t)) y q)
 
 inf-below : (b s t s' t' : Bool) → s' ≡ turn b s → t' ≡ turn b t → (s' && not t') ≡ cond b (t && not s) (s && not t)
@@ -334,8 +334,8 @@ level-zero s t false x y u h = rw u
 
 level-turned : {b s t s' t' : Bool} (x y : ℕ) → Signs b s s' x → Signs b t t' y → level s' x t' y ≡ level s x t y
 level-turned {b} {s} {t} x y (turned p) (turned q) = rw (p, q, turn-eq b s t)
-level-turned {b} {s} {t} {s'} {t'} x y (nought p) q = level-zero s' t' (eqb x y) x y refl (λ z. p) ∙ sym (level-zero s t (eqb x y) x y refl (λ z. p))
-level-turned {b} {s} {t} {s'} {t'} x y (turned p) (nought q) =
+level-turned {b} {s} {t} {s'} {t'} x y (no-sign p) q = level-zero s' t' (eqb x y) x y refl (λ z. p) ∙ sym (level-zero s t (eqb x y) x y refl (λ z. p))
+level-turned {b} {s} {t} {s'} {t'} x y (turned p) (no-sign q) =
     level-zero s' t' (eqb x y) x y refl (λ z. z ∙ q) ∙ sym (level-zero s t (eqb x y) x y refl (λ z. z ∙ q))
 
 pub eq-turned : {b : Bool} {x y x' y' : Float} → Turned b x x' → Turned b y y' → eq x' y' ≡ eq x y

@@ -11,10 +11,11 @@ use lib.IntN.{ℤ, pos}
 use lib.Ieee.{Float, nan, inf, fin, Format, binary32, binary64, prec, low, up, down, unlike, round, add, lt, eq, level, top, hid, ofBits, toBits, toUnsigned, toSigned}
 use lib.Ieee.Fits.{up-pos, down-pos}
 use lib.Ieee.Nearest.{closest, closest-same}
-use Rattle.ieee_laws.specs.Sign.{turned, nought, Turned, of-nan, of-inf, of-fin, Same}
+use Rattle.ieee_laws.specs.Sign.{turned, no-sign, Turned, of-nan, of-inf, of-fin, Same}
 use Rattle.ieee.specs.Fused.{fma}
 use Rattle.ieee.specs.Whole.{floorSize, floor, roundEven, saturate}
-use Rattle.ieee.specs.F32.{f32, absOf}
+use Rattle.ieee.specs.F32.{absOf}
+use Rattle.ieee.specs.Numbers.{nought}
 use Rattle.packing.proofs.Size.{size-zero}
 use Rattle.ieee_laws.proofs.Turned.{Is, left-zero, right-zero, round-turned, signs-of, sum-turned, zero-of, add-turned, mul-turned, product, nonzero, zero-left, zero-right, level-zero}
 
@@ -26,9 +27,9 @@ same (inf s) = of-inf refl
 same (fin s m e) = of-fin (turned refl)
 
 -- zero is itself turned
-pub zero-any : (b : Bool) → Turned b (f32 0) (f32 0)
+pub zero-any : (b : Bool) → Turned b nought nought
 unfolding ofBits
-zero-any b = of-fin (nought refl)
+zero-any b = of-fin (no-sign refl)
 
 no-zero : {A : Type 0} (m : ℕ) → m ≡ 0 → not (eqb m 0) ≡ true → A
 no-zero m e h = absurd (eqb-false m 0 (not-true (eqb m 0) h) e)
@@ -68,7 +69,7 @@ add-nonzero f (inf s) h (of-fin p) = refl
 add-nonzero f (fin s m e) h of-nan = refl
 add-nonzero f (fin s m e) h (of-inf g) = rw g
 add-nonzero f (fin s m e) h (of-fin (turned p)) = rw p
-add-nonzero f (fin s m e) h (of-fin {s = t} {t = t'} {m = n} {e = d} (nought p)) =
+add-nonzero f (fin s m e) h (of-fin {s = t} {t = t'} {m = n} {e = d} (no-sign p)) =
     let A = m * up e * down d in
     let B = n * up d * down e in
     let z : B ≡ 0 = zero-of n (up d) (down e) p in
@@ -82,7 +83,7 @@ add-beside f y h (of-inf e) = rw e
 add-beside f nan h (of-fin p) = refl
 add-beside f (inf t) h (of-fin p) = refl
 add-beside f (fin t n d) h (of-fin (turned p)) = rw p
-add-beside f (fin t n d) h (of-fin {s = s} {t = s'} {m = m} {e = e} (nought p)) =
+add-beside f (fin t n d) h (of-fin {s = s} {t = s'} {m = m} {e = e} (no-sign p)) =
     let A = m * up e * down d in
     let B = n * up d * down e in
     let z : A ≡ 0 = zero-of m (up e) (down d) p in
@@ -124,10 +125,10 @@ unfolding floor
 floor-same f of-nan = of-nan
 floor-same f (of-inf e) = of-inf e
 floor-same f (of-fin {s = s} {m = m} {e = e} (turned p)) = rw p (same (floor f (fin s m e)))
-floor-same f (of-fin {s = s} {t = t} {m = m} {e = e} (nought p)) =
+floor-same f (of-fin {s = s} {t = t} {m = m} {e = e} (no-sign p)) =
     let z : m * up e ≡ 0 = rw (p, zero-mul) in
     rw (floorSize-zero s (m * up e) (down e) (down-pos e) z, floorSize-zero t (m * up e) (down e) (down-pos e) z)
-    (round-turned f s t 0 1 (omega arith) (nought refl))
+    (round-turned f s t 0 1 (omega arith) (no-sign refl))
 
 -- ---- as an integer: the same number
 
@@ -139,7 +140,7 @@ unfolding toUnsigned
 toUnsigned-same w of-nan = refl
 toUnsigned-same w (of-inf e) = rw e
 toUnsigned-same w (of-fin (turned p)) = rw p
-toUnsigned-same w (of-fin {s = s} {t = t} {m = m} {e = e} (nought p)) =
+toUnsigned-same w (of-fin {s = s} {t = t} {m = m} {e = e} (no-sign p)) =
     let z : m * up e / down e ≡ 0 = zero-div (m * up e) (down e) (down-pos e) (rw (p, zero-mul)) in
     either t (m * up e / down e) z ∙ sym (either s (m * up e / down e) z)
   where
@@ -156,7 +157,7 @@ unfolding toSigned
 toSigned-same h of-nan = refl
 toSigned-same h (of-inf e) = rw e
 toSigned-same h (of-fin (turned p)) = rw p
-toSigned-same h (of-fin {s = s} {t = t} {m = m} {e = e} (nought p)) =
+toSigned-same h (of-fin {s = s} {t = t} {m = m} {e = e} (no-sign p)) =
     let z : m * up e / down e ≡ 0 = zero-div (m * up e) (down e) (down-pos e) (rw (p, zero-mul)) in
     saturate-zero h t (m * up e / down e) z ∙ sym (saturate-zero h s (m * up e / down e) z)
 
@@ -184,8 +185,8 @@ pub back-same : (f : Format) {x y : Float} → Same x y → Same (ofBits f (toBi
 back-same f of-nan = same (ofBits f (toBits f nan))
 back-same f (of-inf {s = s} e) = rw e (same (ofBits f (toBits f (inf s))))
 back-same f (of-fin {s = s} {m = m} {e = e} (turned p)) = rw p (same (ofBits f (toBits f (fin s m e))))
-back-same f (of-fin {s = s} {t = t} {m = m} {e = e} (nought p)) =
-    rw (zero-bits f s m e p, zero-bits f t m e p, zero-read f s, zero-read f t) (of-fin (nought refl))
+back-same f (of-fin {s = s} {t = t} {m = m} {e = e} (no-sign p)) =
+    rw (zero-bits f s m e p, zero-bits f t m e p, zero-read f s, zero-read f t) (of-fin (no-sign refl))
 
 -- ---- tests against zero
 
@@ -195,39 +196,39 @@ some m e h = mul-pos (mul-pos h (up-pos e)) (omega arith)
 none-of : (m : ℕ) (e : ℤ) → m ≡ 0 → m * up e * 1 ≡ 0
 none-of m e h = rw (h, zero-mul, zero-mul)
 
-lt-zero : (s : Bool) (m : ℕ) (e : ℤ) → lt (fin s m e) (f32 0) ≡ (s && ltb 0 (m * up e * 1))
+lt-zero : (s : Bool) (m : ℕ) (e : ℤ) → lt (fin s m e) nought ≡ (s && ltb 0 (m * up e * 1))
 unfolding lt ofBits
 lt-zero s m e = zero-right s false (m * up e * 1) (0 * down e) (zero-mul (down e))
 
-zero-lt : (s : Bool) (m : ℕ) (e : ℤ) → lt (f32 0) (fin s m e) ≡ (not s && ltb 0 (m * up e * 1))
+zero-lt : (s : Bool) (m : ℕ) (e : ℤ) → lt nought (fin s m e) ≡ (not s && ltb 0 (m * up e * 1))
 unfolding lt ofBits
 zero-lt s m e = zero-left false s (0 * down e) (m * up e * 1) (zero-mul (down e))
 
 clash : {A : Type 0} → false ≡ true → A
 clash e = absurd (subst T (sym e) tt)
 
-level-nought : (s : Bool) (x y : ℕ) → x ≡ 0 → y ≡ 0 → level s x false y ≡ true
-level-nought s x y a b = level-zero s false (eqb x y) x y refl (λ z. a) ∙ eq-eqb x y (a ∙ sym b)
+level-no-sign : (s : Bool) (x y : ℕ) → x ≡ 0 → y ≡ 0 → level s x false y ≡ true
+level-no-sign s x y a b = level-zero s false (eqb x y) x y refl (λ z. a) ∙ eq-eqb x y (a ∙ sym b)
 
 -- what the test `== 0` finds unequal is no zero
-pub nonzero-of : (x : Float) → eq x (f32 0) ≡ false → nonzero x ≡ true
+pub nonzero-of : (x : Float) → eq x nought ≡ false → nonzero x ≡ true
 unfolding nonzero eq ofBits
 nonzero-of nan h = refl
 nonzero-of (inf s) h = refl
 nonzero-of (fin s m e) h =
-    ap not (ne-eqb m 0 (λ z. clash (sym h ∙ level-nought s (m * up e * 1) (0 * down e) (none-of m e z) (zero-mul (down e)))))
+    ap not (ne-eqb m 0 (λ z. clash (sym h ∙ level-no-sign s (m * up e * 1) (0 * down e) (none-of m e z) (zero-mul (down e)))))
 
 -- a number that is not zero is positive or negative, and not both
 pub data Signed (v : Float) : Type 0 where
-  above : lt (f32 0) v ≡ true → lt v (f32 0) ≡ false → Signed v
-  under : lt (f32 0) v ≡ false → lt v (f32 0) ≡ true → Signed v
+  above : lt nought v ≡ true → lt v nought ≡ false → Signed v
+  under : lt nought v ≡ false → lt v nought ≡ true → Signed v
 
 signed-fin : (s : Bool) (m : ℕ) (e : ℤ) → 0 < m → Signed (fin s m e)
 signed-fin true m e h = under (zero-lt true m e) (lt-zero true m e ∙ lt-ltb 0 (m * up e * 1) (some m e h))
 signed-fin false m e h = above (zero-lt false m e ∙ lt-ltb 0 (m * up e * 1) (some m e h)) (lt-zero false m e)
 
 -- as one whose magnitude is above 0 is
-pub signed : (v : Float) → lt (f32 0) (absOf v) ≡ true → Signed v
+pub signed : (v : Float) → lt nought (absOf v) ≡ true → Signed v
 unfolding lt ofBits absOf
 signed nan h = clash h
 signed (inf true) h = under refl refl

@@ -13,7 +13,7 @@ turn false s = s
 -- of the magnitude m, the sign t is s turned by b. A zero has any sign
 pub data Signs (b s t : Bool) (m : ℕ) : Type 0 where
   turned : t ≡ turn b s → Signs b s t m
-  nought : m ≡ 0 → Signs b s t m
+  no-sign : m ≡ 0 → Signs b s t m
 
 -- y is x with its sign turned by b, but for the sign of a zero. A not-a-number goes with a not-a-number
 pub data Turned (b : Bool) : Float → Float → Type 0 where

@@ -13,12 +13,12 @@ use lib.IntN.{pos}
 use lib.Ieee.{Float, nan, fin, binary32, add, mul, le, ofBits, fits}
 use lib.Ieee.Scale.{finite}
 use Rattle.ieee.specs.Fused.{fma}
-use Rattle.ieee.specs.F32.{_⊕_, _⊗_, f32, fused}
+use Rattle.ieee.specs.F32.{_⊕_, _⊗_, fused}
 use Rattle.ieee_laws.proofs.Monotone.{nil}
 use Rattle.ieee_laws.proofs.Bounds.{Bounds, bounds-wider, bounds-point, add-bounds, mul-bounds, fma-bounds}
 use Rattle.ieee.proofs.Held.{fma-fits}
 use Rattle.lists.specs.Ranges.{joined}
-use Rattle.ieee.specs.Numbers.{one}
+use Rattle.ieee.specs.Numbers.{one, nought}
 use Rattle.orient_tally.specs.Tally.{sampleOf, shareOf, added, tallied, empty, tallyOf}
 use Rattle.orient_window.specs.Place.{cellAt}
 use Rattle.orient_window.specs.declared.Window.{Window}
@@ -94,7 +94,7 @@ module _ (heap brim : Float) (c : Ceiling heap brim) where
 
   empty-filled : Filled brim (empty .bins)
   unfolding empty ofBits le
-  empty-filled = record { size = length-replicate bins (f32 0); each = λ i h. rw (getD-replicate bins i (f32 0) nan h) (bounds-wider nil brim refl (c .top) refl (c .some) (bounds-point nil refl)) }
+  empty-filled = record { size = length-replicate bins nought; each = λ i h. rw (getD-replicate bins i nought nan h) (bounds-wider nil brim refl (c .top) refl (c .some) (bounds-point nil refl)) }
 
   added-filled : (b : List Float) (s : Sample) → Filled brim b → Weighed heap s → Filled brim (added b s)
   unfolding added shareOf

@@ -16,7 +16,7 @@ use Rattle.lists.proofs.Bools.{not-not}
 use Rattle.packing.proofs.Sums.{sum-comm, order}
 use Rattle.ieee.specs.F32.{_⊕_, _⊖_, _⊗_, _⊘_}
 use Rattle.ieee.specs.Numbers.{half, two}
-use Rattle.ieee_laws.specs.Sign.{Turned, of-nan, of-inf, of-fin, turned, nought as no-sign}
+use Rattle.ieee_laws.specs.Sign.{Turned, of-nan, of-inf, of-fin, turned, no-sign}
 use Rattle.ieee.proofs.SignedParts.{round-zero}
 use Rattle.ieee_laws.proofs.Turned.{neg-opp, add-turned, mul-turned, div-turned, le-turned, nonzero}
 use Rattle.ieee_laws.proofs.TurnedOps.{same}

@@ -14,8 +14,8 @@ use lib.Ieee.Scale.{finite}
 use Rattle.lists.proofs.Bools.{and-both, or-true}
 use Rattle.ieee.specs.F32.{_⊗_, _⊘_, f32, rounded}
 use Rattle.ieee.specs.Whole.{roundEven}
-use Rattle.ieee.specs.Numbers.{nought, threeHalves, one, two}
-use Rattle.ieee_laws.specs.Sign.{Turned, of-fin, turned, nought as no-sign}
+use Rattle.ieee.specs.Numbers.{nought, threeHalves, one, two, half}
+use Rattle.ieee_laws.specs.Sign.{Turned, of-fin, turned, no-sign}
 use Rattle.ieee_laws.proofs.Order.{le-or-lt-float, lt-le, le-number, lt-not-le, lt-le-trans}
 use Rattle.ieee_laws.proofs.Monotone.{nil, toUnsigned-le}
 use Rattle.ieee_laws.proofs.Bounds.{Bounds, bounds-point, bounds-wider, mul-bounds, div-bounds, roundEven-bounds, ofInt-bounds}
@@ -155,7 +155,7 @@ chain-in a (b ∷ bs) s n c p q h =
 
 -- 0.3125, 0.5, 1, 1.875, 3.375, 6.25, 11.5, 21.5, 40 and 64: the radius at the end of a piece and the spread at its start keep the exponent above -32
 stops : List Float
-stops = f32 0x3ea0_0000 ∷ f32 0x3f00_0000 ∷ f32 0x3f80_0000 ∷ f32 0x3ff0_0000 ∷ f32 0x4058_0000 ∷ f32 0x40c8_0000 ∷ f32 0x4138_0000 ∷ f32 0x41ac_0000 ∷ f32 0x4220_0000 ∷ scaleHigh ∷ []
+stops = f32 0x3ea0_0000 ∷ half ∷ one ∷ f32 0x3ff0_0000 ∷ f32 0x4058_0000 ∷ f32 0x40c8_0000 ∷ f32 0x4138_0000 ∷ f32 0x41ac_0000 ∷ f32 0x4220_0000 ∷ scaleHigh ∷ []
 
 all-stops : chain scaleLow stops ≡ true
 unfolding ofBits ofInt mul div lt le roundEven radiusOf toUnsigned chain stops all-true
@@ -171,12 +171,12 @@ eq-le : (x y : Float) → eq x y ≡ true → le x y ≡ true
 unfolding le
 eq-le x y h = rw (h, or-true)
 
-above-not-zero : (x : Float) → lt (f32 0) x ≡ true → eq x (f32 0) ≡ false
-above-not-zero x h = go (eq x (f32 0)) refl
+above-not-zero : (x : Float) → lt nought x ≡ true → eq x nought ≡ false
+above-not-zero x h = go (eq x nought) refl
   where
-    go : (b : Bool) → eq x (f32 0) ≡ b → b ≡ false
+    go : (b : Bool) → eq x nought ≡ b → b ≡ false
     go false e = refl
-    go true e = absurd (lt-not-le (f32 0) x h (eq-le x (f32 0) e))
+    go true e = absurd (lt-not-le nought x h (eq-le x nought e))
 
 -- ---- the exponent itself, which is as much below 0
 one-opp : Turned true one (neg one)
@@ -190,7 +190,7 @@ spread-bounds s w =
 
 spread-some : (s : Float) → within scaleLow scaleHigh s ≡ true → nonzero (spread s) ≡ true
 unfolding ofBits mul eq lt
-spread-some s w = nonzero-of (spread s) (above-not-zero (spread s) (lt-le-trans (f32 0) (spread scaleLow) (spread s) refl (spread-bounds s w .low)))
+spread-some s w = nonzero-of (spread s) (above-not-zero (spread s) (lt-le-trans nought (spread scaleLow) (spread s) refl (spread-bounds s w .low)))
 
 down-in : (s : Float) (n : ℕ) → within scaleLow scaleHigh s ≡ true → n ≤ most s → inDown (ofInt binary32 (pos n) ⊗ falloffOf s) ≡ true
 unfolding falloffOf ofBits

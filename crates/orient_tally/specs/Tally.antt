@@ -5,7 +5,8 @@ use mathlib.Core.List.{List, [], _∷_}
 use lib.ListN.{getD, set, replicate}
 use lib.Dec.{leb}
 use lib.Ieee.{Float, nan}
-use Rattle.ieee.specs.F32.{_⊕_, _⊗_, f32, fused}
+use Rattle.ieee.specs.F32.{_⊕_, _⊗_, fused}
+use Rattle.ieee.specs.Numbers.{nought}
 use Rattle.hal_angle.specs.Angle.{angleOf}
 use Rattle.hal_magnitude.specs.Magnitude.{magnitudeOf}
 use Rattle.picture.specs.Picture.{slopeAt}
@@ -44,7 +45,7 @@ tallied t s = record { bins = added (t .bins) s }
 
 -- 36 times +0
 unfoldable pub empty : Tally
-empty = record { bins = replicate bins (f32 0) }
+empty = record { bins = replicate bins nought }
 
 -- Cells are read one after the other, and k counts those that were read before. Each cell that is read is used: its sample is added.
 unfoldable pub counted : (ℕ → Cell → Sample) → ℕ → List Cell → Tally → Tally

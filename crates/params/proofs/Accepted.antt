@@ -8,6 +8,7 @@ use lib.Ieee.Scale.{finite}
 use Rattle.lists.proofs.Bools.{not-not}
 use Rattle.ieee.specs.Fused.{convert}
 use Rattle.ieee.specs.F32.{f32, narrowed}
+use Rattle.ieee.specs.Numbers.{nought, one, half}
 use Rattle.ieee_laws.proofs.Bounds.{Bounds, convert-bounds}
 use Rattle.params.specs.Limits.{maxOctave, contrastLow, contrastHigh, edgeLow, edgeHigh, sigmaLow, sigmaHigh}
 use Rattle.params.specs.Table.{within, contrastWrong, settingsWrong}
@@ -27,9 +28,9 @@ contrast-bounds contrast right = in-bounds contrastLow contrastHigh contrast ref
 
 -- contrast in 0 to 1, edge in 1 to 1,000 and sigma in 0.5 to 16, as f32s; and the octave
 pub record Accepted (s : Settings) (o : ℕ) : Type 0 where
-  pub contrast : Bounds (f32 0) (f32 0x3f80_0000) (narrowed (s .contrast))
-  pub edge : Bounds (f32 0x3f80_0000) (f32 0x447a_0000) (narrowed (s .edge))
-  pub sigma : Bounds (f32 0x3f00_0000) (f32 0x4180_0000) (narrowed (s .sigma))
+  pub contrast : Bounds nought one (narrowed (s .contrast))
+  pub edge : Bounds one (f32 0x447a_0000) (narrowed (s .edge))
+  pub sigma : Bounds half (f32 0x4180_0000) (narrowed (s .sigma))
   pub octave : o ≤ maxOctave
 
 pub accepted : (s : Settings) (octave : ℕ) → settingsWrong s octave ≡ false → Accepted s octave

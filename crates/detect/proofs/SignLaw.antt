@@ -14,7 +14,7 @@ use Rattle.ieee_laws.proofs.Turned.{neg-opp, le-turned}
 use Rattle.ieee_laws.proofs.TurnedOps.{back-same}
 use Rattle.lists.specs.Ranges.{every}
 use Rattle.lists.specs.Pasted.{pasted}
-use Rattle.params.specs.Limits.{sampleLimit}
+use Rattle.params.specs.Limits.{sampleLimit, keypointWords}
 use Rattle.params.specs.Table.{goodSample, allGood}
 use Rattle.detect_threshold.specs.Threshold.{thresholdOf}
 use Rattle.params.specs.Answers.{answerOf, landed}
@@ -25,7 +25,7 @@ use Rattle.picture.specs.declared.Shape.{Shape}
 use Rattle.detect_keypoint.specs.Search.{searchOf}
 use Rattle.detect_keypoint.specs.declared.RawKeypoint.{RawKeypoint}
 use Rattle.detect_extrema.specs.Neighbours.{tied}
-use Rattle.detect_extrema.specs.Scan.{keypoints, keypointWords, words}
+use Rattle.detect_extrema.specs.Scan.{keypoints, words}
 use Rattle.detect.specs.Entry.{faultOf, listOf, extremaAnswer, extremaOut}
 use Rattle.detect.proofs.Faults.{right}
 use Rattle.detect_extrema.specs.SameList.{SameList, none, more}

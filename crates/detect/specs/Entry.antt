@@ -4,6 +4,7 @@ use mathlib.Core.Bool.{not}
 use mathlib.Core.List.{List, [], _∷_}
 use lib.ListN.{length}
 use lib.Ieee.{Float}
+use Rattle.params.specs.Limits.{keypointWords}
 use Rattle.params.specs.Table.{line, firstFault, shapeWrong, layersWrong, lengthWrong, settingsWrong, allGood}
 use Rattle.params.specs.Answers.{answerOf, landed}
 use Rattle.params.specs.declared.Settings.{Settings}
@@ -12,7 +13,7 @@ use Rattle.picture.specs.declared.Shape.{Shape}
 use Rattle.detect_keypoint.specs.Search.{searchOf}
 use Rattle.detect_keypoint.specs.declared.RawKeypoint.{RawKeypoint}
 use Rattle.detect_extrema.specs.Neighbours.{tied}
-use Rattle.detect_extrema.specs.Scan.{keypoints, keypointWords, words}
+use Rattle.detect_extrema.specs.Scan.{keypoints, words}
 
 -- the checks of rule A3, in their order; 5 has no argument here
 unfoldable pub faultOf : List Float → Shape → ℕ → ℕ → Settings → ℕ

@@ -39,10 +39,6 @@ rowOf rule d t s r = cellsOf rule d t s r border (t .width - border)
 unfoldable pub keypoints : Rule → List Float → Shape → Search → List RawKeypoint
 keypoints rule d t s = joined border (t .height - border) (λ r. rowOf rule d t s r)
 
--- a keypoint goes out as so many words
-abbrev pub keypointWords : ℕ
-keypointWords = 10
-
 -- x, y, size, response, octave, layer, xi, cc, rr and the moves
 abbrev pub wordsOf : RawKeypoint → List ℕ
 wordsOf k =

@@ -11,13 +11,13 @@ use lib.Ieee.{Float}
 use Rattle.lists.specs.Ranges.{joined}
 use Rattle.lists.proofs.Both.{joined-shorter}
 use Rattle.lists.proofs.Ranges.{joined-start, joined-more, joined-split, joined-bound, sets-append}
-use Rattle.params.specs.Limits.{border, maxSide}
+use Rattle.params.specs.Limits.{border, maxSide, keypointWords}
 use Rattle.picture.specs.declared.Shape.{Shape}
 use Rattle.detect_refine.specs.Place.{Searched}
 use Rattle.detect_keypoint.specs.declared.Search.{Search}
 use Rattle.detect_keypoint.specs.declared.RawKeypoint.{RawKeypoint}
 use Rattle.detect_extrema.specs.Neighbours.{tied}
-use Rattle.detect_extrema.specs.Scan.{rowOf, keypoints, keypointWords, words}
+use Rattle.detect_extrema.specs.Scan.{rowOf, keypoints, words}
 use Rattle.detect_look.specs.Hints.{hinted}
 use Rattle.detect_look.proofs.Counted.{hinted-bound, cells-hinted}
 use Rattle.detect_rows.specs.Forms.{rowLeaves, rowsLeave, allAgain}

@@ -17,7 +17,7 @@ use detect_keypoint::Search;
 use detect_look::Run;
 use detect_refine::BORDER;
 use detect_words::Place;
-use detect_words::WORDS;
+use params::KEYPOINT_WORDS;
 use picture::Shape;
 
 // What the rows above `row` gave, as far as the cells of their keypoints could be held: so many. Whether all samples of the stack are good.
@@ -159,10 +159,10 @@ pub fn write(dog: &[f32], t: Shape, s: Search, f: Front, hold: &[u32], out: &mut
         s,
         row,
         Place {
-            from: WORDS * k,
+            from: KEYPOINT_WORDS * k,
             cells: false,
         },
         out,
     );
-    k + n / WORDS
+    k + n / KEYPOINT_WORDS
 }

@@ -8,12 +8,13 @@ use borrow.Author.Tests.{le-leb, lt-leb}
 use lib.ListN.{length}
 use lib.Seq.{sets}
 use lib.Ieee.{Float}
+use Rattle.params.specs.Limits.{keypointWords}
 use Rattle.params.specs.Table.{firstFault, allGood}
 use Rattle.params.specs.Answers.{answerOf, landed}
 use Rattle.params.specs.declared.Answer.{Answer}
 use Rattle.params.specs.declared.Answer.the-variants.{Done, Short, Refused}
 use Rattle.detect_keypoint.specs.declared.RawKeypoint.{RawKeypoint}
-use Rattle.detect_extrema.specs.Scan.{keypointWords, words}
+use Rattle.detect_extrema.specs.Scan.{words}
 use Rattle.detect_words.proofs.Words.{length-words, words-none, sets-pasted}
 use Rattle.detect_room.specs.Room.{sampleFault, roomAnswer, sampleAnswer}
 

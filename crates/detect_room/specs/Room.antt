@@ -4,11 +4,11 @@ use mathlib.Core.Bool.{not}
 use mathlib.Core.List.{List, [], _∷_}
 use lib.ListN.{length}
 use lib.Ieee.{Float}
+use Rattle.params.specs.Limits.{keypointWords}
 use Rattle.params.specs.Table.{line, firstFault, allGood}
 use Rattle.params.specs.Answers.{answerOf}
 use Rattle.params.specs.declared.Answer.{Answer}
 use Rattle.detect_keypoint.specs.declared.RawKeypoint.{RawKeypoint}
-use Rattle.detect_extrema.specs.Scan.{keypointWords}
 
 -- the check of rule A3 that reads the samples
 unfoldable pub sampleFault : List Float → ℕ

@@ -14,8 +14,8 @@ use detect_hold::Front;
 use detect_keypoint::Search;
 use detect_refine::BORDER;
 use detect_words::Place;
-use detect_words::WORDS;
 use params::Answer;
+use params::KEYPOINT_WORDS;
 use picture::Shape;
 
 // The cells of so many keypoints are held until it is known that the words of all fit in what is lent: 8 KB on the stack, and more than most layers of a frame have.
@@ -35,7 +35,7 @@ fn land(dog: &[f32], t: Shape, s: Search, f: Front, hold: &[u32], out: &mut [u32
     ensures { λ a. ⌜ now (out .exit) ≡ landed (roomAnswer (keypoints tied (now (dog .entry)) t s) (length (now (out .entry)))) (words (keypoints tied (now (dog .entry)) t s)) (now (out .entry)) ⌝ }
 {
     let room = out.len();
-    if WORDS * (f.count + detect_hold::rest_hints(dog, t, s, f.row)) <= room {
+    if KEYPOINT_WORDS * (f.count + detect_hold::rest_hints(dog, t, s, f.row)) <= room {
         return Answer::Done(detect_hold::write(dog, t, s, f, hold, out));
     }
     let mut none = [0; 1];
@@ -51,7 +51,7 @@ fn land(dog: &[f32], t: Shape, s: Search, f: Front, hold: &[u32], out: &mut [u32
             },
             &mut none,
         );
-    if WORDS * k > room {
+    if KEYPOINT_WORDS * k > room {
         return Answer::Short(k);
     }
     Answer::Done(detect_hold::write(dog, t, s, f, hold, out))
@@ -65,7 +65,7 @@ pub fn search(dog: &[f32], t: Shape, s: Search, out: &mut [u32]) -> Answer
     ensures { λ a. ⌜ a ≡ sampleAnswer (now (dog .entry)) (keypoints tied (now (dog .entry)) t s) (length (now (out .entry))) ⌝ }
     ensures { λ a. ⌜ now (out .exit) ≡ landed (sampleAnswer (now (dog .entry)) (keypoints tied (now (dog .entry)) t s) (length (now (out .entry)))) (words (keypoints tied (now (dog .entry)) t s)) (now (out .entry)) ⌝ }
 {
-    if WORDS * ((t.width - BORDERS) * (t.height - BORDERS)) <= out.len() {
+    if KEYPOINT_WORDS * ((t.width - BORDERS) * (t.height - BORDERS)) <= out.len() {
         if !samples::all_good(dog) {
             return Answer::Refused(6);
         }
@@ -80,7 +80,7 @@ pub fn search(dog: &[f32], t: Shape, s: Search, out: &mut [u32]) -> Answer
             },
             out,
         );
-        return Answer::Done(n / WORDS);
+        return Answer::Done(n / KEYPOINT_WORDS);
     }
     let mut hold = [0; HELD];
     let f = detect_hold::front_of(dog, t, s, &mut hold);

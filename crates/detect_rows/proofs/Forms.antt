@@ -15,7 +15,7 @@ use Rattle.lists.specs.Ranges.{joined}
 use Rattle.lists.proofs.Each.{each-append, each-one, each-at}
 use Rattle.lists.proofs.Both.{both-joined}
 use Rattle.lists.proofs.Ranges.{joined-bound}
-use Rattle.params.specs.Limits.{border, maxSide}
+use Rattle.params.specs.Limits.{border, maxSide, keypointWords}
 use Rattle.picture.specs.declared.Shape.{Shape}
 use Rattle.detect_refine.specs.Settle.{refineOf}
 use Rattle.detect_refine.specs.Place.{Searched, Placed}
@@ -24,7 +24,7 @@ use Rattle.detect_keypoint.specs.declared.RawKeypoint.{RawKeypoint}
 use Rattle.detect_refine.specs.declared.Refined.{Refined}
 use Rattle.detect_refine.specs.declared.Refined.the-variants.{Dropped, At}
 use Rattle.detect_extrema.specs.Neighbours.{tied, candidate}
-use Rattle.detect_extrema.specs.Scan.{kept, cellOf, found, cellsOf, rowOf, keypointWords, words}
+use Rattle.detect_extrema.specs.Scan.{kept, cellOf, found, cellsOf, rowOf, words}
 use Rattle.detect_extrema.proofs.Rows.{cells-bound}
 use Rattle.detect_words.specs.Leaves.{cellWord, cellAt, leaves}
 use Rattle.detect_rows.specs.Forms.{runLeaves, rowLeaves, rowsLeave, again, allAgain, Cells}

@@ -6,12 +6,12 @@ use mathlib.Core.List.{List, [], _∷_}
 use native.Mathlib.Omega.{arith}
 use lib.ListN.{length, set}
 use lib.Seq.{sets}
-use Rattle.params.specs.Limits.{maxSide}
+use Rattle.params.specs.Limits.{maxSide, keypointWords}
 use Rattle.detect_keypoint.specs.declared.Search.{Search}
 use Rattle.detect_keypoint.specs.declared.RawKeypoint.{RawKeypoint}
 use Rattle.detect_refine.specs.declared.Refined.{Refined}
 use Rattle.detect_refine.specs.declared.Refined.the-variants.{Dropped, At}
-use Rattle.detect_extrema.specs.Scan.{kept, cellOf, keypointWords, words, wordsOf}
+use Rattle.detect_extrema.specs.Scan.{kept, cellOf, words, wordsOf}
 use Rattle.detect_words.specs.Leaves.{cellWord, cellAt, leaves}
 use Rattle.detect_words.proofs.Words.{Filled, filled-none}
 

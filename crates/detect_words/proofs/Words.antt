@@ -10,8 +10,9 @@ use lib.Seq.{sets, take-suc, length-take-le}
 use Rattle.lists.specs.Ranges.{joined}
 use Rattle.lists.specs.Pasted.{pasted}
 use Rattle.lists.proofs.Ranges.{joined-more, joined-split, sets-append, sets-front}
+use Rattle.params.specs.Limits.{keypointWords}
 use Rattle.detect_keypoint.specs.declared.RawKeypoint.{RawKeypoint}
-use Rattle.detect_extrema.specs.Scan.{keypointWords, words}
+use Rattle.detect_extrema.specs.Scan.{words}
 
 pub length-words : (ks : List RawKeypoint) → length (words ks) ≡ keypointWords * length ks
 unfolding words

@@ -9,10 +9,8 @@ ghost use Rattle.detect_extrema.specs.Scan.{kept, wordsOf};
 ghost use Rattle.detect_words.specs.Leaves.{cellWord, leaves};
 use detect_keypoint::RawKeypoint;
 use detect_refine::Refined;
+use params::KEYPOINT_WORDS;
 use params::MAX_SIDE;
-
-// A keypoint goes out as so many words.
-pub const WORDS: usize = 10;
 
 // Where the search writes: from the place `from` on, and of each keypoint that it finds one word, that of the cell where it began, or else its ten words.
 pub struct Place {
@@ -57,7 +55,7 @@ fn put(out: &mut [u32], at: usize, k: RawKeypoint)
         k.rr,
         k.moves,
     ];
-    copy(&row, WORDS, out, at);
+    copy(&row, KEYPOINT_WORDS, out, at);
 }
 
 // A cell as one word: no column is as large as the longest side.
@@ -82,5 +80,5 @@ pub fn leave(x: Refined, r: usize, c: usize, p: Place, out: &mut [u32]) -> usize
         return 1;
     }
     put(out, p.from, k);
-    WORDS
+    KEYPOINT_WORDS
 }

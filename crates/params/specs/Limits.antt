@@ -24,6 +24,17 @@ border = 5
 abbrev pub maxMoves : ℕ
 maxMoves = 5
 
+-- a keypoint goes out as so many words
+abbrev pub keypointWords : ℕ
+keypointWords = 10
+
+-- thinning: the most keypoints of a list, as many as positions of 32 bits; and how often a frame is cut at the most
+abbrev pub maxKeypoints : ℕ
+maxKeypoints = 4294967296
+
+abbrev pub maxDepth : ℕ
+maxDepth = 12
+
 -- the values of a descriptor, 4 × 4 cells of 8 slots: so many are written, and so many has a record of the sheet
 abbrev pub valueCount : ℕ
 valueCount = 128

@@ -24,6 +24,9 @@ pub const MAX_SIDE: usize = 8192;
 
 pub const MAX_LAYERS: usize = 15;
 
+// A keypoint goes out as so many words.
+pub const KEYPOINT_WORDS: usize = 10;
+
 const MAX_PLANES: usize = 17;
 
 const MAX_OCTAVE: u32 = 15;

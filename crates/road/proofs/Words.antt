@@ -6,6 +6,7 @@ use mathlib.Core.List.{List, [], _∷_}
 use lib.Dec.{T}
 use lib.ListN.{length, getD, take, drop}
 use lib.Ieee.{Float, nan, binary32, fits}
+use Rattle.params.specs.Limits.{keypointWords}
 use Rattle.params.specs.declared.Settings.{Settings}
 use Rattle.detect_keypoint.specs.declared.RawKeypoint.{RawKeypoint}
 use Rattle.detect_extrema.specs.Scan as Raw
@@ -31,7 +32,7 @@ same-past (x ∷ xs) (suc i) a b l = same-past xs i a b (le-of-suc-le-suc l)
 
 module _ (s : Settings) (q : Octave) (layer : ℕ) (z : searchFault s q layer ≡ 0) where
   pub keypoint-words : (past : RawKeypoint) (i : ℕ) → i < length (foundIn s q layer)
-      → keypointIn (take Raw.keypointWords (drop (Raw.keypointWords * i) (Raw.words (foundIn s q layer)))) ≡ getD (foundIn s q layer) i past
+      → keypointIn (take keypointWords (drop (keypointWords * i) (Raw.words (foundIn s q layer)))) ≡ getD (foundIn s q layer) i past
   keypoint-words past i l =
       let good = detect-rule .sound (q .stack) (q .shape) layer (q .number) s z past i l in
       ap keypointIn (words-rule .keypoint-at (foundIn s q layer) i past l)

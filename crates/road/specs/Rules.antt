@@ -5,13 +5,12 @@ use mathlib.Core.Bool.{Bool, true, cond}
 use mathlib.Core.List.{List}
 use lib.ListN.{length, getD, take, drop}
 use lib.Ieee.{Float}
-use Rattle.params.specs.Limits.{maxOctave}
+use Rattle.params.specs.Limits.{maxOctave, keypointWords}
 use Rattle.params.specs.Table.{allGood}
 use Rattle.params.specs.declared.Settings.{Settings}
 use Rattle.detect_keypoint.specs.Sound.{Sound}
 use Rattle.detect_keypoint.specs.declared.RawKeypoint.{RawKeypoint}
 use Rattle.detect_extrema.specs.Scan as Raw
-use Rattle.detect_extrema.specs.Scan.{keypointWords}
 use Rattle.orient_window.specs.Good.{windowGood}
 use Rattle.orient_words.specs.Oriented as Oriented
 use Rattle.orient_words.specs.Oriented.{orientedWords}

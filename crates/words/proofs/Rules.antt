@@ -9,6 +9,7 @@ use lib.ListN.{length, getD, take, drop}
 use lib.Seq.{drop-append-add}
 use lib.Ieee.{Float, binary32, fits}
 use lib.Ieee.Bits.{ofBits-toBits}
+use Rattle.params.specs.Limits.{keypointWords}
 use Rattle.params.specs.declared.Settings.{Settings}
 use Rattle.detect_keypoint.specs.Sound.{Sound}
 use Rattle.detect_keypoint.specs.declared.RawKeypoint.{RawKeypoint}
@@ -66,7 +67,7 @@ directed-held k angle h a = record { x = h .x; y = h .y; size = h .size; respons
 past : (a b : List ℕ) (i : ℕ) → take (length a) (drop (length a * suc i) (a ++ b)) ≡ take (length a) (drop (length a * i) b)
 past a b i = rw (mul-suc (length a) i, add-comm (length a * i) (length a), drop-append-add a b (length a * i))
 
-keypoint-at : (ks : List RawKeypoint) (i : ℕ) (d : RawKeypoint) → i < length ks → take raw.keypointWords (drop (raw.keypointWords * i) (raw.words ks)) ≡ raw.wordsOf (getD ks i d)
+keypoint-at : (ks : List RawKeypoint) (i : ℕ) (d : RawKeypoint) → i < length ks → take keypointWords (drop (keypointWords * i) (raw.words ks)) ≡ raw.wordsOf (getD ks i d)
 unfolding raw.words
 keypoint-at [] i d l = absurd (omega arith)
 keypoint-at (k ∷ ks) zero d l = refl

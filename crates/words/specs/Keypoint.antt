@@ -6,7 +6,7 @@ use lib.Dec.{eqb}
 use lib.ListN.{length, getD}
 use lib.Ieee.{nan}
 use Rattle.ieee.specs.F32.{f32}
-use Rattle.detect_extrema.specs.Scan.{keypointWords}
+use Rattle.params.specs.Limits.{keypointWords}
 use Rattle.detect_keypoint.specs.declared.RawKeypoint.{RawKeypoint}
 
 -- the keypoint of ten words

@@ -6,6 +6,7 @@ use mathlib.Core.List.{List}
 use lib.Dec.{T}
 use lib.ListN.{length, getD, take, drop}
 use lib.Ieee.{Float, binary32, fits}
+use Rattle.params.specs.Limits.{keypointWords}
 use Rattle.params.specs.declared.Settings.{Settings}
 use Rattle.detect_keypoint.specs.Sound.{Sound}
 use Rattle.detect_keypoint.specs.declared.RawKeypoint.{RawKeypoint}
@@ -40,6 +41,6 @@ pub record WordsRule : Type 0 where
   -- and with an angle that is held, so is the oriented keypoint that orientation makes of it
   pub directed : (k : RawKeypoint) (angle : Float) → Held k → T (fits binary32 angle) → OrientedHeld (orient.orientedOf k angle)
   -- the words of the keypoint i of a list stand in the list's words from 10 × i on, ten of them
-  pub keypoint-at : (ks : List RawKeypoint) (i : ℕ) (d : RawKeypoint) → i < length ks → take raw.keypointWords (drop (raw.keypointWords * i) (raw.words ks)) ≡ raw.wordsOf (getD ks i d)
+  pub keypoint-at : (ks : List RawKeypoint) (i : ℕ) (d : RawKeypoint) → i < length ks → take keypointWords (drop (keypointWords * i) (raw.words ks)) ≡ raw.wordsOf (getD ks i d)
   -- and of an oriented one from 6 × i on, six of them
   pub oriented-at : (os : List OrientedKeypoint) (i : ℕ) (d : OrientedKeypoint) → i < length os → take orient.orientedWords (drop (orient.orientedWords * i) (orient.words os)) ≡ orient.wordsOf (getD os i d)

@@ -2,7 +2,7 @@
 ghost use mathlib.Core.Path.{_≡_};
 ghost use lib.ListN.{length};
 ghost use lib.Ieee.{nan};
-ghost use Rattle.detect_extrema.specs.Scan.{keypointWords};
+ghost use Rattle.params.specs.Limits.{keypointWords};
 ghost use Rattle.orient_words.specs.Oriented.{orientedWords};
 ghost use Rattle.words.specs.Keypoint.{wordsIn, broken, keypointIn};
 ghost use Rattle.words.specs.Inputs.{inputWords, wordsOut, inputsNumber, inputsLeft};
@@ -10,10 +10,9 @@ ghost use Rattle.words.specs.Oriented.{sixIn, unoriented, orientedIn};
 use descriptor_inputs::Inputs;
 use detect_keypoint::RawKeypoint;
 use orient_words::OrientedKeypoint;
+use params::KEYPOINT_WORDS;
 
-// A keypoint goes out as so many words, and an oriented keypoint.
-const KEYPOINT_WORDS: usize = 10;
-
+// An oriented keypoint goes out as so many words.
 const ORIENTED_WORDS: usize = 6;
 
 fn not_a_number() -> f32

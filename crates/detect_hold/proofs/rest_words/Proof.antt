@@ -7,8 +7,7 @@ use lib.ListN.{length}
 use lib.Seq.{length-sets}
 use borrow.Author.Needs.{needs}
 use Rattle.lists.proofs.Ranges.{joined-start}
-use Rattle.params.specs.Limits.{border, maxSide}
-use Rattle.detect_extrema.specs.Scan.{keypointWords}
+use Rattle.params.specs.Limits.{border, maxSide, keypointWords}
 use Rattle.detect_rows.specs.Forms.{rowLeaves, rowsLeave}
 use Rattle.detect_words.proofs.Words.{Filled, filled-none, filled-part}
 use Rattle.detect_rows.proofs.Forms.{row-bound, rows-few}

@@ -5,9 +5,9 @@ use denote.Ref.{now}
 use lib.ListN.{length}
 use borrow.Author.Needs.{needs}
 use borrow.Author.Tests.{not-true, not-false}
-use Rattle.params.specs.Limits.{border}
+use Rattle.params.specs.Limits.{border, keypointWords}
 use Rattle.detect_extrema.specs.Neighbours.{tied}
-use Rattle.detect_extrema.specs.Scan.{keypoints, keypointWords}
+use Rattle.detect_extrema.specs.Scan.{keypoints}
 use Rattle.detect_words.proofs.Words.{length-words}
 use Rattle.detect_room.proofs.Room.{gave, bad, good}
 use Rattle.detect_hold.proofs.Few.{few-cells, cells-few}

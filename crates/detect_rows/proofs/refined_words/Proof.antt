@@ -6,7 +6,7 @@ use borrow.Author.Needs.{needs}
 use denote.Ref.{now}
 use lib.ListN.{length, take, getD}
 use lib.Seq.{length-sets}
-use Rattle.detect_extrema.specs.Scan.{keypointWords}
+use Rattle.params.specs.Limits.{keypointWords}
 use Rattle.detect_rows.specs.Forms.{again, allAgain}
 use Rattle.detect_words.proofs.Words.{Filled, filled-none, filled-more}
 use Rattle.detect_rows.proofs.Forms.{again-none, again-more, again-bound}

@@ -9,12 +9,12 @@ use lib.ListN.{length}
 use lib.Seq.{length-sets}
 use lib.Ieee.{Float}
 use Rattle.lists.proofs.Ranges.{joined-start}
-use Rattle.params.specs.Limits.{border}
+use Rattle.params.specs.Limits.{border, keypointWords}
 use Rattle.detect_samples.specs.Rows.{spanGood}
 use Rattle.picture.specs.declared.Shape.{Shape}
 use Rattle.detect_samples.proofs.Spans.{span-join}
 use Rattle.detect_extrema.specs.Neighbours.{tied}
-use Rattle.detect_extrema.specs.Scan.{found, keypointWords}
+use Rattle.detect_extrema.specs.Scan.{found}
 use Rattle.detect_words.specs.Leaves.{leaves}
 use Rattle.detect_rows.specs.Forms.{runLeaves, rowLeaves}
 use Rattle.detect_words.proofs.Words.{Filled, filled-none, filled-parts}

@@ -4,7 +4,7 @@ use mathlib.Core.List.{List}
 use lib.ListN.{length}
 use mathlib.Core.Bool.{Bool, cond}
 use borrow.Author.Tests.{eq-eqb, ne-eqb}
-use Rattle.detect_extrema.specs.Scan.{keypointWords}
+use Rattle.params.specs.Limits.{keypointWords}
 use Rattle.words.specs.Keypoint.{wordsIn, broken, keypointIn}
 use borrow.Author.Needs.{needs}
 use Rattle.words.proofs.keypoint_in.Statement.{statement}

@@ -11,6 +11,7 @@ ghost use Rattle.detect.specs.Entry.{extremaAnswer, extremaOut};
 ghost use Rattle.orient.specs.Entry.{orientAnswer, orientOut};
 ghost use Rattle.descriptor_inputs.specs.Inputs.{inputsOf};
 ghost use Rattle.descriptor.specs.Entry.{numberOf as describedNumber, countOf as describedCount, usedOf, describedOf, describedOut};
+ghost use Rattle.thin.specs.Entry.{thinAnswer, thinOut};
 ghost use Rattle.sheet.specs.Layout.{edition1};
 ghost use Rattle.sheet.specs.Writes.{frameOf, writeAnswer, writeOut};
 ghost use Rattle.sheet.specs.Reads.{readAnswer, readOut};
@@ -246,6 +247,27 @@ pub extern "C" fn bargeclover_compute_descriptor(
     *count = descriptor::count_of(a);
     *samples = descriptor::used_of(a);
     descriptor::number_of(a)
+}
+
+// ---- even cover
+
+#[no_mangle]
+pub extern "C" fn bargeclover_thin(
+    width: usize,
+    height: usize,
+    words: &[u32],
+    quota: usize,
+    depth: u32,
+    out: &mut [u32],
+    count: &mut usize,
+) -> u32
+    ensures { λ r. ⌜ r ≡ numberOf (thinAnswer (now (words .entry)) width height quota depth (length (now (out .entry)))) ⌝ }
+    ensures { λ _. ⌜ now (count .exit) ≡ countOf (thinAnswer (now (words .entry)) width height quota depth (length (now (out .entry)))) ⌝ }
+    ensures { λ _. ⌜ now (out .exit) ≡ thinOut (now (words .entry)) width height quota depth (now (out .entry)) ⌝ }
+{
+    let a = thin::thin_frame(width, height, words, quota, depth, out);
+    *count = params::count_of(a);
+    params::number_of(a)
 }
 
 // ---- the sheet

@@ -1,0 +1,1 @@
+// Counting numbers of a range that pass a test: nothing to run.

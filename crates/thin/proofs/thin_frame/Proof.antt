@@ -1,0 +1,31 @@
+use Rattle.thin.proofs.Keeps.{frame-refused, frame-kept}
+use borrow.Author.Needs.{needs}
+use Rattle.thin.proofs.thin_frame.Statement.{statement}
+use Rattle.thin.proofs.thin_frame.Tie as tie
+use Rattle.thin.proofs.thin_frame.Reads as reads
+use Rattle.thin.proofs.thin_frame.Lts as lts
+use Rattle.thin.proofs.fault.Reads as fault-reads
+use Rattle.thin.proofs.keep.Reads as keep-reads
+
+-- src/lib.rt:143:9
+fault-requires : tie.Need-fault-requires
+fault-requires c κs = search needs
+
+-- src/lib.rt:145:9
+returns : tie.Need-returns
+returns c = frame-refused _ _ _ _ _ _ _ (c .before .fault .ensures .0) (c .if1 .taken)
+
+-- src/lib.rt:153:5
+keep-requires : tie.Need-keep-requires
+keep-requires c κs = let a = c .before .before .fault .ensures .1 (c .before .if1 .left) in ((a .ordered, a .sound), (a .some, a .inside))
+
+-- src/lib.rt:132:1
+same-length : tie.Need-same-length
+same-length c = search needs
+
+-- src/lib.rt:132:1
+returns-2 : tie.Need-returns-2
+returns-2 c = frame-kept _ _ _ _ _ _ _ _ _ (c .before .before .before .before .before .fault .ensures .0) (c .before .before .before .before .if1 .left) (c .before .before .keep .ensures)
+
+pub thin-frame-spec : {M : Type 1} → statement M
+thin-frame-spec = tie.close (tie.spec fault-requires returns keep-requires same-length returns-2)

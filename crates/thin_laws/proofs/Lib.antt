@@ -1,0 +1,6 @@
+pub mod Strengths
+pub mod Best
+pub mod Quarters
+pub mod Cases
+pub mod Few
+pub mod Promises

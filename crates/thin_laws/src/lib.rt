@@ -1,0 +1,1 @@
+// Laws of even cover: nothing to run.

@@ -1,0 +1,1 @@
+// Thinning a negative's keypoints: nothing to run.

@@ -1,0 +1,1 @@
+// The order of floats by their bits: nothing to run.

@@ -1,0 +1,109 @@
+// A region of a frame: its quarters and their shares, which keypoints lie in it, and how strong they are.
+ghost use mathlib.Core.Path.{_≡_};
+ghost use mathlib.Core.Bool.{cond};
+ghost use Prim.Native.Nat.{_^_, _<_, _≤_};
+ghost use lib.ListN.{length};
+ghost use Rattle.ieee.specs.F32.{float};
+ghost use Rattle.params.specs.Limits.{maxSide, maxKeypoints};
+ghost use Rattle.thin_order.specs.Place.{place};
+ghost use Rattle.thin_rule.specs.Rule.{pointsIn, quarter, share};
+ghost use Rattle.thin_rule.specs.Strength.{strength, strong, edgesOf, edged, Ordered};
+use params::KEYPOINT_WORDS;
+
+// The columns from left to below right, the rows from top to below bottom.
+pub struct Region {
+    pub left: usize,
+    pub right: usize,
+    pub top: usize,
+    pub bottom: usize,
+}
+
+// A region's edges as floats.
+pub struct Edges {
+    pub left: f32,
+    pub right: f32,
+    pub top: f32,
+    pub bottom: f32,
+}
+
+fn choice(b: bool, x: usize, y: usize) -> usize
+    ensures { λ r. ⌜ r ≡ cond b x y ⌝ }
+{
+    if b { x } else { y }
+}
+
+// The quarter k of a region, in row order.
+pub fn quarter_of(r: Region, k: usize) -> Region
+    requires { ⌜ Ordered r ⌝ }
+    ensures { λ s. ⌜ s ≡ quarter r k ⌝ }
+{
+    let x = r.left + (r.right - r.left) / 2;
+    let y = r.top + (r.bottom - r.top) / 2;
+    let left = k % 2 == 0;
+    let upper = k < 2;
+    Region {
+        left: choice(left, r.left, x),
+        right: choice(left, x, r.right),
+        top: choice(upper, r.top, y),
+        bottom: choice(upper, y, r.bottom),
+    }
+}
+
+// The share of a quota that the quarter k has.
+pub fn share_of(q: usize, k: usize) -> usize
+    ensures { λ r. ⌜ r ≡ share q k ⌝ }
+{
+    q / 4 + choice(k < q % 4, 1, 0)
+}
+
+pub fn whole(n: usize) -> f32
+    requires { ⌜ n ≤ maxSide ⌝ }
+    ensures { λ r. ⌜ r ≡ float n ⌝ }
+{
+    n as f32
+}
+
+pub fn edges_of(r: Region) -> Edges
+    requires { ⌜ Ordered r ⌝ }
+    ensures { λ e. ⌜ e ≡ edgesOf r ⌝ }
+{
+    Edges {
+        left: whole(r.left),
+        right: whole(r.right),
+        top: whole(r.top),
+        bottom: whole(r.bottom),
+    }
+}
+
+// x and y are compared with the edges as numbers.
+pub fn in_region(words: &[u32], e: Edges, p: usize) -> bool
+    requires { ⌜ p < pointsIn (now words) ⌝ }
+    ensures { λ b. ⌜ b ≡ edged (now (words .entry)) e p ⌝ }
+{
+    let x = ieee::of_bits(words[KEYPOINT_WORDS * p]);
+    let y = ieee::of_bits(words[KEYPOINT_WORDS * p + 1]);
+    ((e.left <= x) & (x < e.right)) & ((e.top <= y) & (y < e.bottom))
+}
+
+fn wide(x: u32) -> u64
+    ensures { λ r. ⌜ r ≡ x ⌝ }
+{
+    x as u64
+}
+
+fn place_of(w: u32) -> u64
+    ensures { λ r. ⌜ (r ≡ place w) × (r < 2 ^ 32) ⌝ }
+{
+    if w < 0x8000_0000 {
+        wide(w) + 0x8000_0000
+    } else {
+        0x1_0000_0000 - wide(w)
+    }
+}
+
+pub fn strength_of(words: &[u32], p: usize) -> u64
+    requires { ⌜ (p < pointsIn (now words)) × (pointsIn (now words) ≤ maxKeypoints) ⌝ }
+    ensures { λ r. ⌜ r ≡ strength (now (words .entry)) p ⌝ }
+{
+    place_of(words[KEYPOINT_WORDS * p + 3]) * 0x1_0000_0000 + (0xffff_ffff - (p as u64))
+}

@@ -1,19 +1,18 @@
 // Even cover for a frame: of its keypoints, the positions that it keeps at a quota.
 ghost use mathlib.Core.Path.{_≡_};
 ghost use mathlib.Core.Bool.{true, _&&_};
-ghost use Prim.Native.Nat.{ℕ, _^_, _≤_, _<_};
+ghost use Prim.Native.Nat.{ℕ, _≤_, _<_};
 ghost use lib.ListN.{length, getD};
 ghost use lib.Ieee.Scale.{finite};
 ghost use Rattle.lists.specs.Ranges.{every};
 ghost use Rattle.params.specs.Limits.{maxSide, maxKeypoints};
-ghost use Rattle.thin_rule.specs.Rule.{pointsIn, wordAt, responseOf, inside, kept};
-ghost use Rattle.thin_rule.specs.Strength.{edged, Ordered, Sound};
+ghost use Rattle.thin_rule.specs.Rule.{pointsIn, responseOf, inside, kept};
+ghost use Rattle.thin_rule.specs.Strength.{Ordered, Sound};
 ghost use Rattle.thin_part.specs.Runs.{Beside};
 ghost use Rattle.thin.specs.Entry.{pointRight, faultOf, thinAnswer, thinOut};
-ghost use Rattle.thin.specs.Frames.{Accepted, Given, Missing};
+ghost use Rattle.thin.specs.Frames.{sidesOf, sided, Words, Accepted, Given, Missing};
 use params::Answer;
 use params::KEYPOINT_WORDS;
-use thin_rule::Edges;
 use thin_rule::Region;
 
 const MAX_DEPTH: u32 = 12;
@@ -78,28 +77,43 @@ fn keep(words: &[u32], r: Region, q: usize, depth: u32, out: &mut [u32]) -> Answ
     Answer::Done(n)
 }
 
-// A keypoint in the frame, with a finite response.
-fn point_right(words: &[u32], e: Edges, i: usize) -> bool
-    requires { ⌜ i < pointsIn (now words) ⌝ }
-    ensures { λ b. ⌜ b ≡ (edged (now (words .entry)) e i && finite (responseOf (now (words .entry)) i)) ⌝ }
-    ensures { λ b. ⌜ wordAt (now (words .entry)) i 3 < 2 ^ 32 ⌝ }
+// The frame's sides, as floats.
+pub struct Sides {
+    pub zero: f32,
+    pub width: f32,
+    pub height: f32,
+}
+
+fn sides_of(w: usize, h: usize) -> Sides
+    requires { ⌜ (w ≤ maxSide) × (h ≤ maxSide) ⌝ }
+    ensures { λ e. ⌜ e ≡ sidesOf w h ⌝ }
 {
-    let w = words[KEYPOINT_WORDS * i + 3];
-    thin_rule::in_region(words, e, i) & ieee::is_finite(ieee::of_bits(w))
+    Sides {
+        zero: thin_rule::whole(0),
+        width: thin_rule::whole(w),
+        height: thin_rule::whole(h),
+    }
+}
+
+// A keypoint in the frame, compared as numbers, with a finite response.
+fn point_right(words: &[u32], e: Sides, i: usize) -> bool
+    requires { ⌜ i < pointsIn (now words) ⌝ }
+    ensures { λ b. ⌜ b ≡ (sided (now (words .entry)) e i && finite (responseOf (now (words .entry)) i)) ⌝ }
+    ensures { λ _. ⌜ Words (now (words .entry)) i ⌝ }
+{
+    let x = ieee::of_bits(words[KEYPOINT_WORDS * i]);
+    let y = ieee::of_bits(words[KEYPOINT_WORDS * i + 1]);
+    let t = ieee::of_bits(words[KEYPOINT_WORDS * i + 3]);
+    (((e.zero <= x) & (x < e.width)) & ((e.zero <= y) & (y < e.height))) & ieee::is_finite(t)
 }
 
 fn points_right(words: &[u32], w: usize, h: usize) -> bool
     requires { ⌜ (w ≤ maxSide) × (h ≤ maxSide) ⌝ }
     ensures { λ b. ⌜ b ≡ every (pointsIn (now (words .entry))) (pointRight (now (words .entry)) w h) ⌝ }
-    ensures { λ b. ⌜ (b ≡ true → (i : ℕ) → i < pointsIn (now (words .entry)) → wordAt (now (words .entry)) i 3 < 2 ^ 32) ⌝ }
+    ensures { λ b. ⌜ (b ≡ true → (i : ℕ) → i < pointsIn (now (words .entry)) → Words (now (words .entry)) i) ⌝ }
 {
     let n = words.len() / KEYPOINT_WORDS;
-    let e = thin_rule::edges_of(Region {
-        left: 0,
-        right: w,
-        top: 0,
-        bottom: h,
-    });
+    let e = sides_of(w, h);
     let mut i: usize = 0;
     while i < n {
         if !point_right(words, e, i) {

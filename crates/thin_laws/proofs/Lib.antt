@@ -1,5 +1,6 @@
 pub mod Strengths
 pub mod Best
+pub mod Edged
 pub mod Quarters
 pub mod Cases
 pub mod Few

@@ -17,7 +17,7 @@ use Rattle.counts.proofs.Counts.{either, one, length-passed, counted-same, coun
 use Rattle.thin_rule.specs.Rule.{pointsIn, inside, many, quarter, share, keeps, kept}
 use Rattle.thin_rule.specs.Strength.{strong, Ordered, Sound}
 use Rattle.thin_rule.specs.declared.Region.{Region}
-use Rattle.thin_laws.proofs.Best.{strong-inside, strong-zero, best-cut}
+use Rattle.thin_laws.proofs.Best.{strong-zero, best-cut}
 use Rattle.thin_laws.proofs.Quarters.{quarter-ordered, quarters-apart}
 use Rattle.thin_laws.proofs.Cases.{keeps-inside, keeps-all, keeps-best, keeps-quarters}
 use Rattle.thin_laws.proofs.Few.{total, total-mono, counted-some, share-some, shares-some, keeps-few}
@@ -26,7 +26,7 @@ use Rattle.thin_source.specs.Sources.{candidate, found, Stands, Covers, boundOf
 use Rattle.thin_source.specs.Adds.{Added}
 use Rattle.thin_source.specs.declared.Source.{Source}
 use Rattle.thin_source.specs.declared.Bounds.{Bounds}
-use Rattle.thin_source.proofs.Covering.{covers-test, covers-strong, covers-many}
+use Rattle.thin_source.proofs.Covering.{covers-any, covers-put, covers-strong, covers-many}
 
 -- ---- what is added
 
@@ -84,14 +84,10 @@ added-then ws f g s t u at mid end p a b =
 -- ---- the three cases of a region
 
 module _ (ws : List ℕ) (d : ℕ) (r : Region) (q : ℕ) (s : List ℕ) (c : Source) (h : Covers ws r s c) where
-  -- what a source has of the region from a strength on
-  put-is : (t : ℕ) (g : ℕ → Bool) → found s c (λ p. strong ws r t p && g p) ≡ those ws (strong ws r t) g
-  put-is t g = covers-test ws r s c h (λ p. strong ws r t p && g p) (λ i e. strong-inside ws r t i (and-left (strong ws r t i) (g i) e))
-
   put-keeps : (t : ℕ) → ((i : ℕ) → i < pointsIn ws → strong ws r t i ≡ keeps ws d r q i) → (o p : List ℕ) (at end : ℕ) → Added (λ g. found s c (λ i. strong ws r t i && g i)) o p at end → Added (those ws (keeps ws d r q)) o p at end
   put-keeps t e o p at end a =
       added-same (λ g. found s c (λ i. strong ws r t i && g i)) (those ws (keeps ws d r q)) o p at end
-      (λ g. put-is t g ∙ counted-same 0 (pointsIn ws) (λ i. strong ws r t i && g i) (λ i. keeps ws d r q i && g i) (λ i v w. ap (λ (x : Bool). x && g i) (e i w))) a
+      (λ g. covers-put ws r s c h t g ∙ counted-same 0 (pointsIn ws) (λ i. strong ws r t i && g i) (λ i. keeps ws d r q i && g i) (λ i v w. ap (λ (x : Bool). x && g i) (e i w))) a
 
   pub case-all : (m : ℕ) → m ≡ many ws r → m ≤ q → (o p : List ℕ) (at end : ℕ) → Added (λ g. found s c (λ i. strong ws r 0 i && g i)) o p at end → Added (those ws (keeps ws d r q)) o p at end
   case-all m x l o p at end a = put-keeps 0 (λ i w. strong-zero ws r i ∙ sym (keeps-all ws d r q i (omega arith))) o p at end a
@@ -135,18 +131,7 @@ bound-order b (suc (suc zero)) l (e, f, g, h) = (omega arith, g)
 bound-order b (suc (suc (suc zero))) l (e, f, g, h) = (omega arith, h)
 bound-order b (suc (suc (suc (suc k)))) l e = absurd (omega arith)
 
--- a source of all positions asks nothing of the lent list
-covers-any : (ws : List ℕ) (r : Region) (s t : List ℕ) (c : Source) → c .all ≡ true → Covers ws r s c → Covers ws r t c
-unfolding candidate
-covers-any ws r s t c z h =
-    record {
-      stands = record { order = h .stands .order; room = λ e. absurd (true≢false (sym z ∙ e)); each = λ k a b. subst (λ (v : ℕ). v < pointsIn ws) (sym (is k)) (h .stands .each k a b) };
-      each = λ g. counted-same (c .from) (c .to) (λ k. inside ws r (candidate (c .all) t k) && g (candidate (c .all) t k)) (λ k. inside ws r (candidate (c .all) s k) && g (candidate (c .all) s k)) (λ k a b. ap (λ (v : ℕ). inside ws r v && g v) (is k)) ∙ h .each g;
-    }
-  where
-    is : (k : ℕ) → candidate (c .all) t k ≡ candidate (c .all) s k
-    is k = rw z
-
+-- a source stays where the list changed before it
 covers-beside : (ws : List ℕ) (r : Region) (s t : List ℕ) (c : Source) (x y : ℕ) → y ≤ c .from → Beside s t x y → Covers ws r s c → Covers ws r t c
 unfolding candidate
 covers-beside ws r s t c x y l d h =

@@ -5,9 +5,9 @@ ghost use Prim.Native.Nat.{_^_, _<_, _≤_};
 ghost use lib.ListN.{length};
 ghost use Rattle.ieee.specs.F32.{float};
 ghost use Rattle.params.specs.Limits.{maxSide, maxKeypoints};
-ghost use Rattle.thin_order.specs.Place.{place};
+ghost use Rattle.thin_order.specs.Place.{place, bare};
 ghost use Rattle.thin_rule.specs.Rule.{pointsIn, quarter, share};
-ghost use Rattle.thin_rule.specs.Strength.{strength, strong, edgesOf, edged, Ordered};
+ghost use Rattle.thin_rule.specs.Strength.{strength, edgeAt, edgesOf, edged, Ordered};
 use params::KEYPOINT_WORDS;
 
 // The columns from left to below right, the rows from top to below bottom.
@@ -18,12 +18,12 @@ pub struct Region {
     pub bottom: usize,
 }
 
-// A region's edges as floats.
+// A region's edges, each as the bits of its float.
 pub struct Edges {
-    pub left: f32,
-    pub right: f32,
-    pub top: f32,
-    pub bottom: f32,
+    pub left: u32,
+    pub right: u32,
+    pub top: u32,
+    pub bottom: u32,
 }
 
 fn choice(b: bool, x: usize, y: usize) -> usize
@@ -63,25 +63,39 @@ pub fn whole(n: usize) -> f32
     n as f32
 }
 
+// The bits without the sign. Numbers from 0 on are in their order, and minus zero is with zero.
+pub fn bare_of(w: u32) -> u32
+    ensures { λ r. ⌜ r ≡ bare w ⌝ }
+{
+    w % 0x8000_0000
+}
+
+pub fn edge_at(n: usize) -> u32
+    requires { ⌜ n ≤ maxSide ⌝ }
+    ensures { λ r. ⌜ r ≡ edgeAt n ⌝ }
+{
+    bare_of(ieee::bits_of(whole(n)))
+}
+
 pub fn edges_of(r: Region) -> Edges
     requires { ⌜ Ordered r ⌝ }
     ensures { λ e. ⌜ e ≡ edgesOf r ⌝ }
 {
     Edges {
-        left: whole(r.left),
-        right: whole(r.right),
-        top: whole(r.top),
-        bottom: whole(r.bottom),
+        left: edge_at(r.left),
+        right: edge_at(r.right),
+        top: edge_at(r.top),
+        bottom: edge_at(r.bottom),
     }
 }
 
-// x and y are compared with the edges as numbers.
+// x and y between the edges: compared by their bits, without a branch.
 pub fn in_region(words: &[u32], e: Edges, p: usize) -> bool
     requires { ⌜ p < pointsIn (now words) ⌝ }
     ensures { λ b. ⌜ b ≡ edged (now (words .entry)) e p ⌝ }
 {
-    let x = ieee::of_bits(words[KEYPOINT_WORDS * p]);
-    let y = ieee::of_bits(words[KEYPOINT_WORDS * p + 1]);
+    let x = bare_of(words[KEYPOINT_WORDS * p]);
+    let y = bare_of(words[KEYPOINT_WORDS * p + 1]);
     ((e.left <= x) & (x < e.right)) & ((e.top <= y) & (y < e.bottom))
 }
 

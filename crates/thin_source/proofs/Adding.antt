@@ -15,13 +15,15 @@ use Rattle.lists.proofs.Bools.{and-true, and-false}
 use Rattle.counts.specs.Counts.{counted}
 use Rattle.counts.proofs.Counts.{one, counted-none, counted-next, counted-split, counted-same, counted-never, counted-zero}
 use Rattle.thin_rule.specs.Rule.{pointsIn, inside, many}
-use Rattle.thin_rule.specs.Strength.{strong}
+use Rattle.thin_rule.specs.Strength.{strong, edgesOf, Ordered, Sound}
+use Rattle.thin_rule.specs.declared.Edges.{Edges}
 use Rattle.thin_rule.specs.declared.Region.{Region}
 use Rattle.thin_part.specs.Runs.{held, Beside}
-use Rattle.thin_source.specs.Sources.{candidate, found, Covers}
+use Rattle.thin_source.specs.Sources.{candidate, found, Stands, Covers}
 use Rattle.thin_source.specs.Adds.{Added}
 use Rattle.thin_source.specs.declared.Source.{Source}
-use Rattle.thin_source.proofs.Sources.{covers-any, covers-strong, many-all}
+use Rattle.thin_source.proofs.Covering.{covers-any, covers-all, many-all}
+use Rattle.thin_source.proofs.Sources.{weighed, each-weighed}
 
 -- ---- the candidates from `from` to below k that pass the test are added at `at`, up to m
 
@@ -106,19 +108,19 @@ add-turn test cand s d d' at from to k m p o y i h z w u v = rw (u, v) (turn y (
         }
 
 -- m stays at or below where all of them end
-pub add-within : (test : ℕ → Bool) (cand : ℕ → ℕ) (s d : List ℕ) (at from to k m : ℕ) (f : ℕ → Bool) → Adding test cand s d at from to k m → ((p : ℕ) → f p ≡ test p) → m ≤ at + counted from to (λ j. f (cand j))
+pub add-within : (test : ℕ → Bool) (cand : ℕ → ℕ) (s d : List ℕ) (at from to k m : ℕ) (f : ℕ → Bool) → Adding test cand s d at from to k m → ((j : ℕ) → from ≤ j → j < to → f (cand j) ≡ test (cand j)) → m ≤ at + counted from to (λ j. f (cand j))
 add-within test cand s d at from to k m f i e =
     let c = i .count in
     let n = counted-split from k to (λ j. test (cand j)) (i .low) (i .high) in
-    let q = counted-same from to (λ j. f (cand j)) (λ j. test (cand j)) (λ j a b. e (cand j)) in
+    let q = counted-same from to (λ j. f (cand j)) (λ j. test (cand j)) e in
     omega arith
 
-pub add-end : (test : ℕ → Bool) (cand : ℕ → ℕ) (s d : List ℕ) (at from to k m : ℕ) (f : ℕ → Bool) → Adding test cand s d at from to k m → to ≤ k → ((p : ℕ) → f p ≡ test p) → Added (λ g. counted from to (λ j. f (cand j) && g (cand j))) s d at m
+pub add-end : (test : ℕ → Bool) (cand : ℕ → ℕ) (s d : List ℕ) (at from to k m : ℕ) (f : ℕ → Bool) → Adding test cand s d at from to k m → to ≤ k → ((j : ℕ) → from ≤ j → j < to → f (cand j) ≡ test (cand j)) → Added (λ g. counted from to (λ j. f (cand j) && g (cand j))) s d at m
 add-end test cand s d at from to k m f i h e =
     record {
-      count = i .count ∙ ap (λ n. at + n) (rw same (counted-same from k (λ j. test (cand j)) (λ j. f (cand j) && true) (λ j a b. sym (and-true (f (cand j)) ∙ e (cand j)))));
+      count = i .count ∙ ap (λ n. at + n) (rw same (counted-same from k (λ j. test (cand j)) (λ j. f (cand j) && true) (λ j a b. sym (and-true (f (cand j)) ∙ e j a (omega arith)))));
       beside = i .beside;
-      each = λ l g. i .each l g ∙ rw same (counted-same from k (λ j. test (cand j) && g (cand j)) (λ j. f (cand j) && g (cand j)) (λ j a b. rw (e (cand j))));
+      each = λ l g. i .each l g ∙ rw same (counted-same from k (λ j. test (cand j) && g (cand j)) (λ j. f (cand j) && g (cand j)) (λ j a b. rw (e j a (omega arith))));
     }
   where
     same : to ≡ k
@@ -130,7 +132,7 @@ abbrev Put : List ℕ → Region → Source → List ℕ → List ℕ → ℕ �
 Put ws r c s d m = Added (λ g. found ws c (λ p. strong ws r 0 p && g p)) s d 0 m
 
 pub added-many : (ws : List ℕ) (r : Region) (c : Source) (s d : List ℕ) (m : ℕ) → Covers ws r ws c → Put ws r c s d m → m ≡ many ws r
-added-many ws r c s d m h a = a .count ∙ zero-add (found ws c (λ p. strong ws r 0 p && true)) ∙ covers-strong ws r ws c h (λ i. true) ∙ many-all ws r
+added-many ws r c s d m h a = a .count ∙ zero-add (found ws c (λ p. strong ws r 0 p && true)) ∙ covers-all ws r ws c h (λ i. true) ∙ many-all ws r
 
 held-covers : (ws : List ℕ) (r : Region) (c : Source) (s d : List ℕ) (m : ℕ) → Covers ws r ws c → Put ws r c s d m → m ≤ length d → Covers ws r d (record { all = false; from = 0; to = m })
 unfolding candidate
@@ -141,7 +143,7 @@ held-covers ws r c s d m h a l =
     }
   where
     all : (g : ℕ → Bool) → held d 0 m g ≡ counted 0 (pointsIn ws) (λ i. inside ws r i && g i)
-    all g = a .each (let e = a .beside .length in omega arith) g ∙ covers-strong ws r ws c h g
+    all g = a .each (let e = a .beside .length in omega arith) g ∙ covers-all ws r ws c h g
 
     none : held d 0 m (λ p. not (ltb p (pointsIn ws))) ≡ 0
     none =
@@ -156,3 +158,12 @@ pub added-covers : (ws : List ℕ) (r : Region) (c : Source) (s d : List ℕ) (m
 added-covers ws r c s d m x y t h a u v =
     rw (u, v)
     (⊎-elim (λ l. rw (le-leb m (length d) l) (held-covers ws r c s d m h a l)) (λ l. rw (lt-leb m (length d) l, ← t) (covers-any ws r ws d c t h)) (le-or-lt m (length d)))
+
+-- ---- those that are strong
+
+module _ (ws : List ℕ) (r : Region) (e : Edges) (t : ℕ) (s : List ℕ) (c : Source) (sd : Sound ws) (o : Ordered r) (h : Stands (pointsIn ws) s c) (z : e ≡ edgesOf r) where
+  pub add-strong-within : (u d : List ℕ) (at k m : ℕ) → Adding (weighed ws e t) (candidate (c .all) s) u d at (c .from) (c .to) k m → m ≤ at + found s c (strong ws r t)
+  add-strong-within u d at k m i = add-within (weighed ws e t) (candidate (c .all) s) u d at (c .from) (c .to) k m (strong ws r t) i (each-weighed ws r e t s c sd o h z)
+
+  pub add-strong : (u d : List ℕ) (at k m : ℕ) → Adding (weighed ws e t) (candidate (c .all) s) u d at (c .from) (c .to) k m → c .to ≤ k → Added (λ g. found s c (λ p. strong ws r t p && g p)) u d at m
+  add-strong u d at k m i l = add-end (weighed ws e t) (candidate (c .all) s) u d at (c .from) (c .to) k m (strong ws r t) i l (each-weighed ws r e t s c sd o h z)

@@ -1,5 +1,5 @@
+pub mod Covering
 pub mod Sources
 pub mod Adding
-pub mod Covering
 pub mod Cutting
 pub mod Splitting

@@ -8,17 +8,17 @@ use native.Mathlib.Nat.{le-refl, le-trans}
 use native.Mathlib.Omega.{arith}
 use borrow.Author.Tests.{ltb-true, ltb-false, lt-ltb, le-ltb}
 use lib.Dec.{ltb, eqb}
-use lib.Ieee.{Float}
 use lib.ListN.{length, getD}
 use Rattle.lists.proofs.Bools.{and-left, and-right, and-assoc, both-and}
 use Rattle.lists.proofs.Naturals.{le-or-lt}
-use Rattle.ieee.specs.F32.{float, _<ᶠ_}
 use Rattle.counts.specs.Counts.{counted}
 use Rattle.counts.proofs.Counts.{either, counted-same, counted-never, counted-zero}
-use Rattle.thin_rule.specs.Rule.{pointsIn, xOf, yOf, inside, middle, isLeft, isUpper, quarter}
-use Rattle.thin_rule.specs.Strength.{Ordered}
+use Rattle.thin_rule.specs.Rule.{pointsIn, wordAt, inside, middle, isLeft, isUpper, quarter}
+use Rattle.thin_order.specs.Place.{bare}
+use Rattle.thin_rule.specs.Strength.{edgeAt, Ordered, Sound}
 use Rattle.thin_rule.specs.declared.Region.{Region}
-use Rattle.thin_laws.proofs.Quarters.{quarter-inside, quarter-column, quarter-row}
+use Rattle.thin_laws.proofs.Edged.{edge-less}
+use Rattle.thin_laws.proofs.Quarters.{quarter-column, quarter-row}
 use Rattle.thin_part.specs.Runs.{held, Listed, Beside, Parted}
 use Rattle.thin_part.specs.Cuts.{below}
 use Rattle.thin_part.specs.declared.Cut.{Cut}
@@ -85,7 +85,7 @@ stands-listed n s c z h = record { each = λ k a b. subst (λ (x : Bool). cond x
 
 -- a piece with all keypoints of a quarter is a source of it
 piece-covers : (ws : List ℕ) (r : Region) (k : ℕ) (s t : List ℕ) (c : Source) (f : ℕ → Bool) (a b : ℕ) → c .all ≡ false → Ordered r → Covers ws r s c → Piece f s t (c .from) (c .to) a b
-    → ((p : ℕ) → inside ws (quarter r k) p ≡ true → f p ≡ true) → Covers ws (quarter r k) t (record { all = false; from = a; to = b })
+    → ((p : ℕ) → p < pointsIn ws → inside ws (quarter r k) p ≡ true → f p ≡ true) → Covers ws (quarter r k) t (record { all = false; from = a; to = b })
 unfolding candidate
 piece-covers ws r k s t c f a b z o h p w =
     record {
@@ -93,7 +93,7 @@ piece-covers ws r k s t c f a b z o h p w =
       each = λ g.
           p .each (λ i. inside ws (quarter r k) i && g i)
           ∙ counted-same (c .from) (c .to) (λ j. f (getD s j 0) && (inside ws (quarter r k) (getD s j 0) && g (getD s j 0))) (λ j. inside ws (quarter r k) (getD s j 0) && g (getD s j 0))
-          (λ j l m. absorbed (f (getD s j 0)) (inside ws (quarter r k) (getD s j 0) && g (getD s j 0)) (λ v. w (getD s j 0) (and-left (inside ws (quarter r k) (getD s j 0)) (g (getD s j 0)) v)))
+          (λ j l m. absorbed (f (getD s j 0)) (inside ws (quarter r k) (getD s j 0) && g (getD s j 0)) (λ v. w (getD s j 0) (stands-listed (pointsIn ws) s c z (h .stands) .each j l m) (and-left (inside ws (quarter r k) (getD s j 0)) (g (getD s j 0)) v)))
           ∙ run (λ i. inside ws (quarter r k) i && g i)
           ∙ covers-quarter ws r k s c o h .each g;
     }
@@ -115,14 +115,16 @@ source-all : (c : Source) (b : Bounds) (k : ℕ) → c .all ≡ true → sourceO
 unfolding sourceOf
 source-all c b k z = rw z
 
-module _ (ws : List ℕ) (r : Region) (k : ℕ) (x y : Float) (i : ℕ) (e : x ≡ float (middle (r .left) (r .right))) (f : y ≡ float (middle (r .top) (r .bottom))) (h : inside ws (quarter r k) i ≡ true) where
+module _ (ws : List ℕ) (r : Region) (k x y i : ℕ) (s : Sound ws) (o : Ordered r) (e : x ≡ edgeAt (middle (r .left) (r .right))) (f : y ≡ edgeAt (middle (r .top) (r .bottom))) (l : i < pointsIn ws) (h : inside ws (quarter r k) i ≡ true) where
   side-column : below ws (Column x) i ≡ isLeft k
   unfolding below
-  side-column = ap (λ (v : Float). xOf ws i <ᶠ v) e ∙ quarter-column ws r k i h
+  side-column =
+      ap (λ (v : ℕ). ltb (bare (wordAt ws i 0)) v) e ∙ sym (edge-less (wordAt ws i 0) (middle (r .left) (r .right)) (s .x i l) (let a = o .across in let b = o .right in omega arith)) ∙ quarter-column ws r k i h
 
   side-row : below ws (Row y) i ≡ isUpper k
   unfolding below
-  side-row = ap (λ (v : Float). yOf ws i <ᶠ v) f ∙ quarter-row ws r k i h
+  side-row =
+      ap (λ (v : ℕ). ltb (bare (wordAt ws i 1)) v) f ∙ sym (edge-less (wordAt ws i 1) (middle (r .top) (r .bottom)) (s .y i l) (let a = o .down in let b = o .bottom in omega arith)) ∙ quarter-row ws r k i h
 
 -- the run parted at the row: the upper part and, after the upper part was parted too, the lower
 pub upper-listed : (n : ℕ) (f : ℕ → Bool) (s t : List ℕ) (from m to : ℕ) → Parted f s t from m to → Listed n s from to → Listed n t from m
@@ -139,12 +141,12 @@ upper-fits f s t from m to p h = let x = p .high in let y = p .beside .length in
 pub lower-fits : (f g : ℕ → Bool) (s t u : List ℕ) (from k m to : ℕ) → Parted f s t from m to → Parted g t u from k m → to ≤ length s → to ≤ length u
 lower-fits f g s t u from k m to p q h = let x = p .beside .length in let y = q .beside .length in omega arith
 
-pub split-held : (ws : List ℕ) (r : Region) (x y : Float) (s t u v : List ℕ) (c : Source) (second third fourth : ℕ) → c .all ≡ false → Ordered r → Covers ws r s c
-    → x ≡ float (middle (r .left) (r .right)) → y ≡ float (middle (r .top) (r .bottom))
+pub split-held : (ws : List ℕ) (r : Region) (x y : ℕ) (s t u v : List ℕ) (c : Source) (second third fourth : ℕ) → c .all ≡ false → Sound ws → Ordered r → Covers ws r s c
+    → x ≡ edgeAt (middle (r .left) (r .right)) → y ≡ edgeAt (middle (r .top) (r .bottom))
     → Parted (below ws (Row y)) s t (c .from) third (c .to) → Parted (below ws (Column x)) t u (c .from) second third → Parted (below ws (Column x)) u v third fourth (c .to)
     → Split ws r s v c (record { first = c .from; second = second; third = third; fourth = fourth; last = c .to })
 unfolding boundOf
-split-held ws r x y s t u v c second third fourth z o h ex ey p1 p2 p3 =
+split-held ws r x y s t u v c second third fourth z sd o h ex ey p1 p2 p3 =
     record {
       covers = covers;
       ends = λ n. (refl, refl);
@@ -187,19 +189,19 @@ split-held ws r x y s t u v c second third fourth z o h ex ey p1 p2 p3 =
     covers zero l =
         subst (Covers ws (quarter r 0) v) (sym (source-is c b 0 z))
         (piece-covers ws r 0 s v c (λ p. below ws (Row y) p && below ws (Column x) p) (c .from) second z o h q0
-        (λ i n. both-and (below ws (Row y) i) (below ws (Column x) i) (side-row ws r 0 x y i ex ey n) (side-column ws r 0 x y i ex ey n)))
+        (λ i g n. both-and (below ws (Row y) i) (below ws (Column x) i) (side-row ws r 0 x y i sd o ex ey g n) (side-column ws r 0 x y i sd o ex ey g n)))
     covers (suc zero) l =
         subst (Covers ws (quarter r 1) v) (sym (source-is c b 1 z))
         (piece-covers ws r 1 s v c (λ p. below ws (Row y) p && not (below ws (Column x) p)) second third z o h q1
-        (λ i n. both-and (below ws (Row y) i) (not (below ws (Column x) i)) (side-row ws r 1 x y i ex ey n) (ap not (side-column ws r 1 x y i ex ey n))))
+        (λ i g n. both-and (below ws (Row y) i) (not (below ws (Column x) i)) (side-row ws r 1 x y i sd o ex ey g n) (ap not (side-column ws r 1 x y i sd o ex ey g n))))
     covers (suc (suc zero)) l =
         subst (Covers ws (quarter r 2) v) (sym (source-is c b 2 z))
         (piece-covers ws r 2 s v c (λ p. not (below ws (Row y) p) && below ws (Column x) p) third fourth z o h q2
-        (λ i n. both-and (not (below ws (Row y) i)) (below ws (Column x) i) (ap not (side-row ws r 2 x y i ex ey n)) (side-column ws r 2 x y i ex ey n)))
+        (λ i g n. both-and (not (below ws (Row y) i)) (below ws (Column x) i) (ap not (side-row ws r 2 x y i sd o ex ey g n)) (side-column ws r 2 x y i sd o ex ey g n)))
     covers (suc (suc (suc zero))) l =
         subst (Covers ws (quarter r 3) v) (sym (source-is c b 3 z))
         (piece-covers ws r 3 s v c (λ p. not (below ws (Row y) p) && not (below ws (Column x) p)) fourth (c .to) z o h q3
-        (λ i n. both-and (not (below ws (Row y) i)) (not (below ws (Column x) i)) (ap not (side-row ws r 3 x y i ex ey n)) (ap not (side-column ws r 3 x y i ex ey n))))
+        (λ i g n. both-and (not (below ws (Row y) i)) (not (below ws (Column x) i)) (ap not (side-row ws r 3 x y i sd o ex ey g n)) (ap not (side-column ws r 3 x y i sd o ex ey g n))))
     covers (suc (suc (suc (suc k)))) l = absurd (omega arith)
 
 pub split-all : (ws : List ℕ) (r : Region) (s : List ℕ) (c : Source) (b : Bounds) → c .all ≡ true → Ordered r → Covers ws r s c → Split ws r s s c b

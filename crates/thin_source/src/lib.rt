@@ -82,7 +82,7 @@ fn is_strong(words: &[u32], e: Edges, t: u64, p: usize) -> bool
 
 // How many of the region's keypoints are at least so strong.
 fn tally(words: &[u32], r: Region, t: u64, s: &[u32], c: Source) -> usize
-    requires { ⌜ Ordered r × (pointsIn (now words) ≤ maxKeypoints) ⌝ }
+    requires { ⌜ Ordered r × Sound (now words) ⌝ }
     requires { ⌜ Stands (pointsIn (now words)) (now s) c ⌝ }
     ensures { λ m. ⌜ m ≡ found (now (s .entry)) c (strong (now (words .entry)) r t) ⌝ }
 {
@@ -120,7 +120,7 @@ pub fn put(
     out: &mut [u32],
     at: usize,
 ) -> usize
-    requires { ⌜ Ordered r × (pointsIn (now words) ≤ maxKeypoints) ⌝ }
+    requires { ⌜ Ordered r × Sound (now words) ⌝ }
     requires { ⌜ Stands (pointsIn (now words)) (now s) c ⌝ }
     requires { ⌜ at + found (now s) c (strong (now words) r t) < 2 ^ 64 ⌝ }
     ensures { λ end. ⌜ Added (λ g. found (now (s .entry)) c (λ p. strong (now (words .entry)) r t p && g p)) (now (out .entry)) (now (out .exit)) at end ⌝ }
@@ -166,7 +166,7 @@ pub fn cut(words: &[u32], r: Region, q: usize, h: Reach, s: &[u32], c: Source) -
 
 // Counts the region's keypoints. Of all positions it puts them into the lent list, which is their source from then on if it took them all.
 pub fn hold(words: &[u32], r: Region, s: &mut [u32], c: Source) -> Found
-    requires { ⌜ Ordered r × (pointsIn (now words) ≤ maxKeypoints) ⌝ }
+    requires { ⌜ Ordered r × Sound (now words) ⌝ }
     requires { ⌜ Covers (now words) r (now s) c ⌝ }
     ensures { λ f. ⌜ (f .many ≡ many (now (words .entry)) r) × Covers (now (words .entry)) r (now (s .exit)) (f .source) ⌝ }
     ensures { λ f. ⌜ (c .all ≡ false → (f .source ≡ c) × (now (s .exit) ≡ now (s .entry))) ⌝ }
@@ -192,7 +192,7 @@ pub fn hold(words: &[u32], r: Region, s: &mut [u32], c: Source) -> Found
 
 // Parts a run in four, for the region's quarters.
 pub fn split(words: &[u32], r: Region, s: &mut [u32], c: Source) -> Bounds
-    requires { ⌜ Ordered r ⌝ }
+    requires { ⌜ Ordered r × Sound (now words) ⌝ }
     requires { ⌜ Covers (now words) r (now s) c ⌝ }
     ensures { λ b. ⌜ Split (now (words .entry)) r (now (s .entry)) (now (s .exit)) c b ⌝ }
 {
@@ -207,8 +207,8 @@ pub fn split(words: &[u32], r: Region, s: &mut [u32], c: Source) -> Bounds
             last: from,
         };
     }
-    let x = thin_rule::whole(r.left + (r.right - r.left) / 2);
-    let y = thin_rule::whole(r.top + (r.bottom - r.top) / 2);
+    let x = thin_rule::edge_at(r.left + (r.right - r.left) / 2);
+    let y = thin_rule::edge_at(r.top + (r.bottom - r.top) / 2);
     let third = thin_part::part(words, Cut::Row(y), s, from, to);
     let second = thin_part::part(words, Cut::Column(x), s, from, third);
     let fourth = thin_part::part(words, Cut::Column(x), s, third, to);

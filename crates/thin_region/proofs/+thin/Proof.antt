@@ -52,7 +52,7 @@ thin-hold-requires : (t : ℕ) → thin-lts.Need-hold-requires (
   thin-below t,
   thin.Post,
 ) (thin-at t) thin.Post thin-Inv-loop thin-μ-loop
-thin-hold-requires t c κs = (((c .before .before .before .before .pre) .1 .0 .0, (c .before .before .before .before .pre) .1 .0 .1 .few), (c .before .before .before .before .pre) .1 .1 .0 .0)
+thin-hold-requires t c κs = ((c .before .before .before .before .pre) .1 .0, (c .before .before .before .before .pre) .1 .1 .0 .0)
 
 -- src/lib.rt:53:9
 thin-put-requires : (t : ℕ) → thin-lts.Need-put-requires (
@@ -73,7 +73,7 @@ thin-put-requires : (t : ℕ) → thin-lts.Need-put-requires (
   thin-below t,
   thin.Post,
 ) (thin-at t) thin.Post thin-Inv-loop thin-μ-loop
-thin-put-requires t c κs = (((c .before .before .before .before .before .before .before .before .before .before .before .before .pre) .1 .0 .0, (c .before .before .before .before .before .before .before .before .before .before .before .before .pre) .1 .0 .1 .few), ((c .before .before .before .before .before .before .before .hold) .ensures .0 .1 .stands, room-all _ 0 _ _ _ _ ((c .before .before .before .before .before .before .before .hold) .ensures .0 .1) _ _ ((c .before .before .before .before .before .before .before .hold) .ensures .0 .0) ((c .before .before .if1) .taken) ((c .before .before .before .before .before .before .before .before .before .before .before .before .pre) .1 .1 .1 .1)))
+thin-put-requires t c κs = ((c .before .before .before .before .before .before .before .before .before .before .before .before .pre) .1 .0, ((c .before .before .before .before .before .before .before .hold) .ensures .0 .1 .stands, room-all _ 0 _ _ _ _ ((c .before .before .before .before .before .before .before .hold) .ensures .0 .1) _ _ ((c .before .before .before .before .before .before .before .hold) .ensures .0 .0) ((c .before .before .if1) .taken) ((c .before .before .before .before .before .before .before .before .before .before .before .before .pre) .1 .1 .1 .1)))
 
 -- src/lib.rt:53:9
 thin-same-length : (t : ℕ) → thin-lts.Need-same-length (
@@ -157,7 +157,7 @@ thin-cut-requires : (t : ℕ) → thin-lts.Need-cut-requires (
   thin-below t,
   thin.Post,
 ) (thin-at t) thin.Post thin-Inv-loop thin-μ-loop
-thin-cut-requires t c κs = (((c .before .before .before .before .before .before .before .before .before .before .before .before .pre) .1 .0 .0, (c .before .before .before .before .before .before .before .before .before .before .before .before .pre) .1 .0 .1), (((c .before .before .before .before .before .before .before .hold) .ensures .0 .1, (c .before .before .before .before .before .before .before .before .before .before .before .before .pre) .1 .1 .0 .1), ((c .before .before .before .before .before .before .before .before .before .before .before .before .pre) .1 .1 .1 .0, (let e = (c .before .before .before .before .before .before .before .hold) .ensures .0 .0 in let l = (c .before .before .if1) .left in omega arith))))
+thin-cut-requires t c κs = ((c .before .before .before .before .before .before .before .before .before .before .before .before .pre) .1 .0, (((c .before .before .before .before .before .before .before .hold) .ensures .0 .1, (c .before .before .before .before .before .before .before .before .before .before .before .before .pre) .1 .1 .0 .1), ((c .before .before .before .before .before .before .before .before .before .before .before .before .pre) .1 .1 .1 .0, (let e = (c .before .before .before .before .before .before .before .hold) .ensures .0 .0 in let l = (c .before .before .if1) .left in omega arith))))
 
 -- src/lib.rt:57:9
 thin-put-requires-2 : (t : ℕ) → thin-lts.Need-put-requires-2 (
@@ -178,7 +178,7 @@ thin-put-requires-2 : (t : ℕ) → thin-lts.Need-put-requires-2 (
   thin-below t,
   thin.Post,
 ) (thin-at t) thin.Post thin-Inv-loop thin-μ-loop
-thin-put-requires-2 t c κs = (((c .before .before .before .before .before .before .before .before .before .before .before .before .before .before .before .pre) .1 .0 .0, (c .before .before .before .before .before .before .before .before .before .before .before .before .before .before .before .pre) .1 .0 .1 .few), ((c .before .before .before .before .before .before .before .before .before .before .hold) .ensures .0 .1 .stands, room-best _ 0 _ _ _ _ ((c .before .before .before .before .before .before .before .before .before .before .hold) .ensures .0 .1) _ _ ((c .before .before .cut) .ensures) ((c .before .before .before .before .before .before .before .before .before .before .before .before .before .before .before .pre) .1 .1 .1 .1)))
+thin-put-requires-2 t c κs = ((c .before .before .before .before .before .before .before .before .before .before .before .before .before .before .before .pre) .1 .0, ((c .before .before .before .before .before .before .before .before .before .before .hold) .ensures .0 .1 .stands, room-best _ 0 _ _ _ _ ((c .before .before .before .before .before .before .before .before .before .before .hold) .ensures .0 .1) _ _ ((c .before .before .cut) .ensures) ((c .before .before .before .before .before .before .before .before .before .before .before .before .before .before .before .pre) .1 .1 .1 .1)))
 
 -- src/lib.rt:57:9
 thin-same-length-3 : (t : ℕ) → thin-lts.Need-same-length-3 (
@@ -262,7 +262,7 @@ thin-split-requires : (t : ℕ) → thin-lts.Need-split-requires (
   thin-below t,
   thin.Post,
 ) (thin-at t) thin.Post thin-Inv-loop thin-μ-loop
-thin-split-requires t c κs = ((c .before .before .before .before .before .before .before .before .before .before .before .before .pre) .1 .0 .0, (c .before .before .before .before .before .before .before .hold) .ensures .0 .1)
+thin-split-requires t c κs = ((c .before .before .before .before .before .before .before .before .before .before .before .before .pre) .1 .0, (c .before .before .before .before .before .before .before .hold) .ensures .0 .1)
 
 -- src/lib.rt:62:5
 thin-loop-holds : (t : ℕ) → thin-lts.Need-loop-holds (

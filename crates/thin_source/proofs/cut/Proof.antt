@@ -35,7 +35,7 @@ add-mid-2 c = omega arith
 
 -- src/lib.rt:146:13
 tally-requires : tie.Need-tally-requires Inv-loop μ-loop
-tally-requires c κs = ((c .before .before .before .before .pre .0 .0, c .before .before .before .before .pre .0 .1 .few), c .before .before .before .before .pre .1 .0 .0 .stands)
+tally-requires c κs = ((c .before .before .before .before .pre .0 .0, c .before .before .before .before .pre .0 .1), c .before .before .before .before .pre .1 .0 .0 .stands)
 
 -- src/lib.rt:148:13
 returns : tie.Need-returns Inv-loop μ-loop

@@ -1,7 +1,7 @@
 use native.Mathlib.Omega.{arith}
 use mathlib.Core.Path.{refl, sym, _∙_}
 use mathlib.Core.Bool.{true≢false}
-use Rattle.thin_source.proofs.Sources.{covers-any, covers-few, covers-many}
+use Rattle.thin_source.proofs.Covering.{covers-any, covers-few, covers-many}
 use Rattle.thin_source.proofs.Adding.{added-many, added-covers}
 use borrow.Author.Needs.{needs}
 use Rattle.thin_source.proofs.hold.Statement.{statement}
@@ -17,7 +17,7 @@ put-requires : tie.Need-put-requires
 put-requires c κs =
     let t = c .before .if1 .taken in
     let h = covers-any _ _ _ (c .before .before .before .before .args .words .now) _ t (c .before .before .before .before .pre .1) in
-    (c .before .before .before .before .pre .0, (h .stands, (let f = covers-few _ _ _ _ h in let n = c .before .before .before .before .pre .0 .1 in omega arith)))
+    (c .before .before .before .before .pre .0, (h .stands, (let f = covers-few _ _ _ _ h in let n = c .before .before .before .before .pre .0 .1 .few in omega arith)))
 
 -- src/lib.rt:147:23
 choice-requires : tie.Need-choice-requires
@@ -49,7 +49,7 @@ same-length-2 c = search needs
 
 -- src/lib.rt:134:1
 returns-2 : tie.Need-returns-2
-returns-2 c = ((covers-many _ _ _ _ _ (c .before .before .before .before .before .pre .1) (c .tally .ensures), c .before .before .before .before .before .pre .1), λ f. (refl, refl))
+returns-2 c = ((c .tally .ensures ∙ covers-many _ _ _ _ (c .before .before .before .before .before .pre .1), c .before .before .before .before .before .pre .1), λ f. (refl, refl))
 
 pub hold-spec : {M : Type 1} → statement M
 hold-spec =

@@ -2,8 +2,8 @@ use borrow.Author.Needs.{needs}
 use native.Mathlib.Omega.{arith}
 use Prim.Native.Nat.{_-_}
 use Rattle.thin_source.specs.Sources.{candidate}
-use Rattle.thin_source.proofs.Sources.{weighed, strong-weighed, stands-lt}
-use Rattle.thin_source.proofs.Adding.{Adding, add-start, add-turn, add-within, add-end}
+use Rattle.thin_source.proofs.Sources.{weighed, stands-lt}
+use Rattle.thin_source.proofs.Adding.{Adding, add-start, add-turn, add-strong-within, add-strong}
 use Rattle.thin_source.proofs.put.Statement.{statement}
 use Rattle.thin_source.proofs.put.Tie as tie
 use Rattle.thin_source.proofs.put.Reads as reads
@@ -34,11 +34,11 @@ candidate-at-requires c κs = λ e. let h = c .before .before .before .before .b
 
 -- src/lib.rt:125:13
 is-strong-requires : tie.Need-is-strong-requires Inv-loop μ-loop
-is-strong-requires c κs = (stands-lt _ _ _ _ _ (c .before .before .before .before .before .before .before .pre .1 .0) (c .before .before .loop .inv .low) (c .before .loop-test .taken) (c .candidate-at .ensures), c .before .before .before .before .before .before .before .pre .0 .1)
+is-strong-requires c κs = (stands-lt _ _ _ _ _ (c .before .before .before .before .before .before .before .pre .1 .0) (c .before .before .loop .inv .low) (c .before .loop-test .taken) (c .candidate-at .ensures), c .before .before .before .before .before .before .before .pre .0 .1 .few)
 
 -- src/lib.rt:126:9
 put-if-requires : tie.Need-put-if-requires Inv-loop μ-loop
-put-if-requires c κs = let h = stands-lt _ _ _ _ _ (c .before .before .before .before .before .before .before .before .before .pre .1 .0) (c .before .before .before .before .loop .inv .low) (c .before .before .before .loop-test .taken) (c .before .before .candidate-at .ensures) in let n = c .before .before .before .before .before .before .before .before .before .pre .0 .1 in omega arith
+put-if-requires c κs = let h = stands-lt _ _ _ _ _ (c .before .before .before .before .before .before .before .before .before .pre .1 .0) (c .before .before .before .before .loop .inv .low) (c .before .before .before .loop-test .taken) (c .before .before .candidate-at .ensures) in let n = c .before .before .before .before .before .before .before .before .before .pre .0 .1 .few in omega arith
 
 -- src/lib.rt:127:14
 one-requires : tie.Need-one-requires Inv-loop μ-loop
@@ -58,7 +58,7 @@ loop-again c = add-turn _ _ _ _ _ _ _ _ _ _ _ _ _ (c .before .before .before .be
 
 -- src/lib.rt:127:9
 add-m : tie.Need-add-m Inv-loop μ-loop
-add-m c = let h = add-within _ _ _ _ _ _ _ _ _ _ (loop-again c) (λ p. strong-weighed _ _ _ _ p (c .before .before .before .before .before .before .before .before .before .edges-of .ensures)) in omega arith
+add-m c = let h = add-strong-within _ _ _ _ _ _ (c .before .before .before .before .before .before .before .before .before .before .before .before .before .pre .0 .1) (c .before .before .before .before .before .before .before .before .before .before .before .before .before .pre .0 .0) (c .before .before .before .before .before .before .before .before .before .before .before .before .before .pre .1 .0) (c .before .before .before .before .before .before .before .before .before .edges-of .ensures) _ _ _ _ _ (loop-again c) in omega arith
 
 -- src/lib.rt:112:1
 same-length : tie.Need-same-length Inv-loop μ-loop
@@ -66,7 +66,7 @@ same-length c = c .before .loop .inv .beside .length
 
 -- src/lib.rt:112:1
 returns : tie.Need-returns Inv-loop μ-loop
-returns c = add-end _ _ _ _ _ _ _ _ _ _ (c .before .loop .inv) (c .loop-test .left) (λ p. strong-weighed _ _ _ _ p (c .before .before .edges-of .ensures))
+returns c = add-strong _ _ _ _ _ _ (c .before .before .before .before .before .before .pre .0 .1) (c .before .before .before .before .before .before .pre .0 .0) (c .before .before .before .before .before .before .pre .1 .0) (c .before .before .edges-of .ensures) _ _ _ _ _ (c .before .loop .inv) (c .loop-test .left)
 
 pub put-spec : {M : Type 1} → statement M
 put-spec =

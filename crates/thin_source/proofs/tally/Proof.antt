@@ -2,7 +2,7 @@ use borrow.Author.Needs.{needs}
 use native.Mathlib.Omega.{arith}
 use Prim.Native.Nat.{_-_}
 use Rattle.thin_source.specs.Sources.{candidate}
-use Rattle.thin_source.proofs.Sources.{weighed, strong-weighed, stands-lt, Tallied, tally-start, tally-turn, tally-small, tally-end}
+use Rattle.thin_source.proofs.Sources.{weighed, stands-lt, Tallied, tally-start, tally-turn, tally-small, tally-strong}
 use Rattle.thin_source.proofs.tally.Statement.{statement}
 use Rattle.thin_source.proofs.tally.Tie as tie
 use Rattle.thin_source.proofs.tally.Reads as reads
@@ -32,7 +32,7 @@ candidate-at-requires c κs = λ e. let h = c .before .before .before .before .b
 
 -- src/lib.rt:94:18
 is-strong-requires : tie.Need-is-strong-requires Inv-loop μ-loop
-is-strong-requires c κs = (stands-lt _ _ _ _ _ (c .before .before .before .before .before .before .pre .1) (c .before .before .loop .inv .low) (c .before .loop-test .taken) (c .candidate-at .ensures), c .before .before .before .before .before .before .pre .0 .1)
+is-strong-requires c κs = (stands-lt _ _ _ _ _ (c .before .before .before .before .before .before .pre .1) (c .before .before .loop .inv .low) (c .before .loop-test .taken) (c .candidate-at .ensures), c .before .before .before .before .before .before .pre .0 .1 .few)
 
 -- src/lib.rt:94:14
 one-requires : tie.Need-one-requires Inv-loop μ-loop
@@ -56,7 +56,7 @@ loop-again c = tally-turn _ _ _ _ _ _ _ _ _ (c .before .before .before .before .
 
 -- src/lib.rt:82:1
 returns : tie.Need-returns Inv-loop μ-loop
-returns c = tally-end _ _ _ _ _ _ _ (c .before .loop .inv) (c .loop-test .left) (λ p. strong-weighed _ _ _ _ p (c .before .before .edges-of .ensures))
+returns c = tally-strong _ _ _ _ _ _ (c .before .before .before .before .before .pre .0 .1) (c .before .before .before .before .before .pre .0 .0) (c .before .before .before .before .before .pre .1) (c .before .before .edges-of .ensures) _ _ (c .before .loop .inv) (c .loop-test .left)
 
 pub tally-spec : {M : Type 1} → statement M
 tally-spec =

@@ -130,7 +130,7 @@ module _ (ws : List ℕ) (w h q d : ℕ) where
                   x = λ i z. side-upward (wordAt ws i 0) w (m l i z .x) (s .0) (inside-x ws w h i (right-inside ws w h i (a i z)));
                   y = λ i z. side-upward (wordAt ws i 1) h (m l i z .y) (s .1) (inside-y ws w h i (right-inside ws w h i (a i z)));
                   words = λ i z. m l i z .response;
-                  numbers = λ i z. right-finite ws w h i (a i z)
+                  numbers = λ i z. right-finite ws w h i (a i z);
                 };
             some = some (eqb-false q 0 (or-neither (eqb q 0) (ltb maxDepth d) (x .0) .0));
             inside = λ i z. right-inside ws w h i (a i z);

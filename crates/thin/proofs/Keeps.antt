@@ -26,8 +26,8 @@ use Rattle.thin_laws.proofs.Few.{keeps-few}
 use Rattle.thin_part.specs.Runs.{held, Listed, Beside, Dealt, Arranged}
 use Rattle.thin_source.specs.Adds.{Added}
 use Rattle.thin_region.proofs.Turns.{those, count-kept}
-use Rattle.thin.specs.Entry.{faultOf, keptOf, thinAnswer, thinOut}
-use Rattle.thin.specs.Frames.{Given, Missing}
+use Rattle.thin.specs.Entry.{frame, faultOf, keptOf, thinAnswer, thinOut}
+use Rattle.thin.specs.Frames.{Accepted, Given, Missing}
 
 -- ---- a list that has the new words in front, and behind them what it had
 
@@ -171,6 +171,13 @@ unfolding thinAnswer thinOut answerOf
 frame-refused ws w h q d zero old e z = absurd (z refl)
 frame-refused ws w h q d (suc f) old e z = (rw (← e), rw (← e))
 
-pub frame-kept : (ws : List ℕ) (w h q d f : ℕ) (a : Answer) (old out : List ℕ) → f ≡ faultOf ws w h q d → f ≡ 0 → Given (keptOf ws w h q d) old a out → (a ≡ thinAnswer ws w h q d (length old)) × (out ≡ thinOut ws w h q d old)
+pub frame-kept : (ws : List ℕ) (w h q d f : ℕ) (r : Region) (a : Answer) (old out : List ℕ) → f ≡ faultOf ws w h q d → f ≡ 0 → r ≡ frame w h → Given (kept ws d r q) old a out → (a ≡ thinAnswer ws w h q d (length old)) × (out ≡ thinOut ws w h q d old)
 unfolding thinAnswer thinOut
-frame-kept ws w h q d f a old out e z x = let g : faultOf ws w h q d ≡ 0 = sym e ∙ z in (rw g (x .answer), rw g (x .left))
+frame-kept ws w h q d f r a old out e z i x =
+    let g : faultOf ws w h q d ≡ 0 = sym e ∙ z in
+    let y = subst (λ (v : Region). Given (kept ws d v q) old a out) i x in
+    (rw g (y .answer), rw g (y .left))
+
+-- what `keep` is asked for, of the frame as a region
+pub frame-asks : (ws : List ℕ) (w h q : ℕ) (r : Region) → r ≡ frame w h → Accepted ws w h q → (Ordered r × Sound ws) × ((1 ≤ q) × ((i : ℕ) → i < pointsIn ws → inside ws r i ≡ true))
+frame-asks ws w h q r e a = rw e ((a .ordered, a .sound), (a .some, a .inside))

@@ -9,7 +9,7 @@ ghost use Rattle.params.specs.Limits.{maxSide, maxKeypoints};
 ghost use Rattle.thin_rule.specs.Rule.{pointsIn, responseOf, inside, kept};
 ghost use Rattle.thin_rule.specs.Strength.{Ordered, Sound};
 ghost use Rattle.thin_part.specs.Runs.{Beside};
-ghost use Rattle.thin.specs.Entry.{pointRight, faultOf, thinAnswer, thinOut};
+ghost use Rattle.thin.specs.Entry.{frame, pointRight, faultOf, thinAnswer, thinOut};
 ghost use Rattle.thin.specs.Frames.{sidesOf, sided, Words, Accepted, Given, Missing};
 use params::Answer;
 use params::KEYPOINT_WORDS;
@@ -84,14 +84,22 @@ pub struct Sides {
     pub height: f32,
 }
 
+// A side in a word.
+fn side(n: usize) -> u32
+    requires { ⌜ n ≤ maxSide ⌝ }
+    ensures { λ r. ⌜ r ≡ n ⌝ }
+{
+    n as u32
+}
+
 fn sides_of(w: usize, h: usize) -> Sides
     requires { ⌜ (w ≤ maxSide) × (h ≤ maxSide) ⌝ }
     ensures { λ e. ⌜ e ≡ sidesOf w h ⌝ }
 {
     Sides {
         zero: thin_rule::whole(0),
-        width: thin_rule::whole(w),
-        height: thin_rule::whole(h),
+        width: thin_rule::whole(side(w)),
+        height: thin_rule::whole(side(h)),
     }
 }
 
@@ -140,6 +148,18 @@ fn fault(words: &[u32], w: usize, h: usize, q: usize, depth: u32) -> u32
     if points_right(words, w, h) { 0 } else { 5 }
 }
 
+fn frame_of(w: usize, h: usize) -> Region
+    requires { ⌜ (w ≤ maxSide) × (h ≤ maxSide) ⌝ }
+    ensures { λ r. ⌜ r ≡ frame w h ⌝ }
+{
+    Region {
+        left: 0,
+        right: side(w),
+        top: 0,
+        bottom: side(h),
+    }
+}
+
 // Even cover: the positions of the keypoints that a frame keeps, ascending.
 pub fn thin_frame(
     w: usize,
@@ -156,11 +176,5 @@ pub fn thin_frame(
     if f != 0 {
         return Answer::Refused(f);
     }
-    let r = Region {
-        left: 0,
-        right: w,
-        top: 0,
-        bottom: h,
-    };
-    keep(words, r, q, depth, out)
+    keep(words, frame_of(w, h), q, depth, out)
 }

@@ -44,7 +44,7 @@ edge-upward n h =
     record {
       word = toBits-lt binary32 (float n) (ofInt-fits binary32 (pos n));
       number = ap finite (edge-float n) ∙ edge-finite n h;
-      above = ap (λ (x : Float). float 0 ≤ᶠ x) (edge-float n) ∙ ofInt-le binary32 0 n (omega arith)
+      above = ap (λ (x : Float). float 0 ≤ᶠ x) (edge-float n) ∙ ofInt-le binary32 0 n (omega arith);
     }
 
 -- ---- a number beside a whole one
@@ -60,6 +60,7 @@ module _ (w n : ℕ) (u : Upward w) (h : n ≤ maxSide) where
       there e =
           le-leb (edgeAt n) (bare w)
           (⊎-elim (λ l. l) (λ l. absurd (lt-not-le (f32 w) (float n) (edge-less ∙ lt-ltb (bare w) (edgeAt n) l) e)) (le-or-lt (edgeAt n) (bare w)))
+
       back : leb (edgeAt n) (bare w) ≡ true → (float n ≤ᶠ f32 w) ≡ true
       back e =
           ⊎-elim (λ l. l)

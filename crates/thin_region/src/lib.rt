@@ -14,8 +14,8 @@ use thin_rule::Region;
 use thin_source::Reach;
 use thin_source::Source;
 
-// So many positions of a region are held at once: 27 of the 32 KB of stack that thinning takes at the most.
-const HELD: usize = 6912;
+// So many positions of a region are held at once: 26 of the 32 KB of stack that thinning takes at the most.
+const HELD: usize = 6496;
 
 // Writes what a region keeps from `at` on, as far as there is room, and answers where it ends.
 fn thin(

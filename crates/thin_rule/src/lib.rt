@@ -12,10 +12,10 @@ use params::KEYPOINT_WORDS;
 
 // The columns from left to below right, the rows from top to below bottom.
 pub struct Region {
-    pub left: usize,
-    pub right: usize,
-    pub top: usize,
-    pub bottom: usize,
+    pub left: u32,
+    pub right: u32,
+    pub top: u32,
+    pub bottom: u32,
 }
 
 // A region's edges, each as the bits of its float.
@@ -26,10 +26,16 @@ pub struct Edges {
     pub bottom: u32,
 }
 
-fn choice(b: bool, x: usize, y: usize) -> usize
+fn choice(b: bool, x: u32, y: u32) -> u32
     ensures { λ r. ⌜ r ≡ cond b x y ⌝ }
 {
     if b { x } else { y }
+}
+
+fn one(b: bool) -> usize
+    ensures { λ r. ⌜ (r ≡ cond b 1 0) × (r ≤ 1) ⌝ }
+{
+    if b { 1 } else { 0 }
 }
 
 // The quarter k of a region, in row order.
@@ -53,10 +59,10 @@ pub fn quarter_of(r: Region, k: usize) -> Region
 pub fn share_of(q: usize, k: usize) -> usize
     ensures { λ r. ⌜ r ≡ share q k ⌝ }
 {
-    q / 4 + choice(k < q % 4, 1, 0)
+    q / 4 + one(k < q % 4)
 }
 
-pub fn whole(n: usize) -> f32
+pub fn whole(n: u32) -> f32
     requires { ⌜ n ≤ maxSide ⌝ }
     ensures { λ r. ⌜ r ≡ float n ⌝ }
 {
@@ -70,7 +76,7 @@ pub fn bare_of(w: u32) -> u32
     w % 0x8000_0000
 }
 
-pub fn edge_at(n: usize) -> u32
+pub fn edge_at(n: u32) -> u32
     requires { ⌜ n ≤ maxSide ⌝ }
     ensures { λ r. ⌜ r ≡ edgeAt n ⌝ }
 {

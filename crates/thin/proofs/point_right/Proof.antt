@@ -73,13 +73,14 @@ is-finite-requires c κs = search needs
 -- src/lib.rt:99:1
 returns : tie.Need-returns
 unfolding sided
-returns c =
-    (rw (add-zero, c .before .before .before .before .before .before .before .before .before .of-bits .ensures, c .before .before .before .before .before .before .before .of-bits2 .ensures, c .is-finite .ensures, c .before .before .before .before .before .of-bits3 .ensures),
-    record {
-      x = omega (arith, c .before .before .before .before .before .before .before .before .before .before .shared-slice-known2 .given (10 * c .before .before .before .before .before .before .before .before .before .before .before .before .args .i + 0));
-      y = omega (arith, c .before .before .before .before .before .before .before .before .shared-slice-known3 .given (10 * c .before .before .before .before .before .before .before .before .before .before .before .before .args .i + 1));
-      response = omega (arith, c .before .before .before .before .before .before .shared-slice-known4 .given (10 * c .before .before .before .before .before .before .before .before .before .before .before .before .args .i + 3))
-    })
+returns c = (
+  rw (add-zero, c .before .before .before .before .before .before .before .before .before .of-bits .ensures, c .before .before .before .before .before .before .before .of-bits2 .ensures, c .is-finite .ensures, c .before .before .before .before .before .of-bits3 .ensures),
+  record {
+    x = omega (arith, c .before .before .before .before .before .before .before .before .before .before .shared-slice-known2 .given (10 * c .before .before .before .before .before .before .before .before .before .before .before .before .args .i + 0));
+    y = omega (arith, c .before .before .before .before .before .before .before .before .shared-slice-known3 .given (10 * c .before .before .before .before .before .before .before .before .before .before .before .before .args .i + 1));
+    response = omega (arith, c .before .before .before .before .before .before .shared-slice-known4 .given (10 * c .before .before .before .before .before .before .before .before .before .before .before .before .args .i + 3));
+  },
+)
 
 pub point-right-spec : {M : Type 1} → statement M
 point-right-spec =

@@ -10,7 +10,7 @@
  *   2  layers are not 1 to 15, a layer is not one of them, or planes are not layers + 2 to 17
  *   3  the samples are not as many as the shape says
  *   4  contrast is not 0 to 1, edge not 1 to 1000, sigma not 0.5 to 16, or octave not 0 to 15; so is a not-a-number
- *   5  a field of a keypoint, a place or a record is out of its range
+ *   5  a field of a keypoint, a place or a record, a quota or a depth is out of its range
  *   6  a sample is no number of at most 2^20 in magnitude
  *   7  there is not the room that the answer needs
  *   8  the bytes are no sheet that keeps its rules
@@ -33,6 +33,7 @@
  *
  * Stack, in bytes, that a call takes at most on x86-64, what memcpy and memset take not counted. A test measures it:
  *
+ *   thin: 32768
  *   find_extrema: 12288
  *   compute_descriptor: 8192
  *   assign_orientations: 7168
@@ -93,6 +94,21 @@ uint32_t bargeclover_threshold(double contrast, size_t layers, uint32_t *thresho
  */
 uint32_t bargeclover_find_extrema(const float *dog, size_t dog_len, size_t width, size_t height, size_t planes, size_t layer,
     uint32_t octave, size_t layers, double contrast, double edge, double sigma, uint32_t *out, size_t out_len, size_t *count);
+
+/*
+ * Even cover: which of a frame's keypoints to keep, at most quota of them, so that no part of the frame crowds out the others.
+ * A region, at first the whole frame, keeps all its keypoints where they are no more than its quota. Else, where its quota is below 4 or
+ * its depth is 0, it keeps those with the largest responses, the earlier of equal ones. Else it is cut at half its width and half its
+ * height, rounded down (a keypoint on a cut goes right or down). Each quarter has a fourth of the quota, the first ones in row order
+ * one more as far as the remainder goes, and a depth one less; it is treated in the same way.
+ * words has ten words a keypoint, as find_extrema gives them, of any octaves; x and y, in cells of the frame, and the response decide,
+ * and what stands in the other words does not matter. The positions that are kept, counted from 0 in keypoints, go out ascending.
+ * count and out_len are in positions; the lesser of quota and the number of keypoints is always room enough.
+ * Refused with 1; 5 (quota is 0, depth is above 12, words_len is no multiple of ten, keypoints are more than 2^32, an x or y is not in 0
+ * to below the width or height, or a response is not finite; -0 is 0); or 7. It calls itself, at most 13 calls deep.
+ */
+uint32_t bargeclover_thin(size_t width, size_t height, const uint32_t *words, size_t words_len, size_t quota, uint32_t depth,
+    uint32_t *out, size_t out_len, size_t *count);
 
 /*
  * The directions of a keypoint in the Gaussian plane of its layer, one oriented keypoint for each peak, at most 18.

@@ -42,6 +42,33 @@ pub fn find_extrema(
     (number, count)
 }
 
+/// The number, and the count of positions; a word of `out` for each.
+pub fn thin(
+    width: usize,
+    height: usize,
+    words: &[u32],
+    quota: usize,
+    depth: u32,
+    out: &mut [u32],
+) -> (u32, usize) {
+    let mut count = 0;
+    // SAFETY: each pointer is good for its length, and what is written is lent to nobody else.
+    let number = unsafe {
+        ffi::bargeclover_thin(
+            width,
+            height,
+            words.as_ptr(),
+            words.len(),
+            quota,
+            depth,
+            out.as_mut_ptr(),
+            out.len(),
+            &mut count,
+        )
+    };
+    (number, count)
+}
+
 /// The number, and the count of bytes.
 pub fn write_sheet(
     width: usize,

@@ -34,6 +34,18 @@ unsafe extern "C" {
         count: *mut usize,
     ) -> u32;
 
+    pub fn bargeclover_thin(
+        width: usize,
+        height: usize,
+        words: *const u32,
+        words_len: usize,
+        quota: usize,
+        depth: u32,
+        out: *mut u32,
+        out_len: usize,
+        count: *mut usize,
+    ) -> u32;
+
     pub fn bargeclover_write_sheet(
         width: usize,
         height: usize,

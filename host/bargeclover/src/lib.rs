@@ -23,9 +23,11 @@ pub mod ffi;
 mod orientation;
 mod refusal;
 mod sheet;
+mod thinning;
 
 pub use descriptor::{Aim, Descriptor, compute_descriptor, descriptor_inputs};
 pub use detection::{Keypoint, Settings, Stack, find_extrema, threshold};
 pub use orientation::{Orientations, Oriented, Picture, assign_orientations};
 pub use refusal::Refusal;
 pub use sheet::{Record, Sheet, read_sheet, write_sheet};
+pub use thinning::thin;

@@ -14,7 +14,7 @@ pub enum Refusal {
     Length,
     /// 4: a setting is out of its range.
     Settings,
-    /// 5: a field of a keypoint or of a record is out of its range.
+    /// 5: a field of a keypoint or of a record, a quota or a depth is out of its range.
     Field,
     /// 6: a sample is no number of at most 2^20 in magnitude.
     Sample,
@@ -72,7 +72,7 @@ impl fmt::Display for Refusal {
             ),
             Refusal::Field => write!(
                 f,
-                "a field of a keypoint or of a record is out of its range"
+                "a field of a keypoint or of a record, a quota or a depth is out of its range"
             ),
             Refusal::Sample => write!(f, "a sample is no number of at most 2^20 in magnitude"),
             Refusal::Room { needed } => write!(f, "too little room: {needed} needed"),

@@ -1,7 +1,9 @@
 //! The library and the published Rust's scalar path in one process, on the same buffers, in turns; medians, on a frame the best of the rounds, and their ratio.
 //!
-//! Build it with --release. `bench`, or `bench` with some of the words calls, detection, orientation, descriptor, frame, stack. Figures
-//! are kept in docs/SPEED.md, and those of the stack in include/bargeclover.h. `bench once` is for `host/bench/count`.
+//! Thinning, which the Rust has not, is timed beside its second rendering.
+//!
+//! Build it with --release. `bench`, or `bench` with some of the words calls, detection, orientation, descriptor, frame, thinning, stack.
+//! Figures are kept in docs/SPEED.md, and those of the stack in include/bargeclover.h. `bench once` is for `host/bench/count`.
 
 mod descriptor;
 mod detection;
@@ -10,6 +12,7 @@ mod operations;
 mod orientation;
 #[cfg(target_os = "linux")]
 mod stack;
+mod thinning;
 mod timing;
 
 use std::{env, fs};
@@ -38,6 +41,9 @@ fn main() {
     if asked("stack") {
         stack::print();
     }
+    if asked("thinning") {
+        thinning::print();
+    }
     if oracle::FOUND {
         if asked("detection") {
             detection::print();
@@ -52,6 +58,6 @@ fn main() {
             frame::print();
         }
     } else {
-        println!("The published Rust was not found: the entries are not timed.");
+        println!("The published Rust was not found: its entries are not timed.");
     }
 }

@@ -3,6 +3,7 @@
 
 use bargeclover::{Aim, Picture, Settings, bits, entries};
 use cases::detection::Kind;
+use cases::thinning::{self, Places, Responses};
 use cases::{Rng, descriptor, detection, floats, orientation, picture, sheet};
 use std::alloc::{Layout, alloc, dealloc};
 use std::ffi::c_void;
@@ -156,6 +157,35 @@ fn of_descriptor(r: &mut Rng) -> usize {
     })
 }
 
+/// Thinning whose calls are so deep, 2 to 7: all keypoints lie in one place of the first cell, fewer than are held and more. For one
+/// call more the quota has to be four times as large.
+fn of_calls(r: &mut Rng, calls: u32) -> usize {
+    let quota = 3 * 4usize.pow(calls - 2) + 1;
+    let lists = [quota + 1, thinning::HELD - 1, thinning::HELD + 1, 20_000].map(|many| {
+        let mut words = thinning::list(r, many, [8192, 8192], Places::Heap, Responses::Any);
+        for k in words.as_chunks_mut::<{ thinning::WORDS }>().0 {
+            k[..2].fill(0);
+        }
+        words
+    });
+    let mut out = vec![0; quota];
+    depth(|| {
+        for words in &lists {
+            for room in [0, quota] {
+                let out = &mut out[..room];
+                black_box(entries::thin(8192, 8192, words, quota, 12, out));
+            }
+        }
+    })
+}
+
+/// The stack of the deepest calls, 13, which a list of less than twelve million keypoints does not reach: that of seven, and three times
+/// what two more take.
+fn of_thinning(r: &mut Rng) -> usize {
+    let [five, seven] = [5, 7].map(|calls| of_calls(r, calls));
+    seven + 3 * (seven - five)
+}
+
 fn of_sheets(r: &mut Rng) -> [usize; 2] {
     let all: Vec<_> = (0..200).map(|_| sheet::accepted(r, 20)).collect();
     let sheets: Vec<_> = all.iter().map(sheet::written).collect();
@@ -198,6 +228,7 @@ pub fn measured() -> Vec<(&'static str, usize)> {
     let r = &mut Rng::new(1);
     let mut all = vec![
         ("find_extrema", of_detection(r)),
+        ("thin", of_thinning(r)),
         ("assign_orientations", of_orientation(r)),
         ("compute_descriptor", of_descriptor(r)),
     ];

@@ -10,5 +10,6 @@ pub mod picture;
 pub mod rng;
 pub mod sheet;
 pub mod table;
+pub mod thinning;
 
 pub use rng::Rng;

@@ -1,9 +1,10 @@
-//! compare [--seed N] [--stacks N] [--operations N]: the library and the published Rust on the same inputs.
+//! compare [--seed N] [--stacks N] [--lists N] [--operations N]: the library and the published Rust on the same inputs.
 //!
 //! Every word, number, count and untouched word of each answer is compared: with the published Rust where the input is accepted,
-//! with the refusal table rendered a second time where it is not, and single operations with the processor. It prints what it
-//! tried and what differs, and ends with status 1 where anything does, or where a run of 10,000 stacks or more did not meet every
-//! number of every entry, every fate of a candidate, every way of detection, and patches of all kinds.
+//! with the refusal table rendered a second time where it is not, and single operations with the processor. Sheets and thinned lists,
+//! which the Rust has not, are compared with a second rendering. It prints what it tried and what differs, and ends with status 1
+//! where anything does, or where a run of 10,000 stacks or more did not meet every number of every entry, every fate of a candidate,
+//! every way of detection, and patches of all kinds, or one of 10,000 lists or more every reason and every way of thinning.
 
 mod descriptor;
 mod detection;
@@ -11,6 +12,7 @@ mod operations;
 mod orientation;
 mod report;
 mod sheet;
+mod thinning;
 
 use cases::Rng;
 use cases::fate::Fate;
@@ -39,19 +41,39 @@ const MET: [&str; 6] = [
 ];
 
 /// Everything that a run of some length has to have met at least once: a comparison of tame inputs finds no difference either.
-fn due() -> Vec<String> {
+fn due_of_stacks() -> Vec<(String, u64)> {
     let answers = ENTRIES
         .iter()
         .flat_map(|(entry, numbers)| numbers.iter().map(move |n| format!("{entry} answered {n}")));
     let fates = Fate::ALL.iter().map(|f| format!("candidate: {f:?}"));
     let met = MET.iter().map(|m| m.to_string());
     let ways = detection::WAYS.iter().map(|w| w.to_string());
-    answers.chain(fates).chain(ways).chain(met).collect()
+    let all = answers.chain(fates).chain(ways).chain(met);
+    all.map(|what| (what, 1)).collect()
 }
+
+/// What the run met too seldom.
+fn missing(w: &Wanted, r: &Report) -> Vec<String> {
+    let mut due = Vec::new();
+    if w.stacks >= LONG && oracle::FOUND {
+        due.extend(due_of_stacks());
+    }
+    if w.lists >= LONG {
+        due.extend(thinning::due(w.lists));
+    }
+    let seldom = due
+        .into_iter()
+        .filter(|(what, least)| r.count(what) < *least);
+    seldom.map(|(what, _)| what).collect()
+}
+
+/// From so many stacks or lists on a run has to meet everything.
+const LONG: u64 = 10_000;
 
 struct Wanted {
     seed: u64,
     stacks: u64,
+    lists: u64,
     operations: u64,
 }
 
@@ -59,6 +81,7 @@ fn wanted() -> Result<Wanted, String> {
     let mut w = Wanted {
         seed: 1,
         stacks: 100_000,
+        lists: 200_000,
         operations: 5_000_000,
     };
     let mut words = env::args().skip(1);
@@ -68,10 +91,11 @@ fn wanted() -> Result<Wanted, String> {
         match word.as_str() {
             "--seed" => w.seed = number,
             "--stacks" => w.stacks = number,
+            "--lists" => w.lists = number,
             "--operations" => w.operations = number,
             _ => {
                 return Err(format!(
-                    "{word} is not known: --seed, --stacks, --operations"
+                    "{word} is not known: --seed, --stacks, --lists, --operations"
                 ));
             }
         }
@@ -93,6 +117,8 @@ fn main() -> ExitCode {
     operations::operations(&mut rng, w.operations, &mut r);
     operations::routines(&mut rng, w.operations, &mut r);
     sheet::sheets(&mut rng, w.stacks, &mut r);
+    // random numbers of its own, so that the other parts have theirs whatever --lists is
+    thinning::lists(&mut Rng::new(w.seed), w.lists, &mut r);
     if oracle::FOUND {
         detection::thresholds(&mut rng, w.stacks, &mut r);
         detection::stacks(&mut rng, w.stacks, &mut r);
@@ -109,12 +135,10 @@ fn main() -> ExitCode {
         }
     }
     r.print();
-    if w.stacks >= 10_000 && oracle::FOUND {
-        let missing: Vec<String> = due().into_iter().filter(|d| r.count(d) == 0).collect();
-        if !missing.is_empty() {
-            println!("never met, so the inputs are too tame: {missing:?}");
-            return ExitCode::FAILURE;
-        }
+    let missing = missing(&w, &r);
+    if !missing.is_empty() {
+        println!("met too seldom, so the inputs are too tame: {missing:?}");
+        return ExitCode::FAILURE;
     }
     if r.differences() == 0 {
         ExitCode::SUCCESS

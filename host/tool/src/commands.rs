@@ -1,6 +1,7 @@
 //! The commands.
 
 use crate::args::Given;
+use crate::cover::{self, Cover, Tally, Thinned};
 use crate::extract::extract;
 use crate::find::{self, Wanted};
 use crate::help::{self, COMMANDS, Command};
@@ -98,7 +99,24 @@ fn wanted(given: &Given) -> Result<Wanted, Trouble> {
             layers: given.number("layers", d.layers)?,
         },
         double: given.has("double"),
+        cover: cover(given)?,
     })
+}
+
+fn cover(given: &Given) -> Result<Option<Cover>, Trouble> {
+    if !given.has("quota") {
+        return if given.has("depth") {
+            Err(Trouble::Usage(
+                "--depth is for a --quota, and none is given".into(),
+            ))
+        } else {
+            Ok(None)
+        };
+    }
+    Ok(Some(Cover {
+        quota: given.number("quota", 0)?,
+        depth: given.number("depth", cover::DEPTH)?,
+    }))
 }
 
 fn progress(given: &Given) -> Progress {
@@ -109,14 +127,14 @@ fn progress(given: &Given) -> Progress {
     }
 }
 
-/// The oriented keypoints of a frame.
-fn marks(frame: &Frame, given: &Given) -> Result<Vec<Mark>, Trouble> {
+/// The oriented keypoints of a frame, and what a quota left.
+fn marks(frame: &Frame, given: &Given) -> Result<(Vec<Mark>, Option<Tally>), Trouble> {
     let mut all = Vec::new();
-    find::each(frame, &wanted(given)?, &mut progress(given), |_, k, o| {
+    let found = find::each(frame, &wanted(given)?, &mut progress(given), |_, k, o| {
         all.push(Mark::of_oriented(k, o));
         Ok(())
     })?;
-    Ok(all)
+    Ok((all, found.tally))
 }
 
 /// Where the sheet of each frame goes: the file that is named, or in the folder that is named under the frame's own name.
@@ -197,6 +215,9 @@ fn extract_one(path: &Path, out: &Path, wanted: &Wanted, given: &Given) -> Resul
             made.sheet.width,
             made.sheet.height
         )?;
+        if let Some(tally) = made.tally {
+            writeln!(to, "{tally}")?;
+        }
         if made.flat + made.unread > 0 {
             writeln!(
                 to,
@@ -210,7 +231,14 @@ fn extract_one(path: &Path, out: &Path, wanted: &Wanted, given: &Given) -> Resul
 
 fn find_command(given: &Given) -> Result<(), Trouble> {
     let frame = files::frame(&one(given, "the frame, a PGM file")?)?;
-    let all = marks(&frame, given)?;
+    let (all, tally) = marks(&frame, given)?;
+    if let Some(tally) = tally
+        && given.has("csv")
+        && !given.has("quiet")
+    {
+        // comma-separated lines have no place for it
+        let _ = writeln!(io::stderr().lock(), "{tally}");
+    }
     print(|out| {
         if given.has("csv") {
             writeln!(out, "{}", table::csv_head(false))?;
@@ -218,6 +246,9 @@ fn find_command(given: &Given) -> Result<(), Trouble> {
                 writeln!(out, "{}", table::csv_line(k, m, None))?;
             }
             return Ok(());
+        }
+        if let Some(tally) = tally {
+            writeln!(out, "{tally}\n")?;
         }
         writeln!(out, "{}", table::head())?;
         for (k, m) in all.iter().enumerate() {
@@ -319,6 +350,49 @@ fn zoom(frame: &Frame, given: &Given) -> Result<usize, Trouble> {
     Ok(zoom)
 }
 
+/// What a picture shows on its frame.
+enum Shown {
+    Marks(Vec<Mark>),
+    Thinned(Thinned),
+}
+
+/// The frame that is searched, and its keypoints.
+fn searched(frame: &Path, given: &Given) -> Result<(Frame, Shown), Trouble> {
+    let frame = files::frame(frame)?;
+    let wanted = wanted(given)?;
+    let shown = match wanted.cover {
+        Some(cover) => {
+            let (thinned, _) = find::thinned(&frame, &wanted, &cover, &mut progress(given))?;
+            Shown::Thinned(thinned)
+        }
+        None => Shown::Marks(marks(&frame, given)?.0),
+    };
+    Ok((frame, shown))
+}
+
+const SEARCH: [&str; 7] = [
+    "contrast", "edge", "sigma", "layers", "double", "quota", "depth",
+];
+
+/// The frame of a sheet, its marks, and whether they are of the frame doubled.
+fn of_sheet(
+    frame: &Path,
+    sheet: &Path,
+    given: &Given,
+) -> Result<(Frame, Vec<Mark>, bool), Trouble> {
+    if let Some(o) = SEARCH.iter().find(|o| given.has(o)) {
+        return Err(Trouble::Usage(format!(
+            "--{o} is for a search, and a sheet is given"
+        )));
+    }
+    let frame = files::frame(frame)?;
+    let (sheet, blank) = files::sheet(sheet)?;
+    let doubled = doubled(&frame, sheet.width, sheet.height)?;
+    let all = sheet.records.iter().zip(&blank);
+    let marks = all.map(|(r, b)| Mark::of_record(r, *b)).collect();
+    Ok((frame, marks, doubled))
+}
+
 fn draw_command(given: &Given) -> Result<(), Trouble> {
     let out = given
         .path("output")
@@ -333,27 +407,14 @@ fn draw_command(given: &Given) -> Result<(), Trouble> {
             )));
         }
     };
-    let (frame, marks, doubled) = match given.files.as_slice() {
+    let (frame, shown, doubled) = match given.files.as_slice() {
         [frame] => {
-            let frame = files::frame(frame)?;
-            let marks = marks(&frame, given)?;
-            (frame, marks, given.has("double"))
+            let (frame, shown) = searched(frame, given)?;
+            (frame, shown, given.has("double"))
         }
         [frame, sheet] => {
-            if let Some(o) = ["contrast", "edge", "sigma", "layers", "double"]
-                .iter()
-                .find(|o| given.has(o))
-            {
-                return Err(Trouble::Usage(format!(
-                    "--{o} is for a search, and a sheet is given"
-                )));
-            }
-            let frame = files::frame(frame)?;
-            let (sheet, blank) = files::sheet(sheet)?;
-            let doubled = doubled(&frame, sheet.width, sheet.height)?;
-            let all = sheet.records.iter().zip(&blank);
-            let marks = all.map(|(r, b)| Mark::of_record(r, *b)).collect();
-            (frame, marks, doubled)
+            let (frame, marks, doubled) = of_sheet(frame, sheet, given)?;
+            (frame, Shown::Marks(marks), doubled)
         }
         [] => return Err(Trouble::Usage("name the frame, a PGM file".into())),
         [_, _, more, ..] => {
@@ -364,10 +425,18 @@ fn draw_command(given: &Given) -> Result<(), Trouble> {
         }
     };
     let zoom = zoom(&frame, given)?;
-    let bytes = if as_svg {
-        svg::to_svg(&frame, &marks, doubled, zoom).into_bytes()
-    } else {
-        draw::to_png(&frame, &marks, doubled, zoom)
+    let bytes = match (&shown, as_svg) {
+        (Shown::Marks(m), true) => svg::to_svg(&frame, m, doubled, zoom).into_bytes(),
+        (Shown::Marks(m), false) => draw::to_png(&frame, m, doubled, zoom),
+        (Shown::Thinned(t), true) => svg::thinned_to_svg(&frame, t, doubled, zoom).into_bytes(),
+        (Shown::Thinned(t), false) => draw::thinned_to_png(&frame, t, doubled, zoom),
     };
-    files::write(out, &bytes)
+    files::write(out, &bytes)?;
+    match shown {
+        Shown::Thinned(t) if !given.has("quiet") => {
+            let tally = t.tally();
+            print(|to| writeln!(to, "{}: {tally}", out.display()))
+        }
+        _ => Ok(()),
+    }
 }

@@ -1,7 +1,9 @@
 //! The frame with its keypoints on it: a circle as large as the keypoint's size, a line in its direction, a colour for each octave.
-//! Records whose 128 values are all zero are dashed and crossed out.
+//! Records whose 128 values are all zero are dashed and crossed out. Of thinned keypoints those that are kept are circles of one colour
+//! and the others dots of another, over the lines where regions were cut.
 
 use crate::canvas::{Canvas, Colour, Stroke, text_width};
+use crate::cover::{Line, Thinned};
 use crate::pgm::Frame;
 use crate::table::Mark;
 
@@ -17,6 +19,10 @@ pub const COLOURS: [Colour; 8] = [
     [240, 240, 150],
 ];
 pub const ZERO: Colour = [255, 255, 255];
+/// Blue and orange are told apart by every eye.
+pub const KEPT: Colour = COLOURS[0];
+pub const DROPPED: Colour = [255, 140, 40];
+pub const CUT: Colour = [255, 255, 255];
 const UNDER: Colour = [12, 16, 22];
 const WORDS: Colour = [226, 230, 235];
 
@@ -34,12 +40,21 @@ pub struct Place {
     pub end: (f32, f32),
 }
 
-/// Where a mark lies on the frame. A doubled frame's cell d lies at d / 2 − 1/4 of the frame.
-pub fn place(m: &Mark, doubled: bool) -> Place {
+/// Where a place of octave 0 lies on the frame. A doubled frame's cell d lies at d / 2 − 1/4 of the frame.
+pub fn on_frame((x, y): (f32, f32), doubled: bool) -> (f32, f32) {
     let at = |v: f32| if doubled { v / 2.0 - 0.25 } else { v } + 0.5;
-    let radius = m.size / if doubled { 4.0 } else { 2.0 };
+    (at(x), at(y))
+}
+
+/// The radius of a keypoint of this size.
+pub fn radius(size: f32, doubled: bool) -> f32 {
+    size / if doubled { 4.0 } else { 2.0 }
+}
+
+pub fn place(m: &Mark, doubled: bool) -> Place {
+    let radius = radius(m.size, doubled);
     let (sin, cos) = m.angle.to_radians().sin_cos();
-    let (x, y) = (at(m.x), at(m.y));
+    let (x, y) = on_frame((m.x, m.y), doubled);
     Place {
         x,
         y,
@@ -55,12 +70,40 @@ pub fn in_order(marks: &[Mark]) -> Vec<&Mark> {
     all
 }
 
-/// A line of the legend: an octave's colour, or none for the all-zero sign, or only words.
+/// A line of the legend: a sign and words, or only words.
 #[derive(Clone, Debug, PartialEq)]
 pub enum Entry {
     Words(String),
     Octave(u32, String),
     Zero(String),
+    Kept(String),
+    Dropped(String),
+    Cut(String),
+}
+
+impl Entry {
+    pub fn words(&self) -> &str {
+        match self {
+            Entry::Words(w)
+            | Entry::Octave(_, w)
+            | Entry::Zero(w)
+            | Entry::Kept(w)
+            | Entry::Dropped(w)
+            | Entry::Cut(w) => w,
+        }
+    }
+
+    /// The colour of its sign; that of the words where it has none.
+    pub fn colour(&self) -> Colour {
+        match self {
+            Entry::Words(_) => WORDS,
+            Entry::Octave(octave, _) => colour(*octave),
+            Entry::Zero(_) => ZERO,
+            Entry::Kept(_) => KEPT,
+            Entry::Dropped(_) => DROPPED,
+            Entry::Cut(_) => CUT,
+        }
+    }
 }
 
 pub fn legend(marks: &[Mark]) -> Vec<Entry> {
@@ -79,6 +122,24 @@ pub fn legend(marks: &[Mark]) -> Vec<Entry> {
         let words = format!("all zero: {zero}, flat or not read");
         all.push(Entry::Zero(words));
     }
+    all
+}
+
+/// The legend of thinned keypoints with so many lines of cuts.
+pub fn legend_of_thinned(t: &Thinned, cuts: usize) -> Vec<Entry> {
+    let tally = t.tally();
+    let mut all = vec![
+        Entry::Kept(format!("kept: {} of {}", tally.kept, tally.found)),
+        Entry::Dropped(format!("dropped: {}", tally.found - tally.kept)),
+    ];
+    if cuts > 0 {
+        all.push(Entry::Cut("cuts".into()));
+    }
+    let fields = format!(
+        "of 64 fields with a keypoint: {} before, {} after",
+        tally.before, tally.after
+    );
+    all.push(Entry::Words(fields));
     all
 }
 
@@ -145,12 +206,6 @@ struct Layout {
 
 const SWATCH: usize = 12;
 
-fn entry_words(e: &Entry) -> &str {
-    match e {
-        Entry::Words(w) | Entry::Octave(_, w) | Entry::Zero(w) => w,
-    }
-}
-
 fn layout(entries: &[Entry], width: usize) -> Layout {
     let zoom = (width / 450).clamp(1, 4);
     let gap = 14 * zoom;
@@ -161,7 +216,7 @@ fn layout(entries: &[Entry], width: usize) -> Layout {
         } else {
             SWATCH * zoom
         };
-        let wide = swatch + text_width(entry_words(e), zoom);
+        let wide = swatch + text_width(e.words(), zoom);
         if x + wide > width && x > gap {
             x = gap;
             rows += 1;
@@ -185,40 +240,49 @@ impl Layout {
 fn draw_legend(canvas: &mut Canvas, entries: &[Entry], l: &Layout, top: usize) {
     for (e, (x, row)) in entries.iter().zip(&l.places) {
         let (mut x, y) = (*x, top + row * l.row() + 5 * l.zoom);
-        let z = l.zoom as f32;
-        let sign = |x: usize| (x as f32 + 4.0 * z, y as f32 + 3.5 * z);
-        let stroke = |colour| Stroke {
-            half: 0.6 * z,
-            colour,
-            cover: 1.0,
-        };
-        match e {
-            Entry::Words(_) => {}
-            Entry::Octave(octave, _) => {
-                let (middle, s) = (sign(x), stroke(colour(*octave)));
-                canvas.ring(middle, 3.5 * z, false, s);
-                canvas.line(middle, (middle.0 + 3.5 * z, middle.1), s);
-                x += SWATCH * l.zoom;
-            }
-            Entry::Zero(_) => {
-                let (middle, s) = (sign(x), stroke(ZERO));
-                canvas.ring(middle, 3.5 * z, true, s);
-                cross(canvas, middle, 1.8 * z, s);
-                x += SWATCH * l.zoom;
-            }
+        if !matches!(e, Entry::Words(_)) {
+            let z = l.zoom as f32;
+            draw_sign(canvas, e, (x as f32 + 4.0 * z, y as f32 + 3.5 * z), z);
+            x += SWATCH * l.zoom;
         }
-        canvas.text(x, y, l.zoom, WORDS, entry_words(e));
+        canvas.text(x, y, l.zoom, WORDS, e.words());
     }
 }
 
-/// The picture as a PNG file.
-pub fn to_png(frame: &Frame, marks: &[Mark], doubled: bool, zoom: usize) -> Vec<u8> {
-    let entries = legend(marks);
-    let l = layout(&entries, frame.width * zoom);
-    let mut canvas = background(frame, zoom, l.height());
-    for m in in_order(marks) {
-        draw_mark(&mut canvas, m, &place(m, doubled), zoom as f32);
+/// The sign of an entry of the legend, about a middle.
+fn draw_sign(canvas: &mut Canvas, e: &Entry, middle: (f32, f32), z: f32) {
+    let s = Stroke {
+        half: 0.6 * z,
+        colour: e.colour(),
+        cover: 1.0,
+    };
+    let (x, y) = middle;
+    match e {
+        Entry::Words(_) => {}
+        Entry::Octave(..) => {
+            canvas.ring(middle, 3.5 * z, false, s);
+            canvas.line(middle, (x + 3.5 * z, y), s);
+        }
+        Entry::Zero(_) => {
+            canvas.ring(middle, 3.5 * z, true, s);
+            cross(canvas, middle, 1.8 * z, s);
+        }
+        Entry::Kept(_) => canvas.ring(middle, 3.5 * z, false, s),
+        Entry::Dropped(_) => dot(canvas, middle, 1.6 * z, s),
+        Entry::Cut(_) => canvas.line((x - 3.5 * z, y), (x + 3.5 * z, y), s),
     }
+}
+
+fn dot(canvas: &mut Canvas, middle: (f32, f32), radius: f32, stroke: Stroke) {
+    let half = radius;
+    canvas.line(middle, middle, Stroke { half, ..stroke });
+}
+
+/// The frame, what is drawn on it, and the legend below, as a PNG file.
+fn page(frame: &Frame, zoom: usize, entries: &[Entry], draw: impl FnOnce(&mut Canvas)) -> Vec<u8> {
+    let l = layout(entries, frame.width * zoom);
+    let mut canvas = background(frame, zoom, l.height());
+    draw(&mut canvas);
     // what a circle near the lower edge drew below the frame is wiped out
     let top = frame.height * zoom;
     for y in top..canvas.height {
@@ -226,6 +290,53 @@ pub fn to_png(frame: &Frame, marks: &[Mark], doubled: bool, zoom: usize) -> Vec<
             canvas.set(x, y, UNDER);
         }
     }
-    draw_legend(&mut canvas, &entries, &l, top);
+    draw_legend(&mut canvas, entries, &l, top);
     canvas.to_png()
+}
+
+/// The picture as a PNG file.
+pub fn to_png(frame: &Frame, marks: &[Mark], doubled: bool, zoom: usize) -> Vec<u8> {
+    page(frame, zoom, &legend(marks), |canvas| {
+        for m in in_order(marks) {
+            draw_mark(canvas, m, &place(m, doubled), zoom as f32);
+        }
+    })
+}
+
+/// Kept and dropped keypoints, as a PNG file.
+pub fn thinned_to_png(frame: &Frame, t: &Thinned, doubled: bool, zoom: usize) -> Vec<u8> {
+    let cuts = t.cuts();
+    page(frame, zoom, &legend_of_thinned(t, cuts.len()), |canvas| {
+        draw_thinned(canvas, t, &cuts, doubled, zoom as f32);
+    })
+}
+
+/// Cuts first, and kept ones last, so that these are seen.
+fn draw_thinned(canvas: &mut Canvas, t: &Thinned, cuts: &[Line], doubled: bool, zoom: f32) {
+    let on = |place: (f32, f32)| {
+        let (x, y) = on_frame(place, doubled);
+        (x * zoom, y * zoom)
+    };
+    let stroke = |half, colour, cover| Stroke {
+        half,
+        colour,
+        cover,
+    };
+    for line in cuts {
+        let [from, to] = line.map(|(x, y)| on((x as f32, y as f32)));
+        canvas.line(from, to, stroke(0.3, CUT, 0.6));
+    }
+    let half = if zoom < 2.0 { 0.5 } else { 0.85 };
+    for p in t.dropped() {
+        let k = &t.keypoints[p];
+        let (middle, size) = (on((k.x, k.y)), 2.3 * half);
+        dot(canvas, middle, size + 0.8, stroke(0.0, UNDER, 0.55));
+        dot(canvas, middle, size, stroke(0.0, DROPPED, 1.0));
+    }
+    for k in t.kept.iter().map(|&p| &t.keypoints[p]) {
+        let middle = on((k.x, k.y));
+        let radius = (radius(k.size, doubled) * zoom).max(1.5);
+        canvas.ring(middle, radius, false, stroke(half + 1.1, UNDER, 0.55));
+        canvas.ring(middle, radius, false, stroke(half, KEPT, 1.0));
+    }
 }

@@ -1,6 +1,7 @@
 //! From a frame to a sheet: every oriented keypoint with its descriptor, in the order in which they are found: see `find`.
 
 use crate::Trouble;
+use crate::cover::Tally;
 use crate::describe::describe;
 use crate::find::{self, Wanted};
 use crate::pgm::Frame;
@@ -11,8 +12,10 @@ use bargeclover::{Refusal, Sheet};
 /// A frame's sheet, and what is not in it.
 pub struct Extracted {
     pub sheet: Sheet,
-    /// Keypoints found, each with its directions or none.
+    /// Keypoints found, or kept of those found, each with its directions or none.
     pub keypoints: usize,
+    /// What a quota left.
+    pub tally: Option<Tally>,
     /// Records that are all zero because the patch is flat, and those because no cell of it was read.
     pub flat: usize,
     pub unread: usize,
@@ -27,9 +30,9 @@ pub fn extract(
     progress: &mut Progress,
 ) -> Result<Extracted, Trouble> {
     let (mut records, mut flat, mut unread) = (Vec::new(), 0, 0);
-    let keypoints = find::each(frame, wanted, progress, |octave, k, o| {
+    let found = find::each(frame, wanted, progress, |octave, k, o| {
         if records.len() == MOST {
-            let change = "a sheet has at most 1048575 records: raise --contrast or cut the frame";
+            let change = "a sheet has at most 1048575 records: raise --contrast, give a --quota or cut the frame";
             return Err(Trouble::refused(Refusal::Field, change));
         }
         let picture = octave.picture(k.layer as usize);
@@ -50,7 +53,8 @@ pub fn extract(
             layers: wanted.settings.layers,
             records,
         },
-        keypoints,
+        keypoints: found.keypoints,
+        tally: found.tally,
         flat,
         unread,
     })

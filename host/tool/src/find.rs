@@ -1,8 +1,9 @@
 //! From a frame to its oriented keypoints, in the order of a sheet: octave by octave, in each by the layer searched, in each as
 //! detection lists them, and the peaks of each. A keypoint may settle in another layer than the one searched; that layer's plane is
-//! its picture.
+//! its picture. A quota thins the keypoints of all octaves before any is given its directions.
 
 use crate::Trouble;
+use crate::cover::{Cover, Tally, Thinned};
 use crate::pgm::Frame;
 use crate::progress::Progress;
 use crate::pyramid::{Octave, Pyramid};
@@ -17,6 +18,8 @@ pub struct Wanted {
     pub settings: Settings,
     /// Whether the frame is doubled first.
     pub double: bool,
+    /// Where only so many keypoints are kept.
+    pub cover: Option<Cover>,
 }
 
 /// What detection answers to these settings, on a stack too small to find anything in.
@@ -63,6 +66,9 @@ pub fn accepted(frame: &Frame, wanted: &Wanted) -> Result<(), Trouble> {
     for (settings, change) in each {
         tried(settings).map_err(|r| Trouble::refused(r, change))?;
     }
+    if let Some(cover) = wanted.cover {
+        cover.accepted()?;
+    }
     let (width, height) = size(frame, wanted.double);
     let empty = Sheet {
         width,
@@ -107,34 +113,108 @@ pub fn inside(r: Refusal) -> Trouble {
     Trouble::refused(r, "this is a fault of the tool, please report it")
 }
 
-/// Hands over each oriented keypoint of a frame, with the keypoint that it came from and the octave's planes. Answers the number of
-/// keypoints, of which each may have several directions or none.
-pub fn each(
+/// Hands over each octave of a frame with its keypoints.
+fn search(
     frame: &Frame,
     wanted: &Wanted,
     progress: &mut Progress,
-    mut take: impl FnMut(&Octave, &Keypoint, &Oriented) -> Result<(), Trouble>,
-) -> Result<usize, Trouble> {
+    mut take: impl FnMut(Octave, Vec<Keypoint>, &mut Progress) -> Result<(), Trouble>,
+) -> Result<(), Trouble> {
     accepted(frame, wanted)?;
     let s = &wanted.settings;
     progress.say(|| "octave 0: making the planes".into());
     let pyramid = Pyramid::new(&frame.samples, frame.width, frame.height, s, wanted.double);
     let many = pyramid.octaves();
-    let mut found = 0;
     for octave in pyramid {
         let at = format!("octave {} of {many}", octave.number + 1);
         progress.say(|| format!("{at}: looking for extrema"));
         let list = keypoints(&octave, s).map_err(inside)?;
-        for (k, keypoint) in list.iter().enumerate() {
-            progress.say(|| format!("{at}: keypoint {} of {}", k + 1, list.len()));
-            let picture = octave.picture(keypoint.layer as usize);
-            let directions = assign_orientations(&picture, keypoint).map_err(inside)?;
-            for oriented in &directions.list {
-                take(&octave, keypoint, oriented)?;
-            }
-        }
-        found += list.len();
+        take(octave, list, progress)?;
         progress.say(|| format!("{at} done: making the next planes"));
     }
-    Ok(found)
+    Ok(())
+}
+
+/// The keypoints of all octaves, thinned, and the octaves' Gaussian planes. None is given its directions yet.
+pub fn thinned(
+    frame: &Frame,
+    wanted: &Wanted,
+    cover: &Cover,
+    progress: &mut Progress,
+) -> Result<(Thinned, Vec<Octave>), Trouble> {
+    let (mut all, mut octaves) = (Vec::new(), Vec::new());
+    search(frame, wanted, progress, |mut octave, list, _| {
+        // nothing reads them again, and they are most of an octave
+        octave.differences = Vec::new();
+        octaves.push(octave);
+        all.extend(list);
+        Ok(())
+    })?;
+    let size = size(frame, wanted.double);
+    Ok((cover.thinned(size, all).map_err(inside)?, octaves))
+}
+
+/// Hands over the directions of a keypoint.
+fn orient(
+    octave: &Octave,
+    keypoint: &Keypoint,
+    take: &mut impl FnMut(&Octave, &Keypoint, &Oriented) -> Result<(), Trouble>,
+) -> Result<(), Trouble> {
+    let picture = octave.picture(keypoint.layer as usize);
+    let directions = assign_orientations(&picture, keypoint).map_err(inside)?;
+    for oriented in &directions.list {
+        take(octave, keypoint, oriented)?;
+    }
+    Ok(())
+}
+
+/// What was found of a frame.
+#[derive(Clone, Copy, Debug)]
+pub struct Found {
+    /// The keypoints, or those that were kept, of which each may have several directions or none.
+    pub keypoints: usize,
+    /// What a quota left.
+    pub tally: Option<Tally>,
+}
+
+/// Hands over each oriented keypoint of a frame, with the keypoint that it came from and the octave's planes: the Gaussian ones, and
+/// without a quota the differences too.
+pub fn each(
+    frame: &Frame,
+    wanted: &Wanted,
+    progress: &mut Progress,
+    mut take: impl FnMut(&Octave, &Keypoint, &Oriented) -> Result<(), Trouble>,
+) -> Result<Found, Trouble> {
+    if let Some(cover) = &wanted.cover {
+        let (thinned, octaves) = thinned(frame, wanted, cover, progress)?;
+        let many = thinned.kept.len();
+        for (k, &p) in thinned.kept.iter().enumerate() {
+            progress.say(|| format!("keypoint {} of {many} that are kept", k + 1));
+            let keypoint = &thinned.keypoints[p];
+            orient(&octaves[octave_of(keypoint)], keypoint, &mut take)?;
+        }
+        return Ok(Found {
+            keypoints: many,
+            tally: Some(thinned.tally()),
+        });
+    }
+    let mut found = 0;
+    search(frame, wanted, progress, |octave, list, progress| {
+        for (k, keypoint) in list.iter().enumerate() {
+            let (at, many) = (octave.number + 1, list.len());
+            progress.say(|| format!("octave {at}: keypoint {} of {many}", k + 1));
+            orient(&octave, keypoint, &mut take)?;
+        }
+        found += list.len();
+        Ok(())
+    })?;
+    Ok(Found {
+        keypoints: found,
+        tally: None,
+    })
+}
+
+/// The octave in which a keypoint was found.
+fn octave_of(keypoint: &Keypoint) -> usize {
+    (keypoint.octave & 255) as usize
 }

@@ -59,6 +59,18 @@ const SEARCH: &[Opt] = &[
         None,
         "search the frame at twice its width and height first",
     ),
+    opt(
+        "quota",
+        None,
+        Some("NUMBER"),
+        "keep at most so many keypoints, evenly over the frame",
+    ),
+    opt(
+        "depth",
+        None,
+        Some("NUMBER"),
+        "how often regions are cut for the quota, 0 to 12 [12]",
+    ),
     opt("quiet", Some('q'), None, "show no progress"),
 ];
 
@@ -74,7 +86,10 @@ macro_rules! planes {
         "\
 The frame is a PGM file (P5 or P2, 8 or 16 bits); its samples are scaled to 0 to 255. The planes that are searched are made by
 this tool and are not part of what is proved; what the library does with them is.
-With --double the octaves, cells, x, y and size are those of the doubled frame: octave 0 is twice as wide and high as the file."
+With --double the octaves, cells, x, y and size are those of the doubled frame: octave 0 is twice as wide and high as the file.
+With --quota the keypoints of all octaves are thinned before they are given their directions, by the library. A region with more than
+its quota is cut into quarters, and each has a fourth of it; below 4, or when it was cut --depth times, the strongest are kept. It is
+said how many are kept, and how many of 8 x 8 fields of the frame have a keypoint before and after."
     };
 }
 
@@ -147,7 +162,9 @@ pub const DRAW: Command = Command {
     more: "\
 A circle is as large as the keypoint's size, its line shows the direction, its colour the octave. Records whose 128 values are
 all zero are dashed and crossed. Without a SHEET the frame is searched, as `bargeclover find` does, and the options for that apply.
-A SHEET of the doubled frame is drawn on the frame itself.",
+A SHEET of the doubled frame is drawn on the frame itself.
+With --quota, and without a SHEET, the keypoints that are kept are circles, those that are dropped dots, and lines show where regions
+were cut.",
 };
 
 pub const COMMANDS: &[&Command] = &[&EXTRACT, &FIND, &SHOW, &CHECK, &DRAW];

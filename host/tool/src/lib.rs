@@ -4,6 +4,7 @@
 pub mod args;
 pub mod canvas;
 pub mod commands;
+pub mod cover;
 pub mod describe;
 pub mod draw;
 pub mod extract;

@@ -1,6 +1,10 @@
 //! The picture as SVG: the frame inside it as a grey PNG, the marks as shapes that say their fields where a pointer rests on them.
 
-use crate::draw::{Entry, ZERO, colour, in_order, legend, place, shade};
+use crate::cover::Thinned;
+use crate::draw::{
+    CUT, DROPPED, Entry, KEPT, ZERO, colour, in_order, legend, legend_of_thinned, on_frame, place,
+    radius, shade,
+};
 use crate::pgm::Frame;
 use crate::png::{self, Kind};
 use crate::table::Mark;
@@ -67,12 +71,54 @@ fn shape(m: &Mark, doubled: bool) -> String {
 }
 
 pub fn to_svg(frame: &Frame, marks: &[Mark], doubled: bool, zoom: usize) -> String {
+    let shapes: String = in_order(marks).iter().map(|m| shape(m, doubled)).collect();
+    page(frame, zoom, &legend(marks), &shapes)
+}
+
+/// Kept keypoints as circles, dropped ones as dots, and the lines where regions were cut.
+pub fn thinned_to_svg(frame: &Frame, t: &Thinned, doubled: bool, zoom: usize) -> String {
+    let cuts = t.cuts();
+    let mut s = format!("<g stroke=\"{}\" stroke-width=\"0.2\">\n", hex(CUT));
+    for line in &cuts {
+        let [a, b] = line.map(|(x, y)| on_frame((x as f32, y as f32), doubled));
+        let _ = writeln!(s, "<path d=\"M{} {}L{} {}\"/>", a.0, a.1, b.0, b.1);
+    }
+    let _ = writeln!(s, "</g>\n<g stroke=\"none\" fill=\"{}\">", hex(DROPPED));
+    for p in t.dropped() {
+        s += &circle(t, p, 0.7, doubled);
+    }
+    let _ = writeln!(s, "</g>\n<g stroke=\"{}\">", hex(KEPT));
+    for &p in &t.kept {
+        s += &circle(t, p, radius(t.keypoints[p].size, doubled), doubled);
+    }
+    s += "</g>\n";
+    page(frame, zoom, &legend_of_thinned(t, cuts.len()), &s)
+}
+
+/// A keypoint by its position in the list.
+fn circle(t: &Thinned, position: usize, radius: f32, doubled: bool) -> String {
+    let k = &t.keypoints[position];
+    let (x, y) = on_frame((k.x, k.y), doubled);
+    format!(
+        "<circle cx=\"{x:.2}\" cy=\"{y:.2}\" r=\"{radius:.2}\"><title>keypoint {position}: x {}, y {}, size {}, response {}, octave {}, layer {}, row {}, column {}</title></circle>\n",
+        k.x,
+        k.y,
+        k.size,
+        k.response,
+        k.octave & 255,
+        k.octave >> 8 & 255,
+        k.row,
+        k.column
+    )
+}
+
+/// The frame with shapes on it, and the legend below.
+fn page(frame: &Frame, zoom: usize, entries: &[Entry], shapes: &str) -> String {
     let (w, h) = (frame.width, frame.height);
     let grey: Vec<u8> = frame.samples.iter().map(|v| shade(*v)).collect();
     let inside = base64(&png::encode(w, h, Kind::Grey, &grey));
     // a line of the legend for each entry, in a size that goes with the frame
     let letter = (w as f32 / 45.0).clamp(3.0, 60.0);
-    let entries = legend(marks);
     let below = letter * 1.6 * entries.len() as f32 + letter;
     let high = h as f32 + below;
     let mut s = format!(
@@ -80,24 +126,13 @@ pub fn to_svg(frame: &Frame, marks: &[Mark], doubled: bool, zoom: usize) -> Stri
          <rect width=\"{w}\" height=\"{high:.2}\" fill=\"#0c1016\"/>\n\
          <image width=\"{w}\" height=\"{h}\" style=\"image-rendering:pixelated\" href=\"data:image/png;base64,{inside}\"/>\n\
          <clipPath id=\"frame\"><rect width=\"{w}\" height=\"{h}\"/></clipPath>\n\
-         <g fill=\"none\" stroke-width=\"0.5\" pointer-events=\"all\" clip-path=\"url(#frame)\">\n",
+         <g fill=\"none\" stroke-width=\"0.5\" pointer-events=\"all\" clip-path=\"url(#frame)\">\n{shapes}</g>\n\
+         <g font-family=\"sans-serif\" font-size=\"{letter:.2}\">\n",
         w * zoom,
         high * zoom as f32,
     );
-    for m in in_order(marks) {
-        s += &shape(m, doubled);
-    }
-    s += "</g>\n";
-    let _ = writeln!(
-        s,
-        "<g font-family=\"sans-serif\" font-size=\"{letter:.2}\">"
-    );
     for (k, e) in entries.iter().enumerate() {
-        let (fill, words) = match e {
-            Entry::Words(w) => ("#e2e6eb".into(), w),
-            Entry::Octave(o, w) => (hex(colour(*o)), w),
-            Entry::Zero(w) => (hex(ZERO), w),
-        };
+        let (fill, words) = (hex(e.colour()), e.words());
         let y = h as f32 + letter * 1.6 * (k as f32 + 1.0);
         let _ = writeln!(
             s,

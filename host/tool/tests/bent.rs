@@ -4,6 +4,7 @@ use cases::{Rng, sheet};
 use std::fs;
 use std::path::Path;
 use std::process::{Command, Stdio};
+use tool::cover::Cover;
 use tool::extract::extract;
 use tool::find::{self, Wanted};
 use tool::progress::Progress;
@@ -63,6 +64,12 @@ fn use_up(f: &pgm::Frame, wanted: &Wanted) {
     if found.is_ok() && f.width.max(f.height) < 300 {
         draw::to_png(f, &marks, wanted.double, 2);
         svg::to_svg(f, &marks, wanted.double, 2);
+        if let Some(cover) = &wanted.cover {
+            let (thinned, _) = find::thinned(f, wanted, cover, &mut Progress::none()).unwrap();
+            assert!(thinned.kept.len() <= cover.quota);
+            draw::thinned_to_png(f, &thinned, wanted.double, 2);
+            svg::thinned_to_svg(f, &thinned, wanted.double, 2);
+        }
     }
 }
 
@@ -81,10 +88,15 @@ fn bent_frames() {
                 assert!(f.samples.iter().all(|v| (0.0..=255.0).contains(v)));
                 if k % 8 == 0 {
                     let double = rng.one_in(2);
+                    let cover = rng.one_in(2).then(|| Cover {
+                        quota: rng.from_to(1, 9),
+                        depth: rng.below(13) as u32,
+                    });
                     use_up(
                         &f,
                         &Wanted {
                             double,
+                            cover,
                             ..Wanted::default()
                         },
                     );

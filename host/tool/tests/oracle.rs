@@ -1,7 +1,8 @@
 //! From a frame to oriented keypoints and to a sheet, the tool beside the published Rust on the same planes, word for word.
 
 use bargeclover::Settings;
-use cases::Rng;
+use cases::{Rng, thinning};
+use tool::cover::Cover;
 use tool::extract::extract;
 use tool::find::{self, Wanted};
 use tool::pgm::{self, Frame};
@@ -39,23 +40,42 @@ fn record(k: &[u32; 10], o: &[u32; 6], values: &[u32; 128]) -> [u32; 138] {
     w
 }
 
+/// The positions that are kept of these keypoints, by the second rendering.
+fn kept(f: &Frame, w: &Wanted, all: &[(usize, [u32; 10])]) -> Vec<u32> {
+    let (width, height) = find::size(f, w.double);
+    let (quota, depth) = w.cover.map_or((usize::MAX, 0), |c| (c.quota, c.depth));
+    let case = thinning::Case {
+        width,
+        height,
+        words: all.iter().flat_map(|a| a.1).collect(),
+        quota,
+        depth,
+    };
+    assert_eq!(thinning::reason(&case), None);
+    thinning::kept(&case)
+}
+
 /// What the published Rust finds, by the layer searched; a keypoint's picture is that of the layer where it settled.
 fn theirs(f: &Frame, w: &Wanted) -> Vec<Words> {
     let s = &w.settings;
-    let mut all = Vec::new();
-    for octave in Pyramid::new(&f.samples, f.width, f.height, s, w.double) {
+    let octaves: Vec<_> = Pyramid::new(&f.samples, f.width, f.height, s, w.double).collect();
+    let mut found = Vec::new();
+    for (at, octave) in octaves.iter().enumerate() {
         for layer in 1..=s.layers {
-            for k in oracle::find_extrema(&octave.stack(), layer, octave.number, s) {
-                let plane = &octave.gaussian[k[5] as usize];
-                let (list, _) = oracle::assign_orientations(plane, octave.width, octave.height, &k);
-                for o in list {
-                    let at = oracle::descriptor_inputs(&o, octave.number as i32);
-                    let at = at.map(f32::from_bits);
-                    let (values, _) =
-                        oracle::compute_descriptor(plane, octave.width, octave.height, at);
-                    all.push((k, o, record(&k, &o, &values)));
-                }
-            }
+            let list = oracle::find_extrema(&octave.stack(), layer, octave.number, s);
+            found.extend(list.into_iter().map(|k| (at, k)));
+        }
+    }
+    let mut all = Vec::new();
+    for p in kept(f, w, &found) {
+        let (at, k) = found[p as usize];
+        let octave = &octaves[at];
+        let plane = &octave.gaussian[k[5] as usize];
+        let (list, _) = oracle::assign_orientations(plane, octave.width, octave.height, &k);
+        for o in list {
+            let at = oracle::descriptor_inputs(&o, octave.number as i32).map(f32::from_bits);
+            let (values, _) = oracle::compute_descriptor(plane, octave.width, octave.height, at);
+            all.push((k, o, record(&k, &o, &values)));
         }
     }
     all
@@ -68,7 +88,8 @@ fn ours(f: &Frame, w: &Wanted) -> Vec<Words> {
         found.push((k.to_words(), o.to_words()));
         Ok(())
     })
-    .unwrap();
+    .unwrap()
+    .keypoints;
     let made = extract(f, w, &mut Progress::none()).unwrap();
     assert_eq!(made.keypoints, keypoints);
     let bytes = bargeclover::write_sheet(&made.sheet).unwrap();
@@ -112,8 +133,8 @@ fn the_shipped_frame() {
 
 #[test]
 fn frames_of_every_kind() {
-    let mut rng = Rng::new(21);
-    let mut many = 0;
+    let (mut rng, mut quotas) = (Rng::new(21), Rng::new(22));
+    let (mut many, mut kept) = (0, 0);
     for k in 0..24 {
         let (w, h) = (rng.from_to(1, 150), rng.from_to(1, 120));
         let frame = if k % 2 == 0 {
@@ -129,10 +150,26 @@ fn frames_of_every_kind() {
                 layers: rng.pick(&[1, 2, 3, 3, 5, 15]),
             },
             double: rng.one_in(3),
+            cover: None,
         };
-        many += hold(&frame, &wanted);
+        let found = hold(&frame, &wanted);
+        let cover = Cover {
+            quota: quotas.pick(&[1, 3, 4, 50, 400]) + quotas.below(20),
+            depth: quotas.below(13) as u32,
+        };
+        let some = hold(
+            &frame,
+            &Wanted {
+                cover: Some(cover),
+                ..wanted
+            },
+        );
+        assert!(some <= found);
+        many += found;
+        kept += some;
     }
     assert!(many > 5000, "{many}");
+    assert!(kept > 500 && kept < many / 2, "{kept} of {many}");
 }
 
 #[test]

@@ -104,6 +104,12 @@ fn wrong_commands_end_with_2() {
             "99999999999999999999",
         ],
         &["draw", COAST, "s", "-o", "x.png", "--edge", "5"],
+        &["draw", COAST, "s", "-o", "x.png", "--quota", "5"],
+        &["draw", COAST, "-o", "x.png", "--depth", "5"],
+        &["extract", COAST, "-o", "x.sheet", "--depth", "5"],
+        &["find", COAST, "--depth", "5"],
+        &["find", COAST, "--quota", "-1"],
+        &["find", COAST, "--quota", "5", "--depth", "deep"],
         &["draw", "a", "b", "c", "-o", "x.png"],
         &["find", COAST, "--wings"],
     ] {
@@ -132,6 +138,16 @@ fn what_is_refused_ends_with_1_and_says_what_to_change() {
         &["find", COAST, "--layers", "18446744073709551615"],
         "--layers from 1 to 15",
     );
+    refused(&["find", COAST, "--quota", "0"], "--quota of 1 or more");
+    refused(&["find", COAST, "--quota", "0"], "number 5");
+    for depth in ["13", "4294967295"] {
+        refused(
+            &[
+                "draw", COAST, "-o", "x.png", "--quota", "9", "--depth", depth,
+            ],
+            "--depth from 0 to 12",
+        );
+    }
     let no = file("no.pgm", b"P6 1 1 255 abc");
     refused(&["find", &no], "not a PGM picture");
     let wide = file("wide.pgm", b"P5 9000 1 255 abc");
@@ -226,6 +242,58 @@ fn from_a_frame_to_a_sheet_and_its_picture() {
     assert_eq!(o.stdout, fs::read(sheet).unwrap());
 }
 
+/// The lines of a table without their numbers.
+fn lines(csv: &str) -> Vec<&str> {
+    let each = csv.lines().skip(1);
+    each.map(|l| l.split_once(',').unwrap().1).collect()
+}
+
+#[test]
+fn a_quota_keeps_some_of_them() {
+    let (sheet, picture) = (place("thinned.sheet"), place("thinned.svg"));
+    let (sheet, picture) = (sheet.to_str().unwrap(), picture.to_str().unwrap());
+    for more in [&["--quota", "40"][..], &["--quota", "40", "--depth", "0"]] {
+        let all = run(&["find", COAST, "--csv", "--double"], 0).0;
+        let words = [&["find", COAST, "--csv", "--double"], more].concat();
+        let (some, told) = run(&words, 0);
+        // in the same order, each one of all
+        let (all, some) = (lines(&all), lines(&some));
+        let mut rest = all.iter();
+        assert!(some.iter().all(|s| rest.any(|a| a == s)));
+        assert!(!some.is_empty() && some.len() < all.len());
+        assert_eq!(run(&[&words, &["-q"][..]].concat(), 0).1, "");
+
+        // every command says the same of it
+        let tally = told.trim_end();
+        assert!(tally.contains(" of 8 x 8 fields of the frame "), "{tally}");
+        let words = [&["find", COAST, "--double"], more].concat();
+        assert!(run(&words, 0).0.starts_with(tally));
+        let words = [&["extract", COAST, "--double", "-o", sheet], more].concat();
+        assert!(run(&words, 0).0.contains(tally));
+        let words = [&["draw", COAST, "--double", "-o", picture], more].concat();
+        assert_eq!(run(&words, 0).0, format!("{picture}: {tally}\n"));
+
+        // the sheet has those that are found, and the picture all
+        let shown = run(&["show", sheet, "--csv"], 0).0;
+        let shown = lines(&shown);
+        assert_eq!(shown.len(), some.len());
+        assert!(shown.iter().zip(&some).all(|(a, b)| a.starts_with(b)));
+        let svg = fs::read_to_string(picture).unwrap();
+        let number = |before: &str| {
+            let (_, rest) = tally.split_once(before).unwrap();
+            rest.split(' ').next().unwrap().parse::<usize>().unwrap()
+        };
+        assert_eq!(svg.matches("<circle ").count(), number(" of "));
+        assert!(svg.contains(&format!("kept: {} of ", number("kept "))));
+        assert_eq!(svg.contains(">cuts<"), more.len() == 2);
+    }
+    let large = run(
+        &["find", COAST, "--csv", "--quota", "18446744073709551615"],
+        0,
+    );
+    assert_eq!(large.0, run(&["find", COAST, "--csv"], 0).0);
+}
+
 #[test]
 fn a_roll_into_a_folder() {
     let folder = place("roll");
@@ -274,6 +342,10 @@ fn pictures_are_written_whole() {
         for words in [
             &["draw", COAST, "-o", to][..],
             &["draw", COAST, "-o", to, "--double", "-z", "1"],
+            &["draw", COAST, "-o", to, "--quota", "30"],
+            &[
+                "draw", COAST, "-o", to, "--double", "--quota", "9", "-z", "1",
+            ],
             &["draw", COAST, &good, "-o", to],
         ] {
             run(words, 0);

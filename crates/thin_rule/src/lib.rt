@@ -32,10 +32,11 @@ fn choice(b: bool, x: u32, y: u32) -> u32
     if b { x } else { y }
 }
 
-fn one(b: bool) -> usize
+// 1 for true, without a branch.
+pub fn one(b: bool) -> usize
     ensures { λ r. ⌜ (r ≡ cond b 1 0) × (r ≤ 1) ⌝ }
 {
-    if b { 1 } else { 0 }
+    b as usize
 }
 
 // The quarter k of a region, in row order.
@@ -103,6 +104,12 @@ pub fn in_region(words: &[u32], e: Edges, p: usize) -> bool
     let x = bare_of(words[KEYPOINT_WORDS * p]);
     let y = bare_of(words[KEYPOINT_WORDS * p + 1]);
     ((e.left <= x) & (x < e.right)) & ((e.top <= y) & (y < e.bottom))
+}
+
+pub fn index(x: u32) -> usize
+    ensures { λ r. ⌜ r ≡ x ⌝ }
+{
+    x as usize
 }
 
 fn wide(x: u32) -> u64

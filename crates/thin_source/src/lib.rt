@@ -43,18 +43,6 @@ pub struct Found {
     pub source: Source,
 }
 
-fn index(x: u32) -> usize
-    ensures { λ r. ⌜ r ≡ x ⌝ }
-{
-    x as usize
-}
-
-fn one(b: bool) -> usize
-    ensures { λ r. ⌜ (r ≡ cond b 1 0) × (r ≤ 1) ⌝ }
-{
-    if b { 1 } else { 0 }
-}
-
 fn choice(b: bool, x: usize, y: usize) -> usize
     ensures { λ r. ⌜ r ≡ cond b x y ⌝ }
 {
@@ -65,7 +53,7 @@ fn candidate_at(s: &[u32], all: bool, k: usize) -> usize
     requires { ⌜ (all ≡ false → k < length (now s)) ⌝ }
     ensures { λ r. ⌜ r ≡ candidate all (now (s .entry)) k ⌝ }
 {
-    if all { k } else { index(s[k]) }
+    if all { k } else { thin_rule::index(s[k]) }
 }
 
 // A keypoint between the edges that is at least so strong.
@@ -93,7 +81,7 @@ fn tally(words: &[u32], r: Region, t: u64, s: &[u32], c: Source) -> usize
     let mut k: usize = c.from;
     while k < to {
         let p = candidate_at(s, all, k);
-        m += one(is_strong(words, e, t, p));
+        m += thin_rule::one(is_strong(words, e, t, p));
         k += 1;
     }
     m
@@ -134,7 +122,7 @@ pub fn put(
         let p = candidate_at(s, all, k);
         let yes = is_strong(words, e, t, p);
         put_if(out, m, p, yes);
-        m += one(yes);
+        m += thin_rule::one(yes);
         k += 1;
     }
     m

@@ -326,7 +326,7 @@ pub fn list(
 }
 
 /// About so many positions are held at once; a longer list is gone over again and again.
-pub const HELD: usize = 6912;
+pub const HELD: usize = 6496;
 
 fn many(r: &mut Rng) -> usize {
     match r.below(4096) {

@@ -5,7 +5,7 @@ use Rattle.thin_source.proofs.candidate_at.Statement.{statement}
 use Rattle.thin_source.proofs.candidate_at.Tie as tie
 use Rattle.thin_source.proofs.candidate_at.Reads as reads
 use Rattle.thin_source.proofs.candidate_at.Lts as lts
-use Rattle.thin_source.proofs.index.Reads as index-reads
+use Rattle.thin_rule.proofs.index.Reads as index-reads
 
 -- src/lib.rt:66:31
 mul-index : tie.Need-mul-index

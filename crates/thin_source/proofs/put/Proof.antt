@@ -11,7 +11,7 @@ use Rattle.thin_source.proofs.put.Lts as lts
 use Rattle.thin_rule.proofs.edges_of.Reads as edges-of-reads
 use Rattle.thin_source.proofs.candidate_at.Reads as candidate-at-reads
 use Rattle.thin_source.proofs.is_strong.Reads as is-strong-reads
-use Rattle.thin_source.proofs.one.Reads as one-reads
+use Rattle.thin_rule.proofs.one.Reads as one-reads
 use Rattle.thin_source.proofs.put_if.Reads as put-if-reads
 
 abbrev Inv-loop : tie.InvT-loop

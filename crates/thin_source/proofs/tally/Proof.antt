@@ -10,7 +10,7 @@ use Rattle.thin_source.proofs.tally.Lts as lts
 use Rattle.thin_rule.proofs.edges_of.Reads as edges-of-reads
 use Rattle.thin_source.proofs.candidate_at.Reads as candidate-at-reads
 use Rattle.thin_source.proofs.is_strong.Reads as is-strong-reads
-use Rattle.thin_source.proofs.one.Reads as one-reads
+use Rattle.thin_rule.proofs.one.Reads as one-reads
 
 abbrev Inv-loop : tie.InvT-loop
 Inv-loop words t s e all to m₀ k₀ m k = Tallied (weighed words e t) (candidate all s) k₀ to k m

@@ -1,5 +1,6 @@
 pub mod Covering
 pub mod Sources
 pub mod Adding
+pub mod Topping
 pub mod Cutting
 pub mod Splitting

@@ -15,6 +15,9 @@ use thin_part::Cut;
 use thin_rule::Edges;
 use thin_rule::Region;
 
+// So few of a region are found one by one.
+const FEW: usize = 8;
+
 // The places of a source: each is a position itself, or holds one.
 pub struct Source {
     pub all: bool,
@@ -128,8 +131,57 @@ pub fn put(
     m
 }
 
-// The strength from which on the region has exactly q keypoints, found by halving the reach.
-pub fn cut(words: &[u32], r: Region, q: usize, h: Reach, s: &[u32], c: Source) -> u64
+// The larger of a strength so far and of a candidate's, if it is one of the region that is no stronger than u.
+fn stronger(words: &[u32], e: Edges, u: u64, b: u64, p: usize) -> u64
+    requires { ⌜ (p < pointsIn (now words)) × (pointsIn (now words) ≤ maxKeypoints) ⌝ }
+    ensures { λ r. ⌜ r ≡ cond ((edged (now (words .entry)) e p && leb (strength (now (words .entry)) p) u) && ltb b (strength (now (words .entry)) p)) (strength (now (words .entry)) p) b ⌝ }
+{
+    if thin_rule::in_region(words, e, p) {
+        let t = thin_rule::strength_of(words, p);
+        if (t <= u) & (b < t) { t } else { b }
+    } else {
+        b
+    }
+}
+
+// The largest strength of the region's keypoints up to u, where there is one.
+fn next(words: &[u32], r: Region, u: u64, s: &[u32], c: Source) -> u64
+    requires { ⌜ Ordered r × Sound (now words) ⌝ }
+    requires { ⌜ Covers (now words) r (now s) c ⌝ }
+    requires { ⌜ counted 0 (pointsIn (now words)) (strong (now words) r (u + 1)) < many (now words) r ⌝ }
+    ensures { λ t. ⌜ counted 0 (pointsIn (now (words .entry))) (strong (now (words .entry)) r t) ≡ counted 0 (pointsIn (now (words .entry))) (strong (now (words .entry)) r (u + 1)) + 1 ⌝ }
+{
+    let e = thin_rule::edges_of(r);
+    let all = c.all;
+    let to = c.to;
+    let mut b: u64 = 0;
+    let mut k: usize = c.from;
+    while k < to {
+        let p = candidate_at(s, all, k);
+        b = stronger(words, e, u, b, p);
+        k += 1;
+    }
+    b
+}
+
+// The strength from which on the region has exactly q keypoints: one after the other, from the strongest on.
+fn top(words: &[u32], r: Region, q: usize, h: Reach, s: &[u32], c: Source) -> u64
+    requires { ⌜ Ordered r × Sound (now words) ⌝ }
+    requires { ⌜ Covers (now words) r (now s) c × Reaches (now words) h ⌝ }
+    requires { ⌜ (1 ≤ q) × (q < many (now words) r) ⌝ }
+    ensures { λ t. ⌜ counted 0 (pointsIn (now (words .entry))) (strong (now (words .entry)) r t) ≡ q ⌝ }
+{
+    let mut t: u64 = next(words, r, h.high, s, c);
+    let mut k: usize = 1;
+    while k < q {
+        t = next(words, r, t - 1, s, c);
+        k += 1;
+    }
+    t
+}
+
+// The same, found by halving the reach.
+fn halve(words: &[u32], r: Region, q: usize, h: Reach, s: &[u32], c: Source) -> u64
     requires { ⌜ Ordered r × Sound (now words) ⌝ }
     requires { ⌜ Covers (now words) r (now s) c × Reaches (now words) h ⌝ }
     requires { ⌜ (1 ≤ q) × (q < many (now words) r) ⌝ }
@@ -150,6 +202,20 @@ pub fn cut(words: &[u32], r: Region, q: usize, h: Reach, s: &[u32], c: Source) -
         }
     }
     lo
+}
+
+// The strength from which on the region has exactly q keypoints.
+pub fn cut(words: &[u32], r: Region, q: usize, h: Reach, s: &[u32], c: Source) -> u64
+    requires { ⌜ Ordered r × Sound (now words) ⌝ }
+    requires { ⌜ Covers (now words) r (now s) c × Reaches (now words) h ⌝ }
+    requires { ⌜ (1 ≤ q) × (q < many (now words) r) ⌝ }
+    ensures { λ t. ⌜ counted 0 (pointsIn (now (words .entry))) (strong (now (words .entry)) r t) ≡ q ⌝ }
+{
+    if q < FEW {
+        top(words, r, q, h, s, c)
+    } else {
+        halve(words, r, q, h, s, c)
+    }
 }
 
 // Counts the region's keypoints. Of all positions it puts them into the lent list, which is their source from then on if it took them all.

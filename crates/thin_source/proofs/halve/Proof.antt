@@ -1,10 +1,10 @@
 use Prim.Native.Nat.{_^_, _-_, _<_}
 use native.Mathlib.Omega.{arith}
 use Rattle.thin_source.proofs.Cutting.{Halving, halving-start, halving-found, halving-up, halving-down, halving-end}
-use Rattle.thin_source.proofs.cut.Statement.{statement}
-use Rattle.thin_source.proofs.cut.Tie as tie
-use Rattle.thin_source.proofs.cut.Reads as reads
-use Rattle.thin_source.proofs.cut.Lts as lts
+use Rattle.thin_source.proofs.halve.Statement.{statement}
+use Rattle.thin_source.proofs.halve.Tie as tie
+use Rattle.thin_source.proofs.halve.Reads as reads
+use Rattle.thin_source.proofs.halve.Lts as lts
 use Rattle.thin_source.proofs.tally.Reads as tally-reads
 
 abbrev Inv-loop : tie.InvT-loop
@@ -65,8 +65,8 @@ loop-again-2 c = (omega arith, halving-down _ _ _ _ _ _ _ _ _ (c .before .before
 returns-2 : tie.Need-returns-2 Inv-loop μ-loop
 returns-2 c = halving-end _ _ _ _ _ (c .before .before .before .before .pre .0 .1) (omega arith) (c .before .loop .inv .1)
 
-pub cut-spec : {M : Type 1} → statement M
-cut-spec =
+pub halve-spec : {M : Type 1} → statement M
+halve-spec =
     tie.close
     (tie.spec
     Inv-loop

@@ -2,7 +2,7 @@
 ghost use mathlib.Core.Path.{_≡_};
 ghost use mathlib.Core.Bool.{cond};
 ghost use Prim.Native.Nat.{_^_, _<_, _≤_};
-ghost use lib.ListN.{length};
+ghost use lib.Dec.{ltb};
 ghost use Rattle.ieee.specs.F32.{float};
 ghost use Rattle.params.specs.Limits.{maxSide, maxKeypoints};
 ghost use Rattle.thin_order.specs.Place.{place, bare};
@@ -110,6 +110,13 @@ pub fn index(x: u32) -> usize
     ensures { λ r. ⌜ r ≡ x ⌝ }
 {
     x as usize
+}
+
+// 1 where a is less than b: no comparison, so that no compiler makes a branch of it.
+pub fn less(a: u32, b: u32) -> usize
+    ensures { λ r. ⌜ (r ≡ cond (ltb a b) 1 0) × (r ≤ 1) ⌝ }
+{
+    1 - (index(a) + 0x1_0000_0000 - index(b)) / 0x1_0000_0000
 }
 
 fn wide(x: u32) -> u64

@@ -39,6 +39,7 @@ topping-turn test power cand from to k b p b′ i h z w = rw (w, z) (turn (test 
   where
     low : from ≤ k + 1
     low = let l = i .low in omega arith
+
     turn : (x : Bool) → (test (cand k) && ltb b (power (cand k))) ≡ x → Topping test power cand from to (k + 1) (cond x (power (cand k)) b)
     turn true e =
         let x = power (cand k) in
@@ -50,7 +51,7 @@ topping-turn test power cand from to k b p b′ i h z w = rw (w, z) (turn (test 
           none =
               let n = counted-next from k (λ j. test (cand j) && ltb x (power (cand j))) (i .low) in
               let m = counted-mono from k (λ j. test (cand j) && ltb x (power (cand j))) (λ j. test (cand j) && ltb b (power (cand j)))
-                  (λ j _ _ f. both-and (test (cand j)) (ltb b (power (cand j))) (and-left (test (cand j)) (ltb x (power (cand j))) f) (lt-ltb b (power (cand j)) (let y = ltb-true x (power (cand j)) (and-right (test (cand j)) (ltb x (power (cand j))) f) in omega arith))) in
+              (λ j _ _ f. both-and (test (cand j)) (ltb b (power (cand j))) (and-left (test (cand j)) (ltb x (power (cand j))) f) (lt-ltb b (power (cand j)) (let y = ltb-true x (power (cand j)) (and-right (test (cand j)) (ltb x (power (cand j))) f) in omega arith))) in
               let o : one (test (cand k) && ltb x (power (cand k))) ≡ 0 = rw (le-ltb x (power (cand k)) (le-refl x), t) in
               let z = i .none in
               omega arith;
@@ -58,7 +59,7 @@ topping-turn test power cand from to k b p b′ i h z w = rw (w, z) (turn (test 
               inr
               (let n = counted-next from k (λ j. test (cand j) && leb x (power (cand j))) (i .low) in
               let o : one (test (cand k) && leb x (power (cand k))) ≡ 1 = rw (le-leb x (power (cand k)) (le-refl x), t) in
-              omega arith)
+              omega arith);
         }
     turn false e =
         record {
@@ -69,7 +70,7 @@ topping-turn test power cand from to k b p b′ i h z w = rw (w, z) (turn (test 
               let o : one (test (cand k) && ltb b (power (cand k))) ≡ 0 = rw e in
               let z = i .none in
               omega arith;
-          some = ⊎-elim (λ z. inl z) (λ l. inr (let n = counted-next from k (λ j. test (cand j) && leb b (power (cand j))) (i .low) in omega arith)) (i .some)
+          some = ⊎-elim (λ z. inl z) (λ l. inr (let n = counted-next from k (λ j. test (cand j) && leb b (power (cand j))) (i .low) in omega arith)) (i .some);
         }
 
 -- ---- the region's keypoints up to u
@@ -90,6 +91,7 @@ module _ (ws : List ℕ) (r : Region) (u : ℕ) (sd : Sound ws) (few : counted 0
       yes : (a : Bool) → one (a && true) ≡ one (a && true) + one ((a && false) && true)
       yes true = refl
       yes false = refl
+
       no : (a c : Bool) → one (a && c) ≡ one (a && false) + one ((a && true) && c)
       no true c = omega arith
       no false c = refl
@@ -120,6 +122,7 @@ module _ (ws : List ℕ) (r : Region) (u : ℕ) (sd : Sound ws) (few : counted 0
     where
       whole : counted 0 (pointsIn ws) (strong ws r 0) ≡ many ws r
       whole = counted-same 0 (pointsIn ws) (strong ws r 0) (inside ws r) (λ i _ _. strong-zero ws r i)
+
       below : (b : ℕ) → 1 ≤ counted 0 (pointsIn ws) (λ i. (inside ws r i && leb (strength ws i) u) && leb b (strength ws i)) → b ≤ u + 1
       below b l =
           ⊎-elim (λ m. m)
@@ -139,16 +142,20 @@ module _ (ws : List ℕ) (r : Region) (u : ℕ) (sd : Sound ws) (few : counted 0
     where
       same : k ≡ c .to
       same = let x = i .high in omega arith
+
       edge : (g : ℕ → Bool) → counted (c .from) (c .to) (λ j. capped ws e u (candidate (c .all) s j) && g (candidate (c .all) s j)) ≡ found s c (λ p. (inside ws r p && leb (strength ws p) u) && g p)
       edge g =
           counted-same (c .from) (c .to) (λ j. capped ws e u (candidate (c .all) s j) && g (candidate (c .all) s j)) (λ j. (inside ws r (candidate (c .all) s j) && leb (strength ws (candidate (c .all) s j)) u) && g (candidate (c .all) s j))
           (λ j a d. rw (inside-edged ws r (candidate (c .all) s j) sd o (h .stands .each j a d), z))
+
       all : (g : ℕ → Bool) → found s c (λ p. (inside ws r p && leb (strength ws p) u) && g p) ≡ counted 0 (pointsIn ws) (λ i. (inside ws r i && leb (strength ws i) u) && g i)
       all g =
           covers-test ws r s c h (λ p. (inside ws r p && leb (strength ws p) u) && g p)
           (λ j f. and-left (inside ws r j) (leb (strength ws j) u) (and-left (inside ws r j && leb (strength ws j) u) (g j) f))
+
       none : found s c (λ p. (inside ws r p && leb (strength ws p) u) && ltb b (strength ws p)) ≡ 0
       none = sym (edge (λ p. ltb b (strength ws p))) ∙ subst (λ (v : ℕ). counted (c .from) v (λ j. capped ws e u (candidate (c .all) s j) && ltb b (strength ws (candidate (c .all) s j))) ≡ 0) same (i .none)
+
       some : 1 ≤ counted (c .from) k (λ j. capped ws e u (candidate (c .all) s j) && leb b (strength ws (candidate (c .all) s j))) → 1 ≤ found s c (λ p. (inside ws r p && leb (strength ws p) u) && leb b (strength ws p))
       some x = let y = edge (λ p. leb b (strength ws p)) in let w = ap (λ (v : ℕ). counted (c .from) v (λ j. capped ws e u (candidate (c .all) s j) && leb b (strength ws (candidate (c .all) s j)))) same in omega arith
 

@@ -1,5 +1,5 @@
 -- A float's place, by the sign of its bits, and a comparison without a branch. Assumes nothing.
-use Prim.Native.Nat.{ℕ, _+_, _-_, _/_, _^_, _≤_, _<_}
+use Prim.Native.Nat.{ℕ, _+_, _-_, _^_, _≤_, _<_}
 use mathlib.Core.Path.{_≡_}
 use mathlib.Core.Bool.{cond}
 use mathlib.Core.Logic.{⊎-elim}
@@ -17,6 +17,6 @@ pub place-high : (w : ℕ) → 2 ^ 31 ≤ w → place w ≡ 2 ^ 32 - w
 unfolding place
 place-high w h = rw (le-ltb w (2 ^ 31) h)
 
--- what is left of a difference, raised by 2^32, says which is less
-pub less-is : (a b x y : ℕ) → x ≡ a → y ≡ b → a < 2 ^ 32 → b < 2 ^ 32 → (1 - (x + 2 ^ 32 - y) / 2 ^ 32 ≡ cond (ltb a b) 1 0) × (1 - (x + 2 ^ 32 - y) / 2 ^ 32 ≤ 1)
-less-is a b x y e f p q = ⊎-elim (λ l. rw (le-ltb a b l) (omega arith, omega arith)) (λ l. rw (lt-ltb a b l) (omega arith, omega arith)) (le-or-lt b a)
+-- a number that is 1 where a is less than b, and else 0
+pub less-is : (a b r : ℕ) → (a < b → r ≡ 1) → (b ≤ a → r ≡ 0) → (r ≡ cond (ltb a b) 1 0) × (r ≤ 1)
+less-is a b r f g = ⊎-elim (λ l. let e = g l in rw (le-ltb a b l) (e, omega arith)) (λ l. let e = f l in rw (lt-ltb a b l) (e, omega arith)) (le-or-lt b a)

@@ -29,7 +29,7 @@ sub-result-2 c = search needs
 
 -- src/lib.rt:116:1
 returns : tie.Need-returns
-returns c = less-is _ _ _ _ (c .before .index .ensures) (c .index2 .ensures) (omega arith) (omega arith)
+returns c = less-is (c .before .before .args .a) (c .before .before .args .b) _ (λ l. let x = c .before .index .ensures in let y = c .index2 .ensures in omega arith) (λ l. let x = c .before .index .ensures in let y = c .index2 .ensures in omega arith)
 
 pub less-spec : {M : Type 1} → statement M
 less-spec =

@@ -8,7 +8,7 @@ use Rattle.thin_rule.proofs.whole.Lts as lts
 
 -- src/lib.rt:63:5
 int-to-float-result : tie.Need-int-to-float-result
-int-to-float-result c = held (c .before .args .n) (omega arith)
+int-to-float-result c = held _ (omega arith)
 
 -- src/lib.rt:59:1
 returns : tie.Need-returns

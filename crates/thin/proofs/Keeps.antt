@@ -106,7 +106,7 @@ module _ (ws : List ℕ) (d : ℕ) (r : Region) (q : ℕ) (s t : List ℕ) (m : 
 
 -- ---- is there room
 
-few-kept : (ws : List ℕ) (d : ℕ) (r : Region) (q : ℕ) → Sound ws → Ordered r → length (kept ws d r q) ≤ q
+pub few-kept : (ws : List ℕ) (d : ℕ) (r : Region) (q : ℕ) → Sound ws → Ordered r → length (kept ws d r q) ≤ q
 unfolding kept
 few-kept ws d r q s o = let e = length-passed 0 (pointsIn ws) (keeps ws d r q) in let f = keeps-few ws s d r q o in omega arith
 
@@ -147,11 +147,11 @@ module _ (ws : List ℕ) (d : ℕ) (r : Region) (q n : ℕ) (e : n ≡ pointsIn 
   each-kept i p =
       keeps-all ws d r q i (let a = counted-same 0 (pointsIn ws) (inside ws r) (λ j. true) (λ j x y. h j y) in let b = counted-all 0 (pointsIn ws) (omega arith) in omega arith) ∙ h i p
 
-  whole-many : n ≡ length (kept ws d r q)
+  pub whole-many : n ≡ length (kept ws d r q)
   unfolding kept
   whole-many = e ∙ sym (all-pass (pointsIn ws) (keeps ws d r q) each-kept .0)
 
-  whole-place : (k : ℕ) → k < pointsIn ws → getD (kept ws d r q) k 0 ≡ k
+  pub whole-place : (k : ℕ) → k < pointsIn ws → getD (kept ws d r q) k 0 ≡ k
   unfolding kept
   whole-place k p = all-pass (pointsIn ws) (keeps ws d r q) each-kept .1 k p
 

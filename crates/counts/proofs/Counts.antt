@@ -19,6 +19,12 @@ pub either : (b : Bool) → (b ≡ true) ⊎ (b ≡ false)
 either true = inl refl
 either false = inr refl
 
+-- a test beside a harder one
+pub absorbed : (a b : Bool) → (b ≡ true → a ≡ true) → (a && b) ≡ b
+absorbed true b p = refl
+absorbed false true p = p refl
+absorbed false false p = refl
+
 -- one for a test that is passed
 abbrev pub one : Bool → ℕ
 one b = cond b 1 0

@@ -11,6 +11,7 @@ use borrow.Author.Tests.{leb-true, leb-false, le-leb, lt-leb, ltb-true, lt-ltb}
 use lib.Dec.{leb, ltb}
 use lib.ListN.{length, getD, drop, List·getD-append}
 use Rattle.lists.specs.Pasted.{pasted}
+use Rattle.lists.proofs.Bools.{and-false}
 use Rattle.lists.proofs.Naturals.{le-or-lt}
 use Rattle.lists.proofs.Ranges.{joined-more}
 use Rattle.counts.specs.Counts.{counted, passed}
@@ -24,6 +25,7 @@ use Rattle.thin_rule.specs.declared.Region.{Region}
 use Rattle.thin_laws.proofs.Cases.{keeps-all}
 use Rattle.thin_laws.proofs.Few.{keeps-few}
 use Rattle.thin_part.specs.Runs.{held, Listed, Beside, Dealt, Arranged}
+use Rattle.thin_part.proofs.Parts.{none-listed}
 use Rattle.thin_source.specs.Adds.{Added}
 use Rattle.thin_region.proofs.Turns.{those, count-kept}
 use Rattle.thin.specs.Entry.{frame, faultOf, keptOf, thinAnswer, thinOut}
@@ -76,20 +78,9 @@ module _ (ws : List ℕ) (d : ℕ) (r : Region) (q : ℕ) (s t : List ℕ) (m : 
   pub added-listed : (n : ℕ) → n ≡ pointsIn ws → Listed n t 0 m
   added-listed n e =
       subst (λ (j : ℕ). Listed j t 0 m) (sym e)
-      (record { each = λ k x y. ltb-true (getD t k 0) (pointsIn ws) (back (ltb (getD t k 0) (pointsIn ws)) (counted-zero 0 m (λ i. not (ltb (getD t i 0) (pointsIn ws))) none k x y)) })
-    where
-      back : (x : Bool) → not x ≡ false → x ≡ true
-      back true e = refl
-      back false e = absurd (true≢false e)
-
-      never : (x y : Bool) → y ≡ true → (x && not y) ≡ false
-      never true y e = ap not e
-      never false y e = refl
-
-      none : held t 0 m (λ i. not (ltb i (pointsIn ws))) ≡ 0
-      none =
-          a .each fits (λ i. not (ltb i (pointsIn ws)))
-          ∙ counted-never 0 (pointsIn ws) (λ i. keeps ws d r q i && not (ltb i (pointsIn ws))) (λ i x y. never (keeps ws d r q i) (ltb i (pointsIn ws)) (lt-ltb i (pointsIn ws) y))
+      (none-listed (pointsIn ws) t 0 m
+      (a .each fits (λ i. not (ltb i (pointsIn ws)))
+      ∙ counted-never 0 (pointsIn ws) (λ i. keeps ws d r q i && not (ltb i (pointsIn ws))) (λ i x y. rw (lt-ltb i (pointsIn ws) y) (and-false (keeps ws d r q i)))))
 
   sorted : (n : ℕ) (u : List ℕ) → n ≡ pointsIn ws → Arranged t u 0 m 0 n → (k : ℕ) → k < length (kept ws d r q) → getD u k 0 ≡ getD (kept ws d r q) k 0
   unfolding kept

@@ -9,7 +9,7 @@ use borrow.Author.Tests.{lt-ltb, le-ltb, le-leb, lt-leb}
 use lib.Dec.{leb, ltb}
 use Rattle.lists.proofs.Bools.{and-true, and-left}
 use Rattle.counts.specs.Counts.{some}
-use Rattle.counts.proofs.Counts.{some-elim}
+use Rattle.counts.proofs.Counts.{absorbed, some-elim}
 use Rattle.thin_rule.specs.Rule.{inside, many, quarter, share, best, keeps}
 use Rattle.thin_rule.specs.Strength.{Ordered}
 use Rattle.thin_rule.specs.declared.Region.{Region}
@@ -37,8 +37,3 @@ keeps-quarters ws d r q i o h l =
     rw (lt-leb (many ws r) q h, le-ltb q 4 l)
     (absorbed (inside ws r i) (some 4 (λ k. keeps ws d (quarter r k) (share q k) i))
     (some-elim (λ k. keeps ws d (quarter r k) (share q k) i) 4 (λ k m x. quarter-inside ws r k i (keeps-inside ws d (quarter r k) (share q k) i x) o)))
-  where
-    absorbed : (a b : Bool) → (b ≡ true → a ≡ true) → (a && b) ≡ b
-    absorbed true b p = refl
-    absorbed false true p = p refl
-    absorbed false false p = refl

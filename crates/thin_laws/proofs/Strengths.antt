@@ -5,7 +5,7 @@ use mathlib.Core.Bool.{Bool, true, false, not, _&&_, _||_, true≢false, false�
 use mathlib.Core.List.{List}
 use mathlib.Core.Logic.{_⊎_, inl, inr, ⊎-elim}
 use native.Mathlib.Omega.{arith}
-use borrow.Author.Tests.{ltb-true, ltb-false, lt-ltb, le-ltb}
+use borrow.Author.Tests.{ltb-true, ltb-false, lt-ltb, le-ltb, not-true}
 use lib.Dec.{ltb}
 use Rattle.lists.proofs.Bools.{and-left, and-right, both-and, or-cases, or-right, both-ways}
 use Rattle.lists.proofs.Naturals.{le-or-lt}
@@ -13,7 +13,7 @@ use Rattle.thin_order.specs.Place.{place}
 use Rattle.thin_order.proofs.Order.{place-rule}
 use Rattle.thin_rule.specs.Rule.{pointsIn, wordAt, before}
 use Rattle.thin_rule.specs.Strength.{strength, Sound}
-use Rattle.thin_rule.proofs.Places.{place-low, place-high}
+use Rattle.thin_order.proofs.Signs.{place-low, place-high}
 
 place-lt : (w : ℕ) → w < 2 ^ 32 → place w < 2 ^ 32
 place-lt w h =
@@ -26,10 +26,6 @@ place-lt w h =
 or-left : (a b : Bool) → a ≡ true → (a || b) ≡ true
 or-left true b e = refl
 or-left false b e = absurd (false≢true e)
-
-not-true : (b : Bool) → not b ≡ true → b ≡ false
-not-true true e = absurd (false≢true e)
-not-true false e = refl
 
 packed-order : (a b i j : ℕ) → i < 2 ^ 32 → j < 2 ^ 32 → (ltb a b || (not (ltb b a) && ltb j i)) ≡ ltb (a * 2 ^ 32 + (2 ^ 32 - 1 - i)) (b * 2 ^ 32 + (2 ^ 32 - 1 - j))
 packed-order a b i j p q = both-ways (ltb a b || (not (ltb b a) && ltb j i)) (ltb (a * 2 ^ 32 + (2 ^ 32 - 1 - i)) (b * 2 ^ 32 + (2 ^ 32 - 1 - j))) there back

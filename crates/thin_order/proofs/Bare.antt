@@ -12,6 +12,7 @@ use Rattle.lists.proofs.Naturals.{le-or-lt}
 use Rattle.ieee.specs.F32.{f32, float, _<ᶠ_, _≤ᶠ_}
 use Rattle.ieee_laws.proofs.Order.{lt-not-le}
 use Rattle.thin_order.specs.Place.{place, bare, Upward, BareRule}
+use Rattle.thin_order.proofs.Signs.{place-high}
 use Rattle.thin_order.proofs.Order.{place-rule}
 
 zero-float : f32 0 ≡ float 0
@@ -28,10 +29,6 @@ none-below a u l =
     lt-not-le (f32 a) (f32 0)
     (place-rule a 0 (u .word) (omega arith) (u .number) zero-finite ∙ lt-ltb (place a) (place 0) l)
     (subst (λ (x : Float). (x ≤ᶠ f32 a) ≡ true) (sym zero-float) (u .above))
-
-place-high : (a : ℕ) → 2 ^ 31 ≤ a → place a ≡ 2 ^ 32 - a
-unfolding place
-place-high a l = rw (le-ltb a (2 ^ 31) l)
 
 place-zero : place 0 ≡ 2 ^ 31
 unfolding place

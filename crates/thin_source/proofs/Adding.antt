@@ -19,6 +19,7 @@ use Rattle.thin_rule.specs.Strength.{strong, edgesOf, Ordered, Sound}
 use Rattle.thin_rule.specs.declared.Edges.{Edges}
 use Rattle.thin_rule.specs.declared.Region.{Region}
 use Rattle.thin_part.specs.Runs.{held, Beside}
+use Rattle.thin_part.proofs.Parts.{none-listed}
 use Rattle.thin_source.specs.Sources.{candidate, found, Stands, Covers}
 use Rattle.thin_source.specs.Adds.{Added}
 use Rattle.thin_source.specs.declared.Source.{Source}
@@ -138,7 +139,7 @@ held-covers : (ws : List ℕ) (r : Region) (c : Source) (s d : List ℕ) (m : �
 unfolding candidate
 held-covers ws r c s d m h a l =
     record {
-      stands = record { order = omega arith; room = λ e. l; each = λ k x y. ltb-true (getD d k 0) (pointsIn ws) (not-false (ltb (getD d k 0) (pointsIn ws)) (counted-zero 0 m (λ j. not (ltb (getD d j 0) (pointsIn ws))) none k x y)) };
+      stands = record { order = omega arith; room = λ e. l; each = none-listed (pointsIn ws) d 0 m none .each };
       each = λ g. all (λ p. inside ws r p && g p) ∙ counted-same 0 (pointsIn ws) (λ i. inside ws r i && (inside ws r i && g i)) (λ i. inside ws r i && g i) (λ i x y. twice (inside ws r i) (g i));
     }
   where

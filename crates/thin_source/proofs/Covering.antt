@@ -7,7 +7,7 @@ use native.Mathlib.Omega.{arith}
 use lib.Dec.{leb}
 use Rattle.lists.proofs.Bools.{and-left, and-true}
 use Rattle.counts.specs.Counts.{counted}
-use Rattle.counts.proofs.Counts.{counted-same, counted-most}
+use Rattle.counts.proofs.Counts.{absorbed, counted-same, counted-most}
 use Rattle.thin_rule.specs.Rule.{pointsIn, inside, many, quarter}
 use Rattle.thin_rule.specs.Strength.{strength, strong, Ordered}
 use Rattle.thin_rule.specs.declared.Region.{Region}
@@ -38,12 +38,6 @@ covers-any ws r s t c e h =
     }
 
 -- ---- what a source has of its region
-
--- a harder test than lying inside
-pub absorbed : (a b : Bool) → (b ≡ true → a ≡ true) → (a && b) ≡ b
-absorbed true b p = refl
-absorbed false true p = p refl
-absorbed false false p = refl
 
 module _ (ws : List ℕ) (r : Region) (s : List ℕ) (c : Source) (h : Covers ws r s c) where
   -- of a test that only the region's keypoints pass

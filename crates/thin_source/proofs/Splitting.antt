@@ -9,10 +9,10 @@ use native.Mathlib.Omega.{arith}
 use borrow.Author.Tests.{ltb-true, ltb-false, lt-ltb, le-ltb}
 use lib.Dec.{ltb, eqb}
 use lib.ListN.{length, getD}
-use Rattle.lists.proofs.Bools.{and-left, and-right, and-assoc, both-and}
+use Rattle.lists.proofs.Bools.{and-false, and-left, and-assoc, both-and}
 use Rattle.lists.proofs.Naturals.{le-or-lt}
 use Rattle.counts.specs.Counts.{counted}
-use Rattle.counts.proofs.Counts.{either, counted-same, counted-never, counted-zero}
+use Rattle.counts.proofs.Counts.{absorbed, counted-same, counted-never}
 use Rattle.thin_rule.specs.Rule.{pointsIn, wordAt, inside, middle, isLeft, isUpper, quarter}
 use Rattle.thin_order.specs.Place.{bare}
 use Rattle.thin_rule.specs.Strength.{edgeAt, Ordered, Sound}
@@ -20,13 +20,14 @@ use Rattle.thin_rule.specs.declared.Region.{Region}
 use Rattle.thin_laws.proofs.Edged.{edge-less}
 use Rattle.thin_laws.proofs.Quarters.{quarter-column, quarter-row}
 use Rattle.thin_part.specs.Runs.{held, Listed, Beside, Parted}
+use Rattle.thin_part.proofs.Parts.{none-listed}
 use Rattle.thin_part.specs.Cuts.{below}
 use Rattle.thin_part.specs.declared.Cut.{Cut}
 use Rattle.thin_part.specs.declared.Cut.the-variants.{Column, Row}
 use Rattle.thin_source.specs.Sources.{candidate, found, Stands, Covers, boundOf, sourceOf, Split}
 use Rattle.thin_source.specs.declared.Source.{Source}
 use Rattle.thin_source.specs.declared.Bounds.{Bounds}
-use Rattle.thin_source.proofs.Covering.{absorbed, covers-test, covers-quarter}
+use Rattle.thin_source.proofs.Covering.{covers-quarter}
 
 -- of the run of s, those that pass the test stand in t from a to below b
 pub record Piece (test : ℕ → Bool) (s t : List ℕ) (from to a b : ℕ) : Type 0 where
@@ -64,20 +65,9 @@ piece-second f s t from m to p = record { order = p .high; high = le-refl to; le
 -- a piece has positions of the list, as its run does
 piece-listed : (f : ℕ → Bool) (n : ℕ) (s t : List ℕ) (from to a b : ℕ) → Piece f s t from to a b → Listed n s from to → Listed n t a b
 piece-listed f n s t from to a b p h =
-    record { each = λ j l m. ltb-true (getD t j 0) n (back (ltb (getD t j 0) n) (counted-zero a b (λ i. not (ltb (getD t i 0) n)) none j l m)) }
-  where
-    never : (x y : Bool) → y ≡ true → (x && not y) ≡ false
-    never true y e = ap not e
-    never false y e = refl
-
-    none : held t a b (λ i. not (ltb i n)) ≡ 0
-    none =
-        p .each (λ i. not (ltb i n))
-        ∙ counted-never from to (λ j. f (getD s j 0) && not (ltb (getD s j 0) n)) (λ j l m. never (f (getD s j 0)) (ltb (getD s j 0) n) (lt-ltb (getD s j 0) n (h .each j l m)))
-
-    back : (x : Bool) → not x ≡ false → x ≡ true
-    back true e = refl
-    back false e = absurd (true≢false e)
+    none-listed n t a b
+    (p .each (λ i. not (ltb i n))
+    ∙ counted-never from to (λ j. f (getD s j 0) && not (ltb (getD s j 0) n)) (λ j l m. rw (lt-ltb (getD s j 0) n (h .each j l m)) (and-false (f (getD s j 0)))))
 
 pub stands-listed : (n : ℕ) (s : List ℕ) (c : Source) → c .all ≡ false → Stands n s c → Listed n s (c .from) (c .to)
 unfolding candidate

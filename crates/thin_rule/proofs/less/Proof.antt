@@ -1,5 +1,5 @@
 use native.Mathlib.Omega.{arith}
-use Rattle.thin_rule.proofs.Places.{less-is}
+use Rattle.thin_rule.proofs.Lesser.{less-is}
 use borrow.Author.Needs.{needs}
 use Rattle.thin_rule.proofs.less.Statement.{statement}
 use Rattle.thin_rule.proofs.less.Tie as tie

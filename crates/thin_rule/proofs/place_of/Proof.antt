@@ -1,5 +1,5 @@
 use native.Mathlib.Omega.{arith}
-use Rattle.thin_rule.proofs.Places.{place-low, place-high}
+use Rattle.thin_order.proofs.Signs.{place-low, place-high}
 use borrow.Author.Needs.{needs}
 use Rattle.thin_rule.proofs.place_of.Statement.{statement}
 use Rattle.thin_rule.proofs.place_of.Tie as tie

@@ -1,5 +1,5 @@
--- A float's place, by the sign of its bits, and a comparison without a branch. Assumes nothing.
-use Prim.Native.Nat.{ℕ, _+_, _-_, _^_, _≤_, _<_}
+-- A comparison without a branch. Assumes nothing.
+use Prim.Native.Nat.{ℕ, _≤_, _<_}
 use mathlib.Core.Path.{_≡_}
 use mathlib.Core.Bool.{cond}
 use mathlib.Core.Logic.{⊎-elim}
@@ -7,15 +7,6 @@ use native.Mathlib.Omega.{arith}
 use borrow.Author.Tests.{lt-ltb, le-ltb}
 use lib.Dec.{ltb}
 use Rattle.lists.proofs.Naturals.{le-or-lt}
-use Rattle.thin_order.specs.Place.{place}
-
-pub place-low : (w : ℕ) → w < 2 ^ 31 → place w ≡ w + 2 ^ 31
-unfolding place
-place-low w h = rw (lt-ltb w (2 ^ 31) h)
-
-pub place-high : (w : ℕ) → 2 ^ 31 ≤ w → place w ≡ 2 ^ 32 - w
-unfolding place
-place-high w h = rw (le-ltb w (2 ^ 31) h)
 
 -- a number that is 1 where a is less than b, and else 0
 pub less-is : (a b r : ℕ) → (a < b → r ≡ 1) → (b ≤ a → r ≡ 0) → (r ≡ cond (ltb a b) 1 0) × (r ≤ 1)

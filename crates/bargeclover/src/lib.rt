@@ -12,9 +12,9 @@ ghost use Rattle.orient.specs.Entry.{orientAnswer, orientOut};
 ghost use Rattle.descriptor_inputs.specs.Inputs.{inputsOf};
 ghost use Rattle.descriptor.specs.Entry.{numberOf as describedNumber, countOf as describedCount, usedOf, describedOf, describedOut};
 ghost use Rattle.thin.specs.Entry.{thinAnswer, thinOut};
-ghost use Rattle.sheet.specs.Layout.{edition1};
 ghost use Rattle.sheet.specs.Writes.{frameOf, writeAnswer, writeOut};
 ghost use Rattle.sheet.specs.Reads.{readAnswer, readOut};
+ghost use Rattle.record.specs.Make.{makeNumber, makeLeft};
 ghost use Rattle.words.specs.Keypoint.{keypointIn};
 ghost use Rattle.words.specs.Oriented.{orientedIn};
 ghost use Rattle.bargeclover.specs.Given.{settingsOf, shapeOf, sizeOf, spotOf};
@@ -273,7 +273,22 @@ pub extern "C" fn bargeclover_thin(
 // ---- the sheet
 
 #[no_mangle]
+pub extern "C" fn bargeclover_make_record(
+    keypoint: &[u32],
+    oriented: &[u32],
+    values: &[u32],
+    samples: usize,
+    out: &mut [u32],
+) -> u32
+    ensures { λ r. ⌜ r ≡ makeNumber (keypointIn (now (keypoint .entry))) (orientedIn (now (oriented .entry))) (now (values .entry)) samples (length (now (out .entry))) ⌝ }
+    ensures { λ _. ⌜ now (out .exit) ≡ makeLeft (keypointIn (now (keypoint .entry))) (orientedIn (now (oriented .entry))) (now (values .entry)) samples (now (out .entry)) ⌝ }
+{
+    record::make_record(keypoint, oriented, values, samples, out)
+}
+
+#[no_mangle]
 pub extern "C" fn bargeclover_write_sheet(
+    edition: u32,
     width: usize,
     height: usize,
     layers: usize,
@@ -281,11 +296,11 @@ pub extern "C" fn bargeclover_write_sheet(
     out: &mut [u8],
     count: &mut usize,
 ) -> u32
-    ensures { λ r. ⌜ r ≡ numberOf (writeAnswer edition1 (frameOf width height layers) (now (words .entry)) (length (now (out .entry)))) ⌝ }
-    ensures { λ _. ⌜ now (count .exit) ≡ countOf (writeAnswer edition1 (frameOf width height layers) (now (words .entry)) (length (now (out .entry)))) ⌝ }
-    ensures { λ _. ⌜ now (out .exit) ≡ writeOut edition1 (frameOf width height layers) (now (words .entry)) (now (out .entry)) ⌝ }
+    ensures { λ r. ⌜ r ≡ numberOf (writeAnswer edition (frameOf width height layers) (now (words .entry)) (length (now (out .entry)))) ⌝ }
+    ensures { λ _. ⌜ now (count .exit) ≡ countOf (writeAnswer edition (frameOf width height layers) (now (words .entry)) (length (now (out .entry)))) ⌝ }
+    ensures { λ _. ⌜ now (out .exit) ≡ writeOut edition (frameOf width height layers) (now (words .entry)) (now (out .entry)) ⌝ }
 {
-    let a = sheet_write::write_sheet(width, height, layers, words, out);
+    let a = sheet_write::write_sheet(edition, width, height, layers, words, out);
     *count = params::count_of(a);
     params::number_of(a)
 }
@@ -295,20 +310,23 @@ pub extern "C" fn bargeclover_read_sheet(
     sheet: &[u8],
     out: &mut [u32],
     count: &mut usize,
+    edition: &mut u32,
     width: &mut usize,
     height: &mut usize,
     layers: &mut usize,
 ) -> u32
-    ensures { λ r. ⌜ r ≡ numberOf (readAnswer edition1 (now (sheet .entry)) (length (now (out .entry))) .answer) ⌝ }
-    ensures { λ _. ⌜ now (count .exit) ≡ countOf (readAnswer edition1 (now (sheet .entry)) (length (now (out .entry))) .answer) ⌝ }
-    ensures { λ _. ⌜ now (width .exit) ≡ readAnswer edition1 (now (sheet .entry)) (length (now (out .entry))) .width ⌝ }
-    ensures { λ _. ⌜ now (height .exit) ≡ readAnswer edition1 (now (sheet .entry)) (length (now (out .entry))) .height ⌝ }
-    ensures { λ _. ⌜ now (layers .exit) ≡ readAnswer edition1 (now (sheet .entry)) (length (now (out .entry))) .layers ⌝ }
-    ensures { λ _. ⌜ now (out .exit) ≡ readOut edition1 (now (sheet .entry)) (now (out .entry)) ⌝ }
+    ensures { λ r. ⌜ r ≡ numberOf (readAnswer (now (sheet .entry)) (length (now (out .entry))) .answer) ⌝ }
+    ensures { λ _. ⌜ now (count .exit) ≡ countOf (readAnswer (now (sheet .entry)) (length (now (out .entry))) .answer) ⌝ }
+    ensures { λ _. ⌜ now (edition .exit) ≡ readAnswer (now (sheet .entry)) (length (now (out .entry))) .edition ⌝ }
+    ensures { λ _. ⌜ now (width .exit) ≡ readAnswer (now (sheet .entry)) (length (now (out .entry))) .width ⌝ }
+    ensures { λ _. ⌜ now (height .exit) ≡ readAnswer (now (sheet .entry)) (length (now (out .entry))) .height ⌝ }
+    ensures { λ _. ⌜ now (layers .exit) ≡ readAnswer (now (sheet .entry)) (length (now (out .entry))) .layers ⌝ }
+    ensures { λ _. ⌜ now (out .exit) ≡ readOut (now (sheet .entry)) (now (out .entry)) ⌝ }
 {
     let r = sheet_read::read_sheet(sheet, out);
     let a = r.answer;
     *count = params::count_of(a);
+    *edition = r.edition;
     *width = r.width;
     *height = r.height;
     *layers = r.layers;

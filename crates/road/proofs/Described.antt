@@ -8,10 +8,8 @@ use borrow.Author.Tests.{leb-true}
 use lib.Dec.{leb}
 use lib.IntN.{pos}
 use lib.ListN.{length, getD}
-use lib.Ieee.{Float, nan, binary32, lt}
+use lib.Ieee.{Float, nan}
 use lib.Ieee.Scale.{finite}
-use Rattle.ieee_laws.proofs.Monotone.{nil}
-use Rattle.ieee_laws.proofs.Bounds.{zero-is}
 use Rattle.ieee_laws.proofs.Order.{lt-le}
 use Rattle.ieee.specs.F32.{_⊗_}
 use Rattle.ieee.specs.Numbers.{nought, wholeTurn}
@@ -47,6 +45,7 @@ use Rattle.descriptor.proofs.Checks.{fault-sample, fault-none}
 use Rattle.descriptor.proofs.Rules.{descriptor-rule}
 use Rattle.road.specs.Road.{spotOf}
 use Rattle.road.specs.Rules.{sixUnless}
+use Rattle.road.proofs.Record.{above}
 use Rattle.road.proofs.Oriented.{sides-right}
 use Rattle.road.proofs.Position.{position-finite, position-on}
 
@@ -90,7 +89,7 @@ module _ (img : List Float) (good : allGood img ≡ true) where
 
 -- ---- an oriented keypoint of a sound one
 
-passed-is : (k : RawKeypoint) (o : OrientedKeypoint) → Passed k o → o ≡ orientedOf k (o .angle)
+pub passed-is : (k : RawKeypoint) (o : OrientedKeypoint) → Passed k o → o ≡ orientedOf k (o .angle)
 passed-is k o p = rw (← p .x, ← p .y, ← p .size, ← p .response, ← p .octave) refl
 
 module _ (img : List Float) (z : Size) (octave : ℕ) (s : Settings) (k : RawKeypoint) (wide : z .width ≤ maxSide) (high : z .height ≤ maxSide) (low : octave ≤ maxOctave) (good : Sound (z .width) (z .height) s octave k) (i : ℕ) (l : i < length (orientedList img z k)) where
@@ -121,9 +120,6 @@ module _ (img : List Float) (z : Size) (octave : ℕ) (s : Settings) (k : RawKey
     y-is : inputs .y ≡ k .y ⊗ shrinkOf octave
     unfolding givenOf
     y-is = ap (λ (z : Inputs). z .y) (taken .given) ∙ ap (λ (z : Float). z ⊗ shrinkOf octave) (passed .y)
-
-    above : (x : Float) → lt nought x ≡ true → lt nil x ≡ true
-    above x p = subst (λ (z : Float). lt z x ≡ true) (zero-is binary32) p
 
     inside : Inside z (spotOf inputs)
     inside = record {

@@ -8,3 +8,4 @@ pub mod Stages
 pub mod Words
 pub mod Road
 pub mod Rules
+pub mod Blank

@@ -1,41 +1,45 @@
--- Every record of a frame is whole and keeps the sheet's rules, and the list in the order of a sheet has only such. Assumes nothing.
+-- Every record of a frame is whole and keeps the sheet's rules, the maker makes it, and the list in the order of a sheet has only such. Assumes nothing.
 use Prim.Native.Nat.{ℕ, _+_, _≤_}
+use native.Mathlib.Nat.{le-refl}
 use native.Mathlib.Omega.{arith}
-use mathlib.Core.Path.{_≡_, ap, _∙_}
-use mathlib.Core.Bool.{Bool, true, _&&_, and-eq-true-iff}
-use mathlib.Core.List.{List}
+use mathlib.Core.Path.{_≡_, refl, sym, ap, _∙_}
+use mathlib.Core.Bool.{true}
+use mathlib.Core.List.{List, [], _∷_, map}
 use borrow.Author.Tests.{eq-eqb}
-use lib.Dec.{eqb}
 use lib.ListN.{length}
 use lib.Ieee.{Float}
+use Rattle.ieee.specs.F32.{bitsOf}
+use Rattle.params.specs.Answers.{onFault}
 use Rattle.params.specs.declared.Settings.{Settings}
 use Rattle.detect_keypoint.specs.Sound.{Sound}
 use Rattle.detect_keypoint.specs.declared.RawKeypoint.{RawKeypoint}
 use Rattle.detect_keypoint.specs.Search.{searchOf}
 use Rattle.detect_refine.specs.Place.{Searched}
+use Rattle.orient_words.specs.Oriented.{orientedOf}
 use Rattle.orient_words.specs.declared.OrientedKeypoint.{OrientedKeypoint}
-use Rattle.orient_laws.specs.Rules.{Turn}
 use Rattle.descriptor_run.specs.Cells.{samplesOf}
-use Rattle.descriptor_grid.specs.Grid.{gathered}
+use Rattle.descriptor_grid.specs.Grid.{gatheredIn, gathered}
 use Rattle.descriptor_laws.proofs.ValuesRules.{value-rule}
-use Rattle.descriptor_words.specs.Words.{turnAt, valuesAt}
+use Rattle.descriptor_words.specs.Words.{turnAt, valuesAt, wordsAt}
 use Rattle.descriptor_words.specs.declared.Spot.{Spot}
 use Rattle.descriptor.proofs.Rules.{descriptor-rule}
-use Rattle.sheet.specs.Layout.{edition1}
+use Rattle.record.specs.Record.{recordOf}
+use Rattle.record.specs.Make.{makeNumber, makeLeft}
+use Rattle.sheet.specs.Layout.{layoutOf}
 use Rattle.sheet.specs.Sheet.{allPass}
-use Rattle.sheet.specs.Words.{plainWords}
+use Rattle.sheet.specs.Words.{readWords}
 use Rattle.sheet.specs.Writes.{frameOf, wordsRight, layerRight}
-use Rattle.sheet.proofs.Parts.{pass-both}
-use Rattle.road.specs.Record.{recordOf, Filled}
-use Rattle.road.specs.Road.{Among, Octave, foundIn, directionsOf, spotFor, sizeIn, valuesFor, pictureFor, recordFor, OfFrame, recordsFor, recordsIn, octaveRecords, sheetRecords, Smooth}
+use Rattle.sheet.proofs.Lawful.{lawful-edition, angled-edition}
+use Rattle.road.specs.Back.{taken}
+use Rattle.road.specs.Road.{Among, Octave, foundIn, directionsOf, spotFor, sizeIn, valuesFor, valueWordsFor, samplesFor, pictureFor, recordFor, OfFrame, recordsFor, recordsIn, octaveRecords, sheetRecords, Smooth}
+use Rattle.road.specs.Rules.{Making}
 use Rattle.road.proofs.Members.{from-flat, from-map, from-joined, pass-all}
-use Rattle.road.proofs.Stages.{stack, sound, turn, through}
-use Rattle.road.proofs.Record.{record-right, record-layer, record-long}
+use Rattle.road.proofs.Described.{passed-is}
+use Rattle.road.proofs.Stages.{stack, sound, passed, turn, through}
+use Rattle.road.proofs.Record.{Filled, Given, record-right, record-layer, record-long, make-accepts}
+use Rattle.road.proofs.Writer.{whole}
 
--- ---- a record is whole, keeps the rules, and its layer is one of the frame's
-
-abbrev keeps : ℕ → ℕ → ℕ → List ℕ → Bool
-keeps wide high layers r = eqb (length r) plainWords && (wordsRight edition1 (frameOf wide high layers) r && layerRight layers r)
+-- ---- what a record of a frame is made of
 
 module _ (wide high : ℕ) (s : Settings) (r : List ℕ) (f : OfFrame wide high s r) where
   abbrev q : Octave
@@ -47,11 +51,17 @@ module _ (wide high : ℕ) (s : Settings) (r : List ℕ) (f : OfFrame wide high 
   abbrev o : OrientedKeypoint
   o = f .direction
 
+  abbrev img : List Float
+  img = pictureFor q k
+
   abbrev spot : Spot
   spot = spotFor q o
 
   abbrev values : List Float
-  values = valuesFor (pictureFor q k) q o
+  values = valuesFor img q o
+
+  abbrev samples : ℕ
+  samples = samplesFor img q o
 
   held : Searched (length (q .stack)) (q .shape) (searchOf (f .layer) (q .number) s)
   held = stack s q (f .layer) (f .searched) k (f .found)
@@ -59,49 +69,76 @@ module _ (wide high : ℕ) (s : Settings) (r : List ℕ) (f : OfFrame wide high 
   good : Sound (q .shape .width) (q .shape .height) s (q .number) k
   good = sound s q (f .layer) (f .searched) k (f .found)
 
-  facing : Turn (o .angle)
-  facing = turn s q (f .layer) (f .searched) k (f .found) (pictureFor q k) (f .sized .picture (k .layer) (good .first) (good .last)) (f .oriented) o (f .given)
+  none : samples ≡ 0 → samplesOf img (turnAt (sizeIn q) spot) ≡ []
+  none z = nil-of _ z
+    where
+      nil-of : {A : Type 0} (l : List A) → length l ≡ 0 → l ≡ []
+      nil-of [] e = refl
+      nil-of (x ∷ l) e = absurd (omega (arith, e))
 
-  filled : Filled values
-  unfolding valuesAt
+  filled : Filled values samples
+  unfolding valuesAt gathered gatheredIn
   filled = record {
-    all = value-rule .count (gathered (spot .angle) (samplesOf (pictureFor q k) (turnAt (sizeIn q) spot)));
-    each = descriptor-rule .whole (pictureFor q k) (sizeIn q) spot (f .described);
+    all = value-rule .count (gathered (spot .angle) (samplesOf img (turnAt (sizeIn q) spot)));
+    each = descriptor-rule .whole img (sizeIn q) spot (f .described);
+    none = λ z. rw (none z) (value-rule .zeros);
   }
 
-  keeps-rules : keeps wide high (s .layers) (recordFor q k o) ≡ true
-  keeps-rules =
-      rw (
-        eq-eqb (length (recordFor q k o)) plainWords (record-long (q .shape .width) (q .shape .height) s (q .number) k good (o .angle) facing values filled wide high (f .sized .across) (f .sized .down) (held .low)),
-        record-right (q .shape .width) (q .shape .height) s (q .number) k good (o .angle) facing values filled wide high (f .sized .across) (f .sized .down) (held .low),
-        record-layer (q .shape .width) (q .shape .height) s (q .number) k good (o .angle) facing values filled wide high (f .sized .across) (f .sized .down) (held .low),
-      )
+  given : Given (q .shape .width) (q .shape .height) s (q .number) k (o .angle) values samples
+  given = record {
+    good = good;
+    low = held .low;
+    turn = turn s q (f .layer) (f .searched) k (f .found) img (f .sized .picture (k .layer) (good .first) (good .last)) (f .oriented) o (f .given);
+    full = filled;
+  }
 
-  kept : keeps wide high (s .layers) r ≡ true
-  kept = ap (keeps wide high (s .layers)) (f .is) ∙ keeps-rules
+  -- a direction has all but its angle of the keypoint
+  direction-is : o ≡ orientedOf k (o .angle)
+  direction-is = passed-is k o (passed s q (f .layer) (f .searched) k (f .found) img o (f .given))
+
+  record-is : recordOf k (orientedOf k (o .angle)) (map bitsOf values) samples ≡ r
+  unfolding wordsAt
+  record-is = ap (λ (d : OrientedKeypoint). recordOf k d (map bitsOf values) samples) (sym direction-is) ∙ sym (f .is)
+
+  long : length r ≡ readWords
+  long = ap length (sym record-is) ∙ record-long given
+
+  pub recorded : (edition : ℕ) → wordsRight (layoutOf edition) (frameOf wide high (s .layers)) (taken edition r) ≡ true
+  recorded edition =
+      ap (λ (t : List ℕ). wordsRight (layoutOf edition) (frameOf wide high (s .layers)) (taken edition t)) (sym record-is)
+      ∙ record-right given (layoutOf edition) (frameOf wide high (s .layers)) (f .sized .across) (f .sized .down) (le-refl (s .layers)) (lawful-edition edition) (angled-edition edition)
+
+  layered : (edition : ℕ) → layerRight (s .layers) (taken edition r) ≡ true
+  layered edition =
+      ap (λ (t : List ℕ). layerRight (s .layers) (taken edition t)) (sym record-is)
+      ∙ record-layer given (layoutOf edition) (frameOf wide high (s .layers)) (f .sized .across) (f .sized .down) (le-refl (s .layers))
+
+  accepted : makeNumber k o (valueWordsFor img q o) samples readWords ≡ 0
+  unfolding wordsAt
+  accepted =
+      ap (λ (d : OrientedKeypoint). makeNumber k d (map bitsOf values) samples readWords) direction-is
+      ∙ make-accepts given (held .wide) (held .high) (held .many)
+
+  pub made : Making q k o r
+  unfolding makeLeft
+  made = record {
+    accepted = accepted;
+    left =
+        λ out room.
+        ap (λ (n : ℕ). onFault n (recordFor q k o) out) (ap (makeNumber k o (valueWordsFor img q o) samples) room ∙ accepted)
+        ∙ sym (f .is);
+  }
 
 -- so of any list of them
 module _ (wide high : ℕ) (s : Settings) (rs : List (List ℕ)) (of : (r : List ℕ) → Among r rs → OfFrame wide high s r) where
-  first-of : (r : List ℕ) → keeps wide high (s .layers) r ≡ true → eqb (length r) plainWords ≡ true
-  first-of r e = and-eq-true-iff (eqb (length r) plainWords) _ .0 e .0
+  pub all-whole : allPass whole rs ≡ true
+  all-whole = pass-all whole rs (λ r m. eq-eqb (length r) readWords (long wide high s r (of r m)))
 
-  second-of : (r : List ℕ) → keeps wide high (s .layers) r ≡ true → wordsRight edition1 (frameOf wide high (s .layers)) r ≡ true
-  second-of r e = and-eq-true-iff (wordsRight edition1 (frameOf wide high (s .layers)) r) _ .0 (and-eq-true-iff (eqb (length r) plainWords) _ .0 e .1) .0
+  pub all-right : (edition : ℕ) → allPass (λ r. wordsRight (layoutOf edition) (frameOf wide high (s .layers)) (taken edition r)) rs ≡ true
+  all-right edition = pass-all _ rs (λ r m. recorded wide high s r (of r m) edition)
 
-  third-of : (r : List ℕ) → keeps wide high (s .layers) r ≡ true → layerRight (s .layers) r ≡ true
-  third-of r e = and-eq-true-iff (wordsRight edition1 (frameOf wide high (s .layers)) r) _ .0 (and-eq-true-iff (eqb (length r) plainWords) _ .0 e .1) .1
-
-  all-kept : allPass (keeps wide high (s .layers)) rs ≡ true
-  all-kept = pass-all (keeps wide high (s .layers)) rs (λ r m. kept wide high s r (of r m))
-
-  pub all-whole : allPass (λ r. eqb (length r) plainWords) rs ≡ true
-  all-whole = pass-both (keeps wide high (s .layers)) _ first-of rs all-kept
-
-  pub all-right : allPass (wordsRight edition1 (frameOf wide high (s .layers))) rs ≡ true
-  all-right = pass-both (keeps wide high (s .layers)) _ second-of rs all-kept
-
-  pub all-layered : allPass (layerRight (s .layers)) rs ≡ true
-  all-layered = pass-both (keeps wide high (s .layers)) _ third-of rs all-kept
+  pub all-layered : (edition : ℕ) → allPass (λ r. layerRight (s .layers) (taken edition r)) rs ≡ true
+  all-layered edition = pass-all _ rs (λ r m. layered wide high s r (of r m) edition)
 
 -- ---- the order of a sheet
 

@@ -18,6 +18,7 @@ use Rattle.orient_words.specs.Oriented.{orientedOf}
 use Rattle.orient_words.specs.declared.OrientedKeypoint.{OrientedKeypoint}
 use Rattle.orient.specs.Keypoint.{keypointWrong}
 use Rattle.orient.specs.Entry.{windowAt}
+use Rattle.orient.specs.Rules.{Passed}
 use Rattle.orient.proofs.Rules.{orient-rule}
 use Rattle.orient_laws.specs.Rules.{Turn}
 use Rattle.orient_laws.proofs.Rules.{angles-rule}
@@ -48,6 +49,10 @@ module _ (s : Settings) (q : Octave) (layer : ℕ) (z : searchFault s q layer �
 
   right : keypointWrong (sizeIn q) k ≡ false
   right = orient-rule .accepted (sizeIn q) (q .number) s k (stack .many) (stack .low) sound
+
+  -- what a direction has of the keypoint
+  pub passed : (img : List Float) (o : OrientedKeypoint) → Among o (directionsOf img q k) → Passed k o
+  passed img o n = let p = place n in subst (Passed k) (p .is (orientedOf k nan)) (orient-rule .passed img (sizeIn q) k (p .at) (p .below))
 
   module _ (img : List Float) (whole : length img ≡ q .shape .height * q .shape .width) where
     pub oriented : turnFault img q k ≡ sixUnless (windowGood img (windowAt (sizeIn q) k))

@@ -5,8 +5,8 @@ use mathlib.Core.List.{List, _++_, flatMap}
 use lib.ListN.{length, take, drop}
 use Rattle.params.specs.Limits.{maxSide, maxLayers}
 use Rattle.params.specs.declared.Answer.the-variants.{Done}
-use Rattle.sheet.specs.Layout.{Frame, edition1, headerSize, recordSize}
-use Rattle.sheet.specs.Words.{readWords, withBlank}
+use Rattle.sheet.specs.Layout.{layoutOf, headerSize, recordSize}
+use Rattle.sheet.specs.Words.{readWords, takenWords, withBlank}
 use Rattle.sheet.specs.Writes.{writeFault, writeAnswer, writeOut, frameOf}
 use Rattle.sheet.specs.Reads.{readAnswer, readOut}
 
@@ -16,24 +16,28 @@ pub record Framed (wide high layers : ℕ) : Type 0 where
   pub down : (1 ≤ high) × (high ≤ maxSide)
   pub deep : (1 ≤ layers) × (layers ≤ maxLayers)
 
--- the words of the records, as the writer is handed them, and the bytes of their sheet
-abbrev pub handedOver : List (List ℕ) → List ℕ
-handedOver rs = flatMap (λ r. r) rs
+-- a record as the writer of an edition takes it, the words of all, and the bytes of their sheet
+abbrev pub taken : ℕ → List ℕ → List ℕ
+taken edition r = take (takenWords (layoutOf edition)) r
 
-abbrev pub sheetSize : List (List ℕ) → ℕ
-sheetSize rs = headerSize + recordSize edition1 * length rs
+abbrev pub handedOver : ℕ → List (List ℕ) → List ℕ
+handedOver edition rs = flatMap (taken edition) rs
+
+abbrev pub sheetSize : ℕ → List (List ℕ) → ℕ
+sheetSize edition rs = headerSize + recordSize (layoutOf edition) * length rs
 
 -- the bytes that the writer leaves at the front of what is lent to it
-abbrev pub sheetIn : ℕ → ℕ → ℕ → List (List ℕ) → List ℕ → List ℕ
-sheetIn wide high layers rs out = take (sheetSize rs) (writeOut edition1 (frameOf wide high layers) (handedOver rs) out)
+abbrev pub sheetIn : ℕ → ℕ → ℕ → ℕ → List (List ℕ) → List ℕ → List ℕ
+sheetIn edition wide high layers rs out = take (sheetSize edition rs) (writeOut edition (frameOf wide high layers) (handedOver edition rs) out)
 
 -- The records go on a sheet and come back: the writer refuses nothing of them; with room for the sheet it writes it; and the reader, handed these bytes
--- and room for the words, answers the frame and the count and gives each record with its added word.
-pub record ReadsBack (wide high layers : ℕ) (rs : List (List ℕ)) : Type 0 where
-  pub accepted : writeFault edition1 (frameOf wide high layers) (handedOver rs) ≡ 0
-  pub written : (out : List ℕ) → sheetSize rs ≤ length out
-      → writeAnswer edition1 (frameOf wide high layers) (handedOver rs) (length out) ≡ Done (sheetSize rs)
-  pub answered : (out room : List ℕ) → sheetSize rs ≤ length out → readWords * length rs ≤ length room
-      → readAnswer edition1 (sheetIn wide high layers rs out) (length room) ≡ record { answer = Done (length rs); width = wide; height = high; layers = layers }
-  pub given : (out room : List ℕ) → sheetSize rs ≤ length out → readWords * length rs ≤ length room
-      → readOut edition1 (sheetIn wide high layers rs out) room ≡ flatMap (withBlank edition1) rs ++ drop (readWords * length rs) room
+-- and room for the words, answers the edition, the frame and the count and gives each record with its added word.
+pub record ReadsBack (edition wide high layers : ℕ) (rs : List (List ℕ)) : Type 0 where
+  pub accepted : writeFault edition (frameOf wide high layers) (handedOver edition rs) ≡ 0
+  pub written : (out : List ℕ) → sheetSize edition rs ≤ length out
+      → writeAnswer edition (frameOf wide high layers) (handedOver edition rs) (length out) ≡ Done (sheetSize edition rs)
+  pub answered : (out room : List ℕ) → sheetSize edition rs ≤ length out → readWords * length rs ≤ length room
+      → readAnswer (sheetIn edition wide high layers rs out) (length room)
+      ≡ record { answer = Done (length rs); edition = edition; width = wide; height = high; layers = layers }
+  pub given : (out room : List ℕ) → sheetSize edition rs ≤ length out → readWords * length rs ≤ length room
+      → readOut (sheetIn edition wide high layers rs out) room ≡ flatMap (λ r. withBlank (layoutOf edition) (taken edition r)) rs ++ drop (readWords * length rs) room

@@ -1,4 +1,4 @@
-pub mod Record
 pub mod Road
 pub mod Back
+pub mod Blank
 pub mod Rules

@@ -17,11 +17,11 @@ use Rattle.orient_words.specs.declared.OrientedKeypoint.{OrientedKeypoint}
 use Rattle.orient.specs.Entry.{orientFault, orientedList}
 use Rattle.descriptor_inputs.specs.Inputs.{inputsOf}
 use Rattle.descriptor_inputs.specs.declared.Inputs.{Inputs}
-use Rattle.descriptor_run.specs.Cells.{readsOf}
-use Rattle.descriptor_words.specs.Words.{turnAt, valuesAt}
+use Rattle.descriptor_run.specs.Cells.{samplesOf, readsOf}
+use Rattle.descriptor_words.specs.Words.{turnAt, valuesAt, wordsAt}
 use Rattle.descriptor_words.specs.declared.Spot.{Spot}
 use Rattle.descriptor.specs.Entry as Descriptor
-use Rattle.road.specs.Record.{recordOf}
+use Rattle.record.specs.Record.{recordOf}
 
 -- x stands in a list, at some place
 abbrev pub Among : {A : Type 0} → A → List A → Type 0
@@ -58,7 +58,7 @@ directionsOf img q k = orientedList img (sizeIn q) k
 abbrev pub spotOf : Inputs → Spot
 spotOf i = record { x = i .x; y = i .y; scale = i .scale; angle = i .angle }
 
--- the descriptor of a direction: what it is asked with, its number, what it reads, and the 128 values
+-- the descriptor of a direction: what it is asked with, its number, what it reads, and the 128 values, also by their bits, and the samples
 abbrev pub inputsFor : Octave → OrientedKeypoint → Inputs
 inputsFor q o = inputsOf o (pos (q .number))
 
@@ -74,13 +74,19 @@ patchReads img q o = readsOf img (turnAt (sizeIn q) (spotFor q o))
 abbrev pub valuesFor : List Float → Octave → OrientedKeypoint → List Float
 valuesFor img q o = valuesAt img (sizeIn q) (spotFor q o)
 
+abbrev pub valueWordsFor : List Float → Octave → OrientedKeypoint → List ℕ
+valueWordsFor img q o = wordsAt img (sizeIn q) (spotFor q o)
+
+abbrev pub samplesFor : List Float → Octave → OrientedKeypoint → ℕ
+samplesFor img q o = length (samplesOf img (turnAt (sizeIn q) (spotFor q o)))
+
 -- a keypoint's picture is that of the layer where it settled, which may be another than the one searched
 abbrev pub pictureFor : Octave → RawKeypoint → List Float
 pictureFor q k = q .picture (k .layer)
 
 -- the record of a keypoint's direction
 abbrev pub recordFor : Octave → RawKeypoint → OrientedKeypoint → List ℕ
-recordFor q k o = recordOf k (o .angle) (valuesFor (pictureFor q k) q o)
+recordFor q k o = recordOf k o (valueWordsFor (pictureFor q k) q o) (samplesFor (pictureFor q k) q o)
 
 -- ---- the records of a frame
 

@@ -1,20 +1,21 @@
-// From the planes of an octave to a sheet, with no other program at hand: detection, orientation, descriptor, the sheet's writer and its reader, each by the proved entry.
+// From the planes of an octave to a sheet, with no other program at hand: detection, orientation, descriptor, the maker of records, the sheet's writer and its reader, each by
+// the proved entry.
 // The file has 8 planes of 44 rows of 56 samples, by their bits, least significant byte first: the five difference planes, then the Gaussian planes of the layers 1 to 3
 // (data/README.md says how they were made). What is printed: a line for each record as the reader gives it, and the sheet's bytes, the header first and then a record a line.
 ghost use mathlib.Core.Path.{_≡_};
 ghost use Prim.Native.Nat.{_+_, _<_, _≤_};
 ghost use lib.ListN.{length};
-ghost use Rattle.params.specs.Limits.{valueCount};
-ghost use Rattle.sheet.specs.Words.{plainWords, readWords, headWords, floatWords};
+ghost use Rattle.sheet.specs.Words.{readWords};
 ghost use Rattle.run_extract.specs.Sizes.{mostFound, mostRecords, recordsWords, sheetBytes, pictureSamples, columns};
 use descriptor::Described;
 use descriptor_words::Spot;
-use detect_keypoint::RawKeypoint;
 use orient_words::OrientedKeypoint;
 use params::Answer;
 use params::Settings;
 use picture::Shape;
 use picture::Size;
+
+const EDITION: u32 = 2;
 
 const WIDTH: usize = 56;
 
@@ -30,7 +31,7 @@ const MOST: usize = 64;
 // The lengths of the arrays below:
 //     2,464 = 44 × 56, the samples of a plane; 12,320 = 5 × 2,464, those of the difference planes; 7,392 = 3 × 2,464, those of the Gaussian planes
 //     320 = 10 × 32, the words of 32 keypoints, the most that a layer's list has room for; 108 = 6 × 18, those of 18 oriented keypoints, the most that a keypoint has
-//     8,832 = 138 × 64, the words of 64 records; 8,896 = 139 × 64, the same as the reader gives them; 9,864 = 8 + 154 × 64, the bytes of their sheet
+//     8,896 = 139 × 64, the words of 64 records; 9,864 = 8 + 154 × 64, the bytes of their sheet
 
 fn size() -> Size {
     Size {
@@ -100,58 +101,19 @@ fn find(dog: &[f32], layer: usize, found: &mut [u32; 320]) -> usize
 
 // ---- records
 
-// The values, each a whole number, of their bits.
-fn put_values(records: &mut [u32; 8832], at: usize, values: &[u32; 128])
-    requires { ⌜ at + valueCount ≤ recordsWords ⌝ }
+fn put_record(records: &mut [u32; 8896], at: usize, made: &[u32; 139])
+    requires { ⌜ at + readWords ≤ recordsWords ⌝ }
 {
-    for i in 0..128 {
-        records[at + i] = whole(ieee::of_bits(values[i]));
+    for i in 0..139 {
+        records[at + i] = made[i];
     }
 }
 
-fn put_head(records: &mut [u32; 8832], at: usize, k: RawKeypoint)
-    requires { ⌜ at + headWords ≤ recordsWords ⌝ }
-{
-    let word = k.octave;
-    records[at] = k.rr;
-    records[at + 1] = k.cc;
-    records[at + 2] = word % 256;
-    records[at + 3] = word / 256 % 256;
-    records[at + 4] = word / 65536;
-}
-
-fn put_floats(records: &mut [u32; 8832], at: usize, o: OrientedKeypoint)
-    requires { ⌜ at + floatWords ≤ recordsWords ⌝ }
-{
-    records[at] = ieee::bits_of(o.x);
-    records[at + 1] = ieee::bits_of(o.y);
-    records[at + 2] = ieee::bits_of(o.size);
-    records[at + 3] = ieee::bits_of(o.response);
-    records[at + 4] = ieee::bits_of(o.angle);
-}
-
-// The record of an oriented keypoint with its 128 values, as the writer takes it.
-fn put_record(
-    records: &mut [u32; 8832],
-    at: usize,
-    k: RawKeypoint,
-    o: OrientedKeypoint,
-    values: &[u32; 128],
-)
-    requires { ⌜ at + plainWords ≤ recordsWords ⌝ }
-{
-    put_head(records, at, k);
-    put_floats(records, at + 5, o);
-    put_values(records, at + 10, values);
-}
-
-// The bits of the 128 values of an oriented keypoint of octave 0; zeros where they are refused, which is told.
-fn describe(picture: &[f32], o: OrientedKeypoint) -> [u32; 128] {
-    let mut values = [0u32; 128];
+// The bits of the 128 values of an oriented keypoint of octave 0, and the samples that they were made of.
+fn describe(picture: &[f32], o: OrientedKeypoint, values: &mut [u32; 128]) -> Described {
     let i = descriptor_inputs::descriptor_inputs(o, 0);
     if i.number != 0 {
-        told(b"the descriptor's inputs", Answer::Refused(i.number));
-        return values;
+        return Described::Refused(i.number);
     }
     let p = Spot {
         x: i.x,
@@ -159,24 +121,38 @@ fn describe(picture: &[f32], o: OrientedKeypoint) -> [u32; 128] {
         scale: i.scale,
         angle: i.angle,
     };
-    let d = descriptor::compute_descriptor(picture, size(), p, &mut values);
-    match d {
-        Described::Done(_) => values,
-        Described::Short => values,
-        Described::Refused(k) => {
-            told(b"the descriptor", Answer::Refused(k));
-            values
-        }
-    }
+    descriptor::compute_descriptor(picture, size(), p, values)
 }
 
-// Adds the record of a keypoint's direction, if there is one, and answers how many records there are now.
+// Adds the record of a keypoint, its direction and its descriptor, and answers how many records there are now.
+fn add_made(
+    keypoint: &[u32],
+    oriented: &[u32],
+    values: [u32; 128],
+    samples: usize,
+    records: &mut [u32; 8896],
+    written: usize,
+) -> usize
+    requires { ⌜ written < mostRecords ⌝ }
+    ensures { λ r. ⌜ r ≤ mostRecords ⌝ }
+{
+    let mut made = [0u32; 139];
+    let number = record::make_record(keypoint, oriented, &values, samples, &mut made);
+    if number != 0 {
+        told(b"the maker of records", Answer::Refused(number));
+        return written;
+    }
+    put_record(records, 139 * written, &made);
+    written + 1
+}
+
+// Adds the record of a keypoint's direction, if there is one. What is refused is told, and adds none.
 fn add_record(
     picture: &[f32],
-    k: RawKeypoint,
-    o: OrientedKeypoint,
+    keypoint: &[u32],
+    oriented: &[u32],
     there: bool,
-    records: &mut [u32; 8832],
+    records: &mut [u32; 8896],
     written: usize,
 ) -> usize
     requires { ⌜ written ≤ mostRecords ⌝ }
@@ -189,17 +165,26 @@ fn add_record(
         run_io::print(b"more records than there is room for\n");
         return MOST;
     }
-    let values = describe(picture, o);
-    put_record(records, 138 * written, k, o, &values);
-    written + 1
+    let mut values = [0u32; 128];
+    let d = describe(picture, words::oriented_in(oriented), &mut values);
+    match d {
+        Described::Done(samples) => {
+            add_made(keypoint, oriented, values, samples, records, written)
+        }
+        Described::Short => written,
+        Described::Refused(k) => {
+            told(b"the descriptor", Answer::Refused(k));
+            written
+        }
+    }
 }
 
 fn add_peaks(
     picture: &[f32],
-    k: RawKeypoint,
+    keypoint: &[u32],
     out: &[u32; 108],
     peaks: usize,
-    records: &mut [u32; 8832],
+    records: &mut [u32; 8896],
     written: usize,
 ) -> usize
     requires { ⌜ written ≤ mostRecords ⌝ }
@@ -210,22 +195,21 @@ fn add_peaks(
     for j in 0..18 {
         let from = 6 * j;
         let to = from + 6;
-        let o = words::oriented_in(&all[from..to]);
-        n = add_record(picture, k, o, j < peaks, records, n);
+        n = add_record(picture, keypoint, &all[from..to], j < peaks, records, n);
     }
     n
 }
 
 // Adds the records of a keypoint on its picture.
-fn add_on(picture: &[f32], k: RawKeypoint, records: &mut [u32; 8832], written: usize) -> usize
+fn add_on(picture: &[f32], keypoint: &[u32], records: &mut [u32; 8896], written: usize) -> usize
     requires { ⌜ written ≤ mostRecords ⌝ }
     ensures { λ r. ⌜ r ≤ mostRecords ⌝ }
 {
     let mut out = [0u32; 108];
-    let r = orient::assign_orientations(picture, size(), k, &mut out);
+    let r = orient::assign_orientations(picture, size(), words::keypoint_in(keypoint), &mut out);
     let a = r.answer;
     let peaks = told(b"orientation", a);
-    add_peaks(picture, k, &out, peaks, records, written)
+    add_peaks(picture, keypoint, &out, peaks, records, written)
 }
 
 // Which of the three pictures is a layer's.
@@ -242,23 +226,24 @@ fn picture_of(layer: u32) -> usize
 // A keypoint's picture is the plane of the layer where it settled, which may be another than the one searched.
 fn add_keypoint(
     pictures: &[f32],
-    k: RawKeypoint,
-    records: &mut [u32; 8832],
+    keypoint: &[u32],
+    records: &mut [u32; 8896],
     written: usize,
 ) -> usize
     requires { ⌜ (length (now pictures) ≡ pictureSamples) × (written ≤ mostRecords) ⌝ }
     ensures { λ r. ⌜ r ≤ mostRecords ⌝ }
 {
+    let k = words::keypoint_in(keypoint);
     let from = 2464 * picture_of(k.layer);
     let to = from + 2464;
-    add_on(&pictures[from..to], k, records, written)
+    add_on(&pictures[from..to], keypoint, records, written)
 }
 
 fn add_found(
     pictures: &[f32],
     found: &[u32; 320],
     count: usize,
-    records: &mut [u32; 8832],
+    records: &mut [u32; 8896],
     written: usize,
 ) -> usize
     requires { ⌜ (length (now pictures) ≡ pictureSamples) × (count ≤ mostFound) × (written ≤ mostRecords) ⌝ }
@@ -269,7 +254,7 @@ fn add_found(
     for i in 0..count {
         let from = 10 * i;
         let to = from + 10;
-        n = add_keypoint(pictures, words::keypoint_in(&all[from..to]), records, n);
+        n = add_keypoint(pictures, &all[from..to], records, n);
     }
     n
 }
@@ -279,7 +264,7 @@ fn add_layer(
     dog: &[f32],
     pictures: &[f32],
     layer: usize,
-    records: &mut [u32; 8832],
+    records: &mut [u32; 8896],
     written: usize,
 ) -> usize
     requires { ⌜ (length (now pictures) ≡ pictureSamples) × (written ≤ mostRecords) ⌝ }
@@ -336,7 +321,7 @@ fn print_table(words: &[u32; 8896], count: usize)
     requires { ⌜ count ≤ mostRecords ⌝ }
 {
     run_io::print(
-        b"row\tcolumn\toctave\tlayer\tcode\tx\ty\tsize\tresponse x 100000\tangle\tlargest value\tall zero\n",
+        b"row\tcolumn\toctave\tlayer\tcode\tx\ty\tsize\tresponse x 100000\tangle\tlargest value\tblank\n",
     );
     let all = &words[..];
     for i in 0..count {
@@ -371,12 +356,12 @@ fn print_sheet(bytes: &[u8; 9864], count: usize)
 }
 
 // The sheet of so many records, and how many bytes it has.
-fn write(records: [u32; 8832], count: usize, bytes: &mut [u8; 9864]) -> usize
+fn write(records: [u32; 8896], count: usize, bytes: &mut [u8; 9864]) -> usize
     requires { ⌜ count ≤ mostRecords ⌝ }
     ensures { λ r. ⌜ r ≤ sheetBytes ⌝ }
 {
-    let long = 138 * count;
-    let a = sheet_write::write_sheet(WIDTH, HEIGHT, LAYERS, &records[..long], bytes);
+    let long = 139 * count;
+    let a = sheet_write::write_sheet(EDITION, WIDTH, HEIGHT, LAYERS, &records[..long], bytes);
     let size = told(b"the writer", a);
     if size > 9864 {
         return 0;
@@ -399,7 +384,7 @@ fn read(bytes: [u8; 9864], size: usize, words: &mut [u32; 8896]) -> usize
 }
 
 // Writes the sheet, reads it back and prints both.
-fn show(records: [u32; 8832], count: usize)
+fn show(records: [u32; 8896], count: usize)
     requires { ⌜ count ≤ mostRecords ⌝ }
 {
     let mut bytes = [0u8; 9864];
@@ -414,7 +399,7 @@ fn show(records: [u32; 8832], count: usize)
 fn extract(dog: &[f32], pictures: &[f32])
     requires { ⌜ length (now pictures) ≡ pictureSamples ⌝ }
 {
-    let mut records = [0u32; 8832];
+    let mut records = [0u32; 8896];
     let first = add_layer(dog, pictures, 1, &mut records, 0);
     let second = add_layer(dog, pictures, 2, &mut records, first);
     let third = add_layer(dog, pictures, 3, &mut records, second);

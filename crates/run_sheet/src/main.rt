@@ -1,4 +1,4 @@
-// Replays cases that an independent program made (host/vectors/sheet.py says how they are laid out) through `write_sheet` and `read_sheet`, and says how many were
+// Replays cases that an independent program made (host/vectors/sheet.py says how they are laid out) through `write_sheet`, `read_sheet` and `make_record`, and says how many were
 // tried and how many differ. What is lent is longer than the room and filled with a pattern, which has to stand behind the expected output.
 ghost use Prim.Native.Nat.{_<_, _≤_};
 use run_vectors::byte_at;
@@ -24,6 +24,7 @@ struct Case {
     width: usize,
     height: usize,
     layers: usize,
+    edition: u32,
 }
 
 fn case_of(h: &[u8]) -> Case {
@@ -37,6 +38,7 @@ fn case_of(h: &[u8]) -> Case {
         width: long_at(h, 12) as usize,
         height: long_at(h, 20) as usize,
         layers: long_at(h, 28) as usize,
+        edition: word_at(h, 36),
     }
 }
 
@@ -86,7 +88,14 @@ fn writer_agrees(c: Case, given: &[u8], want: &[u8]) -> bool {
     }
     let words = words_in(given);
     let mut out = [PATTERN_BYTE; 512];
-    let a = sheet_write::write_sheet(c.width, c.height, c.layers, &words[..n], &mut out[..room]);
+    let a = sheet_write::write_sheet(
+        c.edition,
+        c.width,
+        c.height,
+        c.layers,
+        &words[..n],
+        &mut out[..room],
+    );
     (params::number_of(a) == c.number)
         & (params::count_of(a) == c.count)
         & (want.len() == c.expected)
@@ -103,8 +112,42 @@ fn reader_agrees(c: Case, given: &[u8], want: &[u8]) -> bool {
     let a = r.answer;
     (params::number_of(a) == c.number)
         & (params::count_of(a) == c.count)
-        & ((r.width == c.width) & (r.height == c.height) & (r.layers == c.layers))
+        & ((r.edition == c.edition) & (r.width == c.width))
+        & ((r.height == c.height) & (r.layers == c.layers))
         & words_agree(&out, want, c.expected)
+}
+
+// A case of the maker of records has the keypoint's words, the oriented one's and the values by their bits, one after the other; their lengths and the samples stand where others have
+// width, height and layers.
+fn maker_agrees(c: Case, given: &[u8], want: &[u8]) -> bool {
+    let n = c.given;
+    let room = c.room;
+    let first = c.width;
+    let second = c.height;
+    if n > ROOM {
+        return false;
+    }
+    if room > ROOM {
+        return false;
+    }
+    if first > n {
+        return false;
+    }
+    if second > n - first {
+        return false;
+    }
+    let words = words_in(given);
+    let all = &words[..];
+    let then = first + second;
+    let mut out = [PATTERN_WORD; 512];
+    let number = record::make_record(
+        &all[0..first],
+        &all[first..then],
+        &all[then..n],
+        c.layers,
+        &mut out[..room],
+    );
+    (number == c.number) & words_agree(&out, want, c.expected)
 }
 
 // Reads n bytes to the front of a buffer. Answers whether there were as many.
@@ -130,6 +173,9 @@ fn parts_agree(fd: i32, c: Case, n: usize, m: usize) -> bool
     if c.kind == 2 {
         return reader_agrees(c, &given[..n], &want[..m]);
     }
+    if c.kind == 3 {
+        return maker_agrees(c, &given[..n], &want[..m]);
+    }
     writer_agrees(c, &given[..n], &want[..m])
 }
 
@@ -148,17 +194,21 @@ fn agrees(fd: i32, c: Case) -> bool {
     if c.kind == 2 {
         return parts_agree(fd, c, n, 4 * m);
     }
+    if c.kind == 3 {
+        return parts_agree(fd, c, 4 * n, 4 * m);
+    }
     false
 }
 
 // The entry's row among the counts, the last for a kind of which there is none.
 fn row(kind: u8) -> usize
-    ensures { λ r. ⌜ r < 3 ⌝ }
+    ensures { λ r. ⌜ r < 4 ⌝ }
 {
     match kind {
         1 => 0,
         2 => 1,
-        _ => 2,
+        3 => 2,
+        _ => 3,
     }
 }
 
@@ -166,16 +216,16 @@ fn row(kind: u8) -> usize
 fn replay(fd: i32, counts: &mut [u64; 32]) -> usize {
     let mut turns: u32 = 1_000_000;
     while turns > 0 {
-        let mut h = [0u8; 36];
+        let mut h = [0u8; 40];
         let got = io::read_full(fd, &mut h);
-        if got < 36 {
+        if got < 40 {
             return got;
         }
         let c = case_of(&h);
         run_vectors::count(counts, row(c.kind), agrees(fd, c));
         turns -= 1;
     }
-    36
+    40
 }
 
 fn main() {
@@ -186,10 +236,11 @@ fn main() {
     let mut counts = [0u64; 32];
     let rest = replay(fd, &mut counts);
     libc::close(fd);
-    counts[6] = rest as u64;
+    counts[8] = rest as u64;
     run_io::report_counts(
         b"write_sheet: # tried, # differ
 read_sheet: # tried, # differ
+make_record: # tried, # differ
 of no entry: # tried, # differ
 bytes left over: #
 ",

@@ -1,6 +1,6 @@
--- What no fault of the writer's says, for every layout, and what gives no fault. Assumes nothing.
-use mathlib.Core.Path.{_≡_, refl}
-use mathlib.Core.Bool.{Bool, true, false, _||_, not}
+-- What no fault of the writer's says, for every layout, and what gives none. Assumes nothing.
+use mathlib.Core.Path.{_≡_, refl, ap}
+use mathlib.Core.Bool.{Bool, true, false, _&&_, _||_, not}
 use mathlib.Core.List.{List, [], _∷_}
 use Prim.Native.Nat.{ℕ, _%_, _^_, _≤_}
 use native.Mathlib.Omega.{arith}
@@ -9,10 +9,10 @@ use lib.Dec.{ltb, eqb}
 use lib.ListN.{length}
 use Rattle.params.specs.Limits.{maxSide, maxLayers}
 use Rattle.params.specs.Table.{line, firstFault, sideWrong, shapeWrong}
-use Rattle.sheet.specs.Layout.{Layout, Frame, maxCount}
+use Rattle.sheet.specs.Layout.{Layout, Frame, layoutOf, known, maxCount}
 use Rattle.sheet.specs.Sheet.{allPass}
 use Rattle.sheet.specs.Words.{takenWords}
-use Rattle.sheet.specs.Writes.{countIn, recordsOf, sidesWrong, layerRight, layerWrong, wordsRight, wordsWrong, writeFault}
+use Rattle.sheet.specs.Writes.{countIn, recordsOf, sidesWrong, layersWrong, recordsLayered, wordsRight, wordsWrong, faultIn, layoutFault, writeFault}
 
 neither : (a b : Bool) → (a || b) ≡ false → (a ≡ false) × (b ≡ false)
 neither false false e = (refl, refl)
@@ -20,12 +20,13 @@ neither false true e = absurd (let z : _≡_ {A = ℕ} 0 1 = cc in omega arith)
 neither true b e = absurd (let z : _≡_ {A = ℕ} 0 1 = cc in omega arith)
 
 -- no line of the writer's table is given
-none-given : (a b c : Bool) → firstFault (line 1 a ∷ line 2 b ∷ line 5 c ∷ []) ≡ 0 → (a ≡ false) × (b ≡ false) × (c ≡ false)
+none-given : (a b c d : Bool) → firstFault (line 1 a ∷ line 2 b ∷ line 4 c ∷ line 5 d ∷ []) ≡ 0 → (a ≡ false) × (b ≡ false) × (c ≡ false) × (d ≡ false)
 unfolding firstFault
-none-given false false false h = (refl, refl, refl)
-none-given true b c h = absurd (omega arith)
-none-given false true c h = absurd (omega arith)
-none-given false false true h = absurd (omega arith)
+none-given false false false false h = (refl, refl, refl, refl)
+none-given true b c d h = absurd (omega arith)
+none-given false true c d h = absurd (omega arith)
+none-given false false true d h = absurd (omega arith)
+none-given false false false true h = absurd (omega arith)
 
 not-zero : (n : ℕ) → (n ≡ 0 → ⊥) → 1 ≤ n
 not-zero n h = omega arith
@@ -37,23 +38,40 @@ shape-fine w h e =
     let a = neither (sideWrong w) (sideWrong h) e in
     (not-zero w (eqb-false _ _ (neither (eqb w 0) (ltb maxSide w) (a .0) .0)), not-zero h (eqb-false _ _ (neither (eqb h 0) (ltb maxSide h) (a .1) .0)))
 
--- the writer's fault, from its three tests
-module _ (l : Layout) (f : Frame) (ws : List ℕ) where
-  pub fault-sides : sidesWrong l f ≡ true → writeFault l f ws ≡ 1
-  unfolding writeFault firstFault
+-- the writer's fault, from its tests
+module _ (asked : Bool) (l : Layout) (f : Frame) (ws : List ℕ) where
+  pub fault-sides : sidesWrong l f ≡ true → faultIn asked l f ws ≡ 1
+  unfolding faultIn firstFault
   fault-sides a = rw a
 
-  pub fault-layers : sidesWrong l f ≡ false → layerWrong l f ws ≡ true → writeFault l f ws ≡ 2
-  unfolding writeFault firstFault
+  pub fault-layers : sidesWrong l f ≡ false → (layersWrong f || (asked && not (recordsLayered l f ws))) ≡ true → faultIn asked l f ws ≡ 2
+  unfolding faultIn firstFault
   fault-layers a b = rw (a, b)
 
-  pub fault-words : sidesWrong l f ≡ false → layerWrong l f ws ≡ false → wordsWrong l f ws ≡ true → writeFault l f ws ≡ 5
-  unfolding writeFault firstFault
+pub fault-edition : (l : Layout) (f : Frame) (ws : List ℕ) → sidesWrong l f ≡ false → layersWrong f ≡ false → faultIn false l f ws ≡ 4
+unfolding faultIn firstFault
+fault-edition l f ws a b = rw (a, b)
+
+module _ (l : Layout) (f : Frame) (ws : List ℕ) where
+  pub fault-words : sidesWrong l f ≡ false → (layersWrong f || not (recordsLayered l f ws)) ≡ false → wordsWrong l f ws ≡ true → layoutFault l f ws ≡ 5
+  unfolding faultIn firstFault
   fault-words a b d = rw (a, b, d)
 
-  pub no-fault : sidesWrong l f ≡ false → layerWrong l f ws ≡ false → wordsWrong l f ws ≡ false → writeFault l f ws ≡ 0
-  unfolding writeFault firstFault
+  pub no-fault : sidesWrong l f ≡ false → (layersWrong f || not (recordsLayered l f ws)) ≡ false → wordsWrong l f ws ≡ false → layoutFault l f ws ≡ 0
+  unfolding faultIn firstFault
   no-fault a b d = rw (a, b, d)
+
+-- no fault: the layout was asked for, and so an edition's number is known
+pub fault-asked : (asked : Bool) (l : Layout) (f : Frame) (ws : List ℕ) → faultIn asked l f ws ≡ 0 → asked ≡ true
+unfolding faultIn
+fault-asked asked l f ws h = not-false _ (none-given _ _ _ _ h .2)
+
+pub edition-known : (edition : ℕ) (f : Frame) (ws : List ℕ) → writeFault edition f ws ≡ 0 → known edition ≡ true
+edition-known edition f ws h = fault-asked (known edition) (layoutOf edition) f ws h
+
+-- and of a known one it is that of its layout
+pub known-fault : (edition : ℕ) (f : Frame) (ws : List ℕ) → known edition ≡ true → writeFault edition f ws ≡ layoutFault (layoutOf edition) f ws
+known-fault edition f ws e = ap (λ (b : Bool). faultIn b (layoutOf edition) f ws) e
 
 module _ (l : Layout) (f : Frame) (ws : List ℕ) where
   pub record Sound : Type 0 where
@@ -67,18 +85,18 @@ module _ (l : Layout) (f : Frame) (ws : List ℕ) where
     pub count : countIn l ws ≤ maxCount
     pub records : allPass (wordsRight l f) (recordsOf l ws) ≡ true
 
-  pub sound-of : writeFault l f ws ≡ 0 → Sound
-  unfolding writeFault sidesWrong shapeWrong layerWrong wordsWrong
+  pub sound-of : layoutFault l f ws ≡ 0 → Sound
+  unfolding faultIn sidesWrong shapeWrong wordsWrong
   sound-of h =
-      let k = none-given (sidesWrong l f) (layerWrong l f ws) (wordsWrong l f ws) h in
+      let k = none-given (sidesWrong l f) (layersWrong f || not (recordsLayered l f ws)) false (wordsWrong l f ws) h in
       let s = neither (shapeWrong (f .width) (f .height)) (ltb (2 ^ l .side) (f .width) || ltb (2 ^ l .side) (f .height)) (k .0) in
       let a = neither (sideWrong (f .width)) (sideWrong (f .height)) (s .0) in
       let w = neither (eqb (f .width) 0) (ltb maxSide (f .width)) (a .0) in
       let v = neither (eqb (f .height) 0) (ltb maxSide (f .height)) (a .1) in
       let t = neither (ltb (2 ^ l .side) (f .width)) (ltb (2 ^ l .side) (f .height)) (s .1) in
-      let b = neither (eqb (f .layers) 0 || ltb maxLayers (f .layers)) (not (allPass (layerRight (f .layers)) (recordsOf l ws))) (k .1) in
+      let b = neither (layersWrong f) (not (recordsLayered l f ws)) (k .1) in
       let y = neither (eqb (f .layers) 0) (ltb maxLayers (f .layers)) (b .0) in
-      let c = neither (not (eqb (length ws % takenWords l) 0)) (ltb maxCount (countIn l ws) || not (allPass (wordsRight l f) (recordsOf l ws))) (k .2) in
+      let c = neither (not (eqb (length ws % takenWords l) 0)) (ltb maxCount (countIn l ws) || not (allPass (wordsRight l f) (recordsOf l ws))) (k .3) in
       let d = neither (ltb maxCount (countIn l ws)) (not (allPass (wordsRight l f) (recordsOf l ws))) (c .1) in
       record {
         width-low = not-zero _ (eqb-false _ _ (w .0));
@@ -93,8 +111,8 @@ module _ (l : Layout) (f : Frame) (ws : List ℕ) where
       }
 
   -- and the other way round, where the layout's sides are within the limit
-  pub fault-none : Sound → f .width ≤ maxSide → f .height ≤ maxSide → allPass (layerRight (f .layers)) (recordsOf l ws) ≡ true → writeFault l f ws ≡ 0
-  unfolding writeFault firstFault sidesWrong shapeWrong layerWrong wordsWrong
+  pub fault-none : Sound → f .width ≤ maxSide → f .height ≤ maxSide → recordsLayered l f ws ≡ true → layoutFault l f ws ≡ 0
+  unfolding faultIn firstFault sidesWrong shapeWrong wordsWrong
   fault-none s w h p =
       rw (
         ne-eqb (f .width) 0 (λ z. omega (arith, s .width-low)),

@@ -1,21 +1,43 @@
--- Of a lawful layout: its slots fill whole bytes and hold their largest values; and edition 1 is one. Assumes nothing.
+-- Of a lawful layout: its slots fill whole bytes and hold their largest values; and that of each edition is one. Assumes nothing.
 use mathlib.Core.Path.{_≡_, refl}
-use mathlib.Core.Bool.{Bool, true, false, cond}
+use mathlib.Core.Bool.{Bool, true, false, cond, and-eq-true-iff}
 use mathlib.Core.List.{List, _∷_}
 use Prim.Native.Nat.{ℕ, zero, suc, _+_, _-_, _*_, _^_, _≤_, _<_}
 use native.Mathlib.Omega.{arith}
-use lib.Dec.{lit<}
+use lib.Dec.{eqb, lit<, lit≤}
 use lib.ListN.{replicate}
 use lib.Pow.{pow-pos, ones-lt}
-use Rattle.params.specs.Limits.{maxLayers, valueCount}
+use Rattle.params.specs.Limits.{maxSide, maxLayers, valueCount}
 use Rattle.sheet.specs.Pack.{Slot, slot, bits, sound, Held}
-use Rattle.sheet.specs.Layout.{Layout, Frame, edition1, headerSize, markBits, headerSlots, recordSize, largestAngle, valueSlots, recordSlots}
+use Rattle.sheet.specs.Layout.{Layout, Frame, edition1, edition2, layoutOf, headerSize, markBits, headerSlots, recordSize, largestAngle, valueSlots, recordSlots}
 use Rattle.sheet.specs.Sheet.{recordRight}
 use Rattle.sheet.specs.Trip.{Lawful}
 use Rattle.sheet.proofs.Packed.{Roomy, held}
 
-pub lawful1 : Lawful edition1
-lawful1 = record { edition = omega arith; side = omega arith }
+lawful-either : (b : Bool) → Lawful (cond b edition2 edition1)
+lawful-either true = record { edition = omega arith; side = omega arith }
+lawful-either false = record { edition = omega arith; side = omega arith }
+
+pub lawful-edition : (edition : ℕ) → Lawful (layoutOf edition)
+unfolding layoutOf
+lawful-edition edition = lawful-either (eqb edition 2)
+
+-- each edition's records have an angle, and none of them can state a side above the limit
+angled-either : (b : Bool) → cond b edition2 edition1 .angled ≡ true
+angled-either true = refl
+angled-either false = refl
+
+pub angled-edition : (edition : ℕ) → layoutOf edition .angled ≡ true
+unfolding layoutOf
+angled-edition edition = angled-either (eqb edition 2)
+
+side-either : (b : Bool) → 2 ^ cond b edition2 edition1 .side ≤ maxSide
+side-either true = lit≤ tt
+side-either false = lit≤ tt
+
+pub side-edition : (edition : ℕ) → 2 ^ layoutOf edition .side ≤ maxSide
+unfolding layoutOf
+side-edition edition = side-either (eqb edition 2)
 
 pub header-bits : (l : Layout) → Lawful l → bits (headerSlots l) ≡ 8 * headerSize
 unfolding bits
@@ -45,7 +67,7 @@ angle-roomy false = lit< tt
 
 pub header-roomy : (l : Layout) → Lawful l → Roomy (headerSlots l)
 header-roomy l k =
-    (omega (arith, k .edition), (ones-lt (l .side), (ones-lt (l .side), (lit< tt, (lit< tt, (mark-roomy (l .marked), (pow-pos (36 - (2 * l .side + markBits l)), tt)))))))
+    (omega (arith, k .edition), (ones-lt (l .side), (ones-lt (l .side), (lit< tt, (lit< tt, (pow-pos (markBits l), (pow-pos (36 - (2 * l .side + markBits l)), tt)))))))
 
 -- what a sound header says of its frame
 pub record Framed (l : Layout) (f : Frame) : Type 0 where
@@ -81,7 +103,7 @@ record-roomy l f h = (
 -- a right record's values are in their slots' ranges, and so have room there
 pub right-sound : (l : Layout) (f : Frame) (v : List ℕ) → recordRight l f v ≡ true → sound (recordSlots l f) v ≡ true
 unfolding recordRight
-right-sound l f v e = e
+right-sound l f v e = and-eq-true-iff _ _ .0 e .0
 
 pub right-held : (l : Layout) (f : Frame) → Framed l f → (v : List ℕ) → recordRight l f v ≡ true → Held (recordSlots l f) v
 right-held l f h v e = held (recordSlots l f) v (record-roomy l f h) (right-sound l f v e)

@@ -1,12 +1,12 @@
 -- Laws of lists in parts, of a test that every part passes, and of what the parts are mapped to, joined. Assumes nothing.
 use mathlib.Core.Path.{_≡_, refl, ap}
 use mathlib.Core.Bool.{Bool, true, and-eq-true-iff}
-use mathlib.Core.List.{List, [], _∷_, map, flatMap}
+use mathlib.Core.List.{List, [], _∷_, _++_, map, flatMap, append-assoc}
 use Prim.Native.Nat.{ℕ, zero, suc, _+_, _*_, _≤_, _<_}
 use native.Mathlib.Nat.{mul-zero, mul-suc, le-of-suc-le-suc, not-suc-le-zero}
 use native.Mathlib.Omega.{arith}
 use lib.ListN.{length, take, drop, length-append, length-take, length-drop}
-use lib.Seq.{drop-drop, take-at, drop-at}
+use lib.Seq.{drop-drop, drop-append-add, take-at, drop-at}
 use Rattle.sheet.specs.Sheet.{parts, allPass}
 
 pub length-parts : (k n : ℕ) (xs : List ℕ) → length (parts k n xs) ≡ n
@@ -43,6 +43,18 @@ pass-at p k (suc n) (suc i) xs e h =
     let r = pass-at p k n i (drop k xs) (and-eq-true-iff (p (take k xs)) (allPass p (parts k n (drop k xs))) .0 e .1) (le-of-suc-le-suc h) in
     let q : k * suc i ≡ k + k * i = rw mul-suc (omega arith) in
     rw (q, ← drop-drop (k * i) k xs) r
+
+-- what the part at i is mapped to, among what all are, each m long, with anything after it
+pub flat-at : (F : List ℕ → List ℕ) (m : ℕ) → ((w : List ℕ) → length (F w) ≡ m) → (k n i : ℕ) (xs end : List ℕ) → i < n →
+    take m (drop (m * i) (flatMap F (parts k n xs) ++ end)) ≡ F (take k (drop (k * i) xs))
+unfolding flatMap parts
+flat-at F m e k zero i xs end h = absurd (not-suc-le-zero h)
+flat-at F m e k (suc n) zero xs end h = rw (mul-zero, mul-zero, append-assoc) (take-at (F (take k xs)) (flatMap F (parts k n (drop k xs)) ++ end) m (e (take k xs)))
+flat-at F m e k (suc n) (suc i) xs end h =
+    let r = flat-at F m e k n i (drop k xs) end (le-of-suc-le-suc h) in
+    let p : m * suc i ≡ length (F (take k xs)) + m * i = rw (mul-suc, e (take k xs)) (omega arith) in
+    let q : k * suc i ≡ k + k * i = rw mul-suc (omega arith) in
+    rw (p, q, append-assoc, drop-append-add, ← drop-drop (k * i) k xs) r
 
 pub flat-map : (f g : List ℕ → List ℕ) (xs : List (List ℕ)) → flatMap f (map g xs) ≡ flatMap (λ x. f (g x)) xs
 unfolding flatMap

@@ -13,10 +13,10 @@ use lib.Pow.{pow-pos}
 use Rattle.params.specs.Limits.{maxSide, maxLayers}
 use Rattle.params.specs.Table.{line, firstFault}
 use Rattle.sheet.specs.Pack.{slot, sound, Bytes}
-use Rattle.sheet.specs.Layout.{Layout, Frame, markBits, maxCount, headerSlots, headerValues, recordSlots}
+use Rattle.sheet.specs.Layout.{Layout, Frame, topRule, maxCount, headerSlots, headerValues, recordSlots}
 use Rattle.sheet.specs.Sheet.{parts, allPass, recordRight, sheetRight, sheetBytes, headerIn, readFrame, readCount, readSheet, bytesRight}
 use Rattle.sheet.specs.Words.{plainWords, readWords, headWords, takenWords, layerPlace, filled, worded, withBlank}
-use Rattle.sheet.specs.Writes.{countIn, recordsOf, sheetOf, layerRight, wordsRight, writeFault, written}
+use Rattle.sheet.specs.Writes.{countIn, recordsOf, sheetOf, layerRight, recordsLayered, wordsRight, layoutFault, written}
 use Rattle.sheet.specs.Reads.{readFault, wordsIn}
 use Rattle.sheet.specs.Trip.{Lawful, handedBack, ReadsBack, WritesBack, ReadsOnce}
 use Rattle.sheet.proofs.Packed.{sound-at, sound-length}
@@ -27,11 +27,11 @@ use Rattle.sheet.proofs.Back.{four, Kept, kept, count-read, back}
 use Rattle.sheet.proofs.Words.{fieldCount, Values, worded-filled, filled-worded, length-worded}
 use Rattle.sheet.proofs.Faults.{Sound, sound-of, fault-none}
 
-taken-plain : (m : Bool) → plainWords ≤ cond m readWords plainWords
+pub taken-plain : (m : Bool) → plainWords ≤ cond m readWords plainWords
 taken-plain true = lit≤ tt
 taken-plain false = lit≤ tt
 
-whole-records : (l : Layout) (ws : List ℕ) → takenWords l * countIn l ws ≤ length ws
+pub whole-records : (l : Layout) (ws : List ℕ) → takenWords l * countIn l ws ≤ length ws
 whole-records l ws = rw mul-comm (div-mul-le-self (length ws) (takenWords l))
 
 -- the reader's one fault
@@ -49,7 +49,7 @@ unfolding readFault
 fault-read l bs e = given (bytesRight l bs) e
 
 module _ (l : Layout) (f : Frame) (ws : List ℕ) where
-  header-sound : (n : ℕ) → Sound l f ws → f .rule ≤ markBits l → n ≡ countIn l ws → sound (headerSlots l) (headerValues l f n) ≡ true
+  pub header-sound : (n : ℕ) → Sound l f ws → f .rule ≤ topRule l → n ≡ countIn l ws → sound (headerSlots l) (headerValues l f n) ≡ true
   unfolding sound
   header-sound n s r e =
       let p = s .count in
@@ -64,11 +64,11 @@ module _ (l : Layout) (f : Frame) (ws : List ℕ) where
         le-leb 0 n (omega arith),
         le-leb n maxCount (omega arith),
         le-leb 0 (f .rule) (omega arith),
-        le-leb (f .rule) (markBits l) r,
+        le-leb (f .rule) (topRule l) r,
       )
 
   -- no fault: the words make a right sheet
-  pub sheet-right : Sound l f ws → f .rule ≤ markBits l → sheetRight l (sheetOf l f ws) ≡ true
+  pub sheet-right : Sound l f ws → f .rule ≤ topRule l → sheetRight l (sheetOf l f ws) ≡ true
   unfolding sheetRight sheetOf recordsOf
   sheet-right s r =
       let n : length (map filled (recordsOf l ws)) ≡ countIn l ws = length-map (recordsOf l ws) filled ∙ length-parts (takenWords l) (countIn l ws) ws in
@@ -80,15 +80,15 @@ module _ (l : Layout) (f : Frame) (ws : List ℕ) where
       flat-map (worded l) filled (recordsOf l ws)
       ∙ parts-same (takenWords l) (λ w. worded l (filled w)) (withBlank l) (λ w e. worded-filled l w (subst (λ (n : ℕ). plainWords ≤ n) (sym e) (taken-plain (l .marked)))) (countIn l ws) ws (whole-records l ws)
 
-  pub words-trip : Lawful l → Sound l f ws → f .rule ≤ markBits l → wordsIn l (written l f ws) ≡ flatMap (withBlank l) (recordsOf l ws)
+  pub words-trip : Lawful l → Sound l f ws → f .rule ≤ topRule l → wordsIn l (written l f ws) ≡ flatMap (withBlank l) (recordsOf l ws)
   unfolding wordsIn written sheetOf
   words-trip k s r = ap (flatMap (worded l)) (read-records l k (sheetOf l f ws) (right l k (sheetOf l f ws) (sheet-right s r))) ∙ words-back
 
-  pub frame-trip : Lawful l → Sound l f ws → f .rule ≤ markBits l → readFrame l (written l f ws) ≡ f
+  pub frame-trip : Lawful l → Sound l f ws → f .rule ≤ topRule l → readFrame l (written l f ws) ≡ f
   unfolding written sheetOf
   frame-trip k s r = read-frame l k (sheetOf l f ws) (right l k (sheetOf l f ws) (sheet-right s r))
 
-  pub fault-trip : Lawful l → Sound l f ws → f .rule ≤ markBits l → readFault l (written l f ws) ≡ 0
+  pub fault-trip : Lawful l → Sound l f ws → f .rule ≤ topRule l → readFault l (written l f ws) ≡ 0
   unfolding written
   fault-trip k s r = read-fault l _ (accepted l k (sheetOf l f ws) (sheet-right s r))
 
@@ -114,11 +114,11 @@ record-layer : (l : Layout) (f : Frame) (v : List ℕ) → recordRight l f v ≡
 unfolding recordSlots
 record-layer l f v h = sound-at (recordSlots l f) v (slot 0 0 0) (right-sound l f v h) layerPlace (lit< tt)
 
-taken-pos : (m : Bool) → 0 < cond m readWords plainWords
+pub taken-pos : (m : Bool) → 0 < cond m readWords plainWords
 taken-pos true = lit< tt
 taken-pos false = lit< tt
 
-taken-read : (m : Bool) → cond m readWords plainWords ≤ readWords
+pub taken-read : (m : Bool) → cond m readWords plainWords ≤ readWords
 taken-read true = lit≤ tt
 taken-read false = lit≤ tt
 
@@ -241,13 +241,13 @@ module _ (l : Layout) (bs : List ℕ) (p : Kept l bs) where
         records = ap (λ (ws : List ℕ). allPass (wordsRight l f) (recordsOf l ws)) words-read ∙ plain-right l f vs (p .records);
       }
 
-  pub fault-back : 2 ^ l .side ≤ maxSide → writeFault l (readFrame l bs) (handedBack l (wordsIn l bs)) ≡ 0
+  pub fault-back : 2 ^ l .side ≤ maxSide → layoutFault l (readFrame l bs) (handedBack l (wordsIn l bs)) ≡ 0
   fault-back m =
       let f = readFrame l bs in
       let vs = readSheet l bs .records in
       let r = frame-ranges in
       fault-none l f (handedBack l (wordsIn l bs)) sound-read (omega (arith, r .0)) (omega (arith, r .1))
-      (ap (λ (ws : List ℕ). allPass (layerRight (f .layers)) (recordsOf l ws)) words-read ∙ plain-layers l f vs (p .records))
+      (ap (λ (ws : List ℕ). recordsLayered l f ws) words-read ∙ plain-layers l f vs (p .records))
 
 -- 2
 pub writes-back : (l : Layout) → Lawful l → WritesBack l

@@ -1,6 +1,6 @@
 -- The return trip, whole. Assumes nothing.
 use Rattle.sheet.specs.Trip.{TripRule}
-use Rattle.sheet.proofs.Lawful.{lawful1}
+use Rattle.sheet.proofs.Lawful.{lawful-edition}
 use Rattle.sheet.proofs.Return.{reads-back, writes-back, reads-once}
 use Rattle.sheet.proofs.Public.{written-is-read, read-is-written, read-once}
 
@@ -10,7 +10,7 @@ trip-rule =
       reads-back = reads-back;
       writes-back = writes-back;
       reads-once = reads-once;
-      edition1-lawful = lawful1;
+      editions-lawful = lawful-edition;
       written-is-read = written-is-read;
       read-is-written = read-is-written;
       read-once = read-once;

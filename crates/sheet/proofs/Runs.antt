@@ -1,12 +1,12 @@
 -- A record in three runs, its whole numbers, its floats and its 128 values: its bytes, its fields and its words. For every layout with an angle. Assumes nothing.
 use mathlib.Core.Path.{_≡_, refl, sym, ap, _∙_, subst}
-use mathlib.Core.Bool.{Bool, true, false, _&&_, cond, and-assoc, and-true}
+use mathlib.Core.Bool.{Bool, true, false, _&&_, _||_, cond, and-assoc, and-true}
 use mathlib.Core.List.{List, [], _∷_, _++_, append-assoc, flatMap}
 use Prim.Native.Nat.{ℕ, zero, suc, _+_, _-_, _*_, _/_, _%_, _^_, _≤_, _<_}
 use native.Mathlib.Nat.{add-assoc, not-suc-le-zero, le-of-suc-le-suc, suc-inj}
 use native.Mathlib.Omega.{arith}
 use borrow.Author.Tests.{le-leb}
-use lib.Dec.{leb}
+use lib.Dec.{leb, eqb}
 use lib.ListN.{length, getD, take, drop, replicate, length-append, length-take, length-drop, length-replicate, take-append-drop, List·getD-append}
 use lib.Seq.{drop-drop, take-take, take-add, drop-at, take-append-le}
 use Rattle.lists.specs.Pasted.{pasted}
@@ -14,9 +14,9 @@ use Rattle.lists.proofs.Pasted.{length-pasted, pasted-append}
 use Rattle.params.specs.Limits.{valueCount}
 use Rattle.sheet.specs.Pack.{Slot, slot, bits, number, bytes, pack, value, fields, unpack, sound, Held, Bytes}
 use Rattle.sheet.specs.Pack.Held.{none, one}
-use Rattle.sheet.specs.Layout.{Layout, Frame, headSize, frontSize, largestFinite, leastPositive, largestAngle, headSlots, floatSlots, valueSlots, recordSlots}
+use Rattle.sheet.specs.Layout.{Layout, Frame, recordSize, headSize, frontSize, largestFinite, leastPositive, largestAngle, headSlots, floatSlots, valueSlots, recordSlots}
 use Rattle.sheet.specs.Sheet.{recordRight}
-use Rattle.sheet.specs.Words.{plainWords, headWords, floatWords, frontWords, headFields, frontFields, filled, blankOf, worded}
+use Rattle.sheet.specs.Words.{plainWords, headWords, floatWords, frontWords, headFields, frontFields, filled, unknownOf, allZero, worded}
 use Rattle.sheet.proofs.Packed.{bits-append, Each, each-bits, pack-append, pack-each, pack-bytes}
 use Rattle.sheet.proofs.Cut.{bytes-take, bytes-drop, both-bytes, one-value, unpack-append, unpack-step}
 use Rattle.sheet.specs.Trip.{Lawful}
@@ -72,6 +72,10 @@ float-bits : (a : Bool) → a ≡ true → cond a 32 0 ≡ 8 * 4
 float-bits true e = refl
 float-bits false e = absurd (let z : _≡_ {A = ℕ} 0 1 = cc in omega arith)
 
+size-is : (a : Bool) → a ≡ true → _≡_ {A = ℕ} (cond a 154 150) 154
+size-is true e = refl
+size-is false e = absurd (let z : _≡_ {A = ℕ} 0 1 = cc in omega arith)
+
 values-each : Each 8 valueSlots
 values-each = each-replicate valueCount 8 (slot 8 0 255) refl
 
@@ -125,7 +129,7 @@ length-unpack ss bs = length-fields ss (value bs)
 
 -- the runs of a record's slots, as its words
 worded-runs : (l : Layout) (hv fv vv : List ℕ) → length hv ≡ headFields → length fv ≡ floatWords →
-    worded l (hv ++ (fv ++ vv)) ≡ take headWords hv ++ (fv ++ (vv ++ (cond (l .marked) (getD hv headWords 0) (blankOf vv) ∷ [])))
+    worded l (hv ++ (fv ++ vv)) ≡ take headWords hv ++ (fv ++ (vv ++ (cond (l .marked) (getD hv headWords 0) (unknownOf vv) ∷ [])))
 unfolding worded
 worded-runs l hv fv vv lh lf =
     let p : take headWords (hv ++ (fv ++ vv)) ≡ take headWords hv = take-append-le headWords hv (fv ++ vv) (omega arith) in
@@ -139,12 +143,18 @@ module _ (l : Layout) (k : Lawful l) (a : l .angled ≡ true) (f : Frame) where
   unfolding bits
   head-bits = omega (arith, k .side)
 
-  floats-bits : bits (floatSlots l) ≡ 8 * (frontSize - headSize)
-  unfolding bits
-  floats-bits = let e = float-bits (l .angled) a in omega arith
+  -- the bytes of a record
+  pub sized : recordSize l ≡ 154
+  sized = size-is (l .angled) a
 
-  tail-bits : bits (floatSlots l ++ valueSlots) ≡ 8 * (frontSize - headSize + valueCount)
-  tail-bits = bits-append (floatSlots l) valueSlots ∙ rw (floats-bits, value-bits)
+  floats-bits : bits (floatSlots l) ≡ 8 * (frontSize l - headSize)
+  unfolding bits
+  floats-bits =
+      let e = float-bits (l .angled) a in
+      omega (arith, sized)
+
+  tail-bits : bits (floatSlots l ++ valueSlots) ≡ 8 * (frontSize l - headSize + valueCount)
+  tail-bits = bits-append (floatSlots l) valueSlots ∙ rw (floats-bits, value-bits) (omega (arith, sized))
 
   floats-each : Each (8 * 4) (floatSlots l)
   floats-each = (refl, (refl, (refl, (refl, (float-bits (l .angled) a, tt)))))
@@ -174,42 +184,51 @@ module _ (l : Layout) (k : Lawful l) (a : l .angled ≡ true) (f : Frame) where
 
     tail-run : pack (floatSlots l ++ valueSlots) (fv ++ vv) ≡ flatMap (bytes 4) fv ++ vv
     tail-run =
-        pack-append (frontSize - headSize) valueCount floats-bits value-bits held-floats held-values
+        pack-append (frontSize l - headSize) valueCount floats-bits value-bits held-floats held-values
         ∙ rw (pack-each 4 floats-each held-floats, pack-each 1 values-each held-values, pack-bytes values-each held-values)
 
     pub pack-runs : pack (recordSlots l f) (hv ++ (fv ++ vv)) ≡ bytes headSize (number (headSlots l f) hv) ++ (flatMap (bytes 4) fv ++ vv)
     unfolding recordSlots
-    pack-runs = pack-append headSize (frontSize - headSize + valueCount) head-bits tail-bits held-head-run held-tail-run ∙ rw (head-run, tail-run)
+    pack-runs = pack-append headSize (frontSize l - headSize + valueCount) head-bits tail-bits held-head-run held-tail-run ∙ rw (head-run, tail-run)
 
   -- whether a record's values are right, from its runs
   pub right-runs : (hv fv vv : List ℕ) → length hv ≡ headFields → length fv ≡ floatWords →
-      recordRight l f (hv ++ (fv ++ vv)) ≡ (sound (headSlots l f) hv && (sound (floatSlots l) fv && sound valueSlots vv))
+      recordRight l f (hv ++ (fv ++ vv))
+      ≡ ((sound (headSlots l f) hv && (sound (floatSlots l) fv && sound valueSlots vv)) && (eqb (getD hv headWords 0) 0 || allZero vv))
   unfolding recordRight recordSlots
   right-runs hv fv vv lh lf =
-      sound-append (headSlots l f) (floatSlots l ++ valueSlots) hv (fv ++ vv) (sym lh)
-      ∙ ap (λ (b : Bool). sound (headSlots l f) hv && b) (sound-append (floatSlots l) valueSlots fv vv (sym lf))
+      let r : drop frontFields (hv ++ (fv ++ vv)) ≡ vv = past hv (fv ++ vv) headFields floatWords lh ∙ drop-at fv vv floatWords lf in
+      let b : getD (hv ++ (fv ++ vv)) headWords 0 ≡ getD hv headWords 0 = List·getD-append hv (fv ++ vv) 0 headWords (omega arith) in
+      ap (λ (c : Bool). c && (eqb (getD (hv ++ (fv ++ vv)) headWords 0) 0 || allZero (drop frontFields (hv ++ (fv ++ vv)))))
+      (sound-append (headSlots l f) (floatSlots l ++ valueSlots) hv (fv ++ vv) (sym lh)
+      ∙ ap (λ (c : Bool). sound (headSlots l f) hv && c) (sound-append (floatSlots l) valueSlots fv vv (sym lf)))
+      ∙ rw (r, b)
 
   -- the fields of a record's bytes, in runs
-  module _ (bs : List ℕ) (n : length bs ≡ frontSize + valueCount) (g : Bytes bs) where
-    whole : bs ≡ take headSize bs ++ (take (frontSize - headSize) (drop headSize bs) ++ drop frontSize bs)
-    whole = sym (ap (λ (t : List ℕ). take headSize bs ++ t) (ap (λ (t : List ℕ). take (frontSize - headSize) (drop headSize bs) ++ t) (sym (drop-drop (frontSize - headSize) headSize bs))
-        ∙ take-append-drop (frontSize - headSize) (drop headSize bs))
+  module _ (bs : List ℕ) (n : length bs ≡ frontSize l + valueCount) (g : Bytes bs) where
+    front : frontSize l ≡ headSize + (frontSize l - headSize)
+    front = omega (arith, sized)
+
+    whole : bs ≡ take headSize bs ++ (take (frontSize l - headSize) (drop headSize bs) ++ drop (frontSize l) bs)
+    whole = sym (ap (λ (t : List ℕ). take headSize bs ++ t) (ap (λ (t : List ℕ). take (frontSize l - headSize) (drop headSize bs) ++ t)
+        (ap (λ (m : ℕ). drop m bs) front ∙ sym (drop-drop (frontSize l - headSize) headSize bs))
+        ∙ take-append-drop (frontSize l - headSize) (drop headSize bs))
         ∙ take-append-drop headSize bs)
 
     pub fields-runs : unpack (recordSlots l f) bs
-        ≡ unpack (headSlots l f) (take headSize bs) ++ (unpack (floatSlots l) (take (frontSize - headSize) (drop headSize bs)) ++ drop frontSize bs)
+        ≡ unpack (headSlots l f) (take headSize bs) ++ (unpack (floatSlots l) (take (frontSize l - headSize) (drop headSize bs)) ++ drop (frontSize l) bs)
     unfolding recordSlots
     fields-runs =
         let x = take headSize bs in
-        let y = take (frontSize - headSize) (drop headSize bs) in
-        let z = drop frontSize bs in
+        let y = take (frontSize l - headSize) (drop headSize bs) in
+        let z = drop (frontSize l) bs in
         let lx : length (take headSize bs) ≡ headSize = rw length-take (omega arith) in
-        let ly : length (take (frontSize - headSize) (drop headSize bs)) ≡ frontSize - headSize = rw (length-take, length-drop) (omega arith) in
-        let lz : length (drop frontSize bs) ≡ valueCount = rw length-drop (omega arith) in
+        let ly : length (take (frontSize l - headSize) (drop headSize bs)) ≡ frontSize l - headSize = rw (length-take, length-drop) (omega arith) in
+        let lz : length (drop (frontSize l) bs) ≡ valueCount = rw length-drop (omega arith) in
         let gx = bytes-take headSize bs g in
-        let gy = bytes-take (frontSize - headSize) (drop headSize bs) (bytes-drop headSize bs g) in
-        let gz = bytes-drop frontSize bs g in
-        let lt : length (y ++ z) ≡ frontSize - headSize + valueCount = length-append y z ∙ rw (ly, lz) in
+        let gy = bytes-take (frontSize l - headSize) (drop headSize bs) (bytes-drop headSize bs g) in
+        let gz = bytes-drop (frontSize l) bs g in
+        let lt : length (y ++ z) ≡ frontSize l - headSize + valueCount = length-append y z ∙ rw (ly, lz) in
         ap (unpack (headSlots l f ++ (floatSlots l ++ valueSlots))) whole
         ∙ unpack-append (headSlots l f) (floatSlots l ++ valueSlots) x (y ++ z) (head-bits ∙ ap (λ (m : ℕ). 8 * m) (sym lx)) (tail-bits ∙ ap (λ (m : ℕ). 8 * m) (sym lt)) gx (both-bytes y z gy gz)
         ∙ ap (λ (t : List ℕ). unpack (headSlots l f) x ++ t)
@@ -218,24 +237,27 @@ module _ (l : Layout) (k : Lawful l) (a : l .angled ≡ true) (f : Frame) where
 
     -- whether they are right: a byte always lies in its range
     pub bytes-runs : recordRight l f (unpack (recordSlots l f) bs)
-        ≡ (sound (headSlots l f) (unpack (headSlots l f) (take headSize bs)) && sound (floatSlots l) (unpack (floatSlots l) (take (frontSize - headSize) (drop headSize bs))))
+        ≡ ((sound (headSlots l f) (unpack (headSlots l f) (take headSize bs)) && sound (floatSlots l) (unpack (floatSlots l) (take (frontSize l - headSize) (drop headSize bs))))
+        && (eqb (getD (unpack (headSlots l f) (take headSize bs)) headWords 0) 0 || allZero (drop (frontSize l) bs)))
     bytes-runs =
         let hv = unpack (headSlots l f) (take headSize bs) in
-        let fv = unpack (floatSlots l) (take (frontSize - headSize) (drop headSize bs)) in
+        let fv = unpack (floatSlots l) (take (frontSize l - headSize) (drop headSize bs)) in
+        let vv = drop (frontSize l) bs in
         ap (recordRight l f) fields-runs
-        ∙ right-runs hv fv (drop frontSize bs) (length-unpack (headSlots l f) (take headSize bs)) (length-unpack (floatSlots l) (take (frontSize - headSize) (drop headSize bs)))
-        ∙ ap (λ (b : Bool). sound (headSlots l f) hv && (sound (floatSlots l) fv && b)) (sound-bytes valueCount (drop frontSize bs) (rw length-drop (omega arith)) (bytes-drop frontSize bs g))
-        ∙ ap (λ (b : Bool). sound (headSlots l f) hv && b) (and-true (sound (floatSlots l) fv))
+        ∙ right-runs hv fv vv (length-unpack (headSlots l f) (take headSize bs)) (length-unpack (floatSlots l) (take (frontSize l - headSize) (drop headSize bs)))
+        ∙ ap (λ (b : Bool). (sound (headSlots l f) hv && (sound (floatSlots l) fv && b)) && (eqb (getD hv headWords 0) 0 || allZero vv))
+        (sound-bytes valueCount vv (rw length-drop (omega (arith, sized))) (bytes-drop (frontSize l) bs g))
+        ∙ ap (λ (b : Bool). (sound (headSlots l f) hv && b) && (eqb (getD hv headWords 0) 0 || allZero vv)) (and-true (sound (floatSlots l) fv))
 
     -- a record's words, from its bytes
     pub words-runs : worded l (unpack (recordSlots l f) bs)
         ≡ take headWords (unpack (headSlots l f) (take headSize bs))
-        ++ (unpack (floatSlots l) (take (frontSize - headSize) (drop headSize bs))
-        ++ (drop frontSize bs ++ (cond (l .marked) (getD (unpack (headSlots l f) (take headSize bs)) headWords 0) (blankOf (drop frontSize bs)) ∷ [])))
+        ++ (unpack (floatSlots l) (take (frontSize l - headSize) (drop headSize bs))
+        ++ (drop (frontSize l) bs ++ (cond (l .marked) (getD (unpack (headSlots l f) (take headSize bs)) headWords 0) (unknownOf (drop (frontSize l) bs)) ∷ [])))
     words-runs =
         ap (worded l) fields-runs
-        ∙ worded-runs l (unpack (headSlots l f) (take headSize bs)) (unpack (floatSlots l) (take (frontSize - headSize) (drop headSize bs))) (drop frontSize bs)
-        (length-unpack (headSlots l f) (take headSize bs)) (length-unpack (floatSlots l) (take (frontSize - headSize) (drop headSize bs)))
+        ∙ worded-runs l (unpack (headSlots l f) (take headSize bs)) (unpack (floatSlots l) (take (frontSize l - headSize) (drop headSize bs))) (drop (frontSize l) bs)
+        (length-unpack (headSlots l f) (take headSize bs)) (length-unpack (floatSlots l) (take (frontSize l - headSize) (drop headSize bs)))
 
   rest-bits : bits (slot (cond (l .angled) 32 0) 0 (cond (l .angled) largestAngle 0) ∷ []) ≡ 8 * 4
   unfolding bits
@@ -255,11 +277,13 @@ module _ (l : Layout) (k : Lawful l) (a : l .angled ≡ true) (f : Frame) where
 
   -- the five floats at `at`
   pub floats-at : (at : ℕ) (bs : List ℕ) → at + 20 ≤ length bs → Bytes bs →
-      unpack (floatSlots l) (take (frontSize - headSize) (drop at bs))
+      unpack (floatSlots l) (take (frontSize l - headSize) (drop at bs))
       ≡ value (take 4 (drop at bs)) ∷ value (take 4 (drop (at + 4) bs)) ∷ value (take 4 (drop (at + 8) bs)) ∷ value (take 4 (drop (at + 12) bs)) ∷ value (take 4 (drop (at + 16) bs)) ∷ []
   unfolding bits
   floats-at at bs r g =
-      four-bytes _ _ 16 at (at + 4) bs refl rest-bits-4 (omega arith) g refl
+      let m : frontSize l - headSize ≡ 20 = omega (arith, sized) in
+      ap (λ (k : ℕ). unpack (floatSlots l) (take k (drop at bs))) m
+      ∙ four-bytes _ _ 16 at (at + 4) bs refl rest-bits-4 (omega arith) g refl
       ∙ ap (λ (t : List ℕ). value (take 4 (drop at bs)) ∷ t) (four-bytes _ _ 12 (at + 4) (at + 8) bs refl rest-bits-3 (omega arith) g (omega arith)
       ∙ ap (λ (t : List ℕ). value (take 4 (drop (at + 4) bs)) ∷ t) (four-bytes _ _ 8 (at + 8) (at + 12) bs refl rest-bits-2 (omega arith) g (omega arith)
       ∙ ap (λ (t : List ℕ). value (take 4 (drop (at + 8) bs)) ∷ t) (four-bytes _ _ 4 (at + 12) (at + 16) bs refl rest-bits (omega arith) g (omega arith)

@@ -3,7 +3,7 @@ use mathlib.Core.Path.{_≡_, refl, sym, ap, _∙_}
 use mathlib.Core.Bool.{Bool, true, false, _&&_, and-false}
 use mathlib.Core.List.{List, [], _∷_, _++_, flatMap}
 use Prim.Native.Nat.{ℕ, zero, suc, _+_, _-_, _*_, _/_, _%_, _≤_, _<_}
-use native.Mathlib.Nat.{add-zero, not-suc-le-zero, mul-zero, mul-suc, mul-add, sub-zero}
+use native.Mathlib.Nat.{add-zero, not-suc-le-zero, mul-zero, mul-suc, mul-add, mul-le-mul-left, sub-zero}
 use native.Mathlib.Numerals.{add-one}
 use native.Mathlib.Omega.{arith}
 use borrow.Author.Tests.{le-leb, lt-leb, ne-eqb}
@@ -127,6 +127,10 @@ pass-end p k n i ws h =
 
 pub pass-start : (p : List ℕ → Bool) (k n : ℕ) (ws : List ℕ) → allPass p (parts k (n - 0) (drop (k * 0) ws)) ≡ allPass p (parts k n ws)
 pass-start p k n ws = rw (mul-zero, sub-zero)
+
+-- a part of k elements before the last of n lies inside them
+pub step-inside : (k n i : ℕ) → i < n → k * i + k ≤ k * n
+step-inside k n i h = rw (← mul-suc) (mul-le-mul-left k h)
 
 -- what parts are mapped to, where each is m long
 pub length-all : (F : List ℕ → List ℕ) (m : ℕ) → ((w : List ℕ) → length (F w) ≡ m) → (k n : ℕ) (ws : List ℕ) → length (flatMap F (parts k n ws)) ≡ m * n

@@ -75,7 +75,7 @@ module _ (l : Layout) (k : Lawful l) (s : Sheet) where
       let u = held-tail t in
       record { width = held-head t; height = held-head u; layers = omega (arith, held-head (held-tail u)) }
 
-  record-length : (v : List ℕ) → length (pack (recordSlots l (s .frame)) v) ≡ recordSize l
+  pub record-length : (v : List ℕ) → length (pack (recordSlots l (s .frame)) v) ≡ recordSize l
   record-length v = length-pack (recordSlots l (s .frame)) v ∙ ap (λ (n : ℕ). n / 8) (record-bits l (s .frame) k) ∙ eight (recordSize l)
 
   pub read-records : Right → readSheet l (sheetBytes l s) .records ≡ s .records

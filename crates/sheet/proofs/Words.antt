@@ -9,7 +9,7 @@ use lib.ListN.{length, getD, take, drop, length-append, length-take, length-drop
 use lib.Seq.{take-at, drop-at, take-all, take-add, take-nil, drop-drop, drop-cons, drop-append-add, getD-append-add, getD-drop}
 use Rattle.params.specs.Limits.{valueCount}
 use Rattle.sheet.specs.Layout.{Layout, markBits}
-use Rattle.sheet.specs.Words.{plainWords, readWords, headWords, headFields, frontFields, frontWords, takenWords, filled, blankOf, worded, withBlank}
+use Rattle.sheet.specs.Words.{plainWords, readWords, headWords, headFields, frontFields, frontWords, takenWords, filled, unknownOf, worded, withBlank}
 
 pub drop-take : (k m : ℕ) (l : List ℕ) → drop k (take (k + m) l) ≡ take m (drop k l)
 drop-take zero m l = ap (λ (n : ℕ). take n l) (zero-add m)
@@ -20,7 +20,7 @@ drop-take (suc k) m (x ∷ l) = ap (λ (n : ℕ). drop (suc k) (take n (x ∷ l)
 pub past : (p ys : List ℕ) (n k : ℕ) → length p ≡ n → drop (n + k) (p ++ ys) ≡ drop k ys
 past p ys n k e = ap (λ (j : ℕ). drop (j + k) (p ++ ys)) (sym e) ∙ drop-append-add p ys k
 
-past-at : (p ys : List ℕ) (n k : ℕ) → length p ≡ n → getD (p ++ ys) (n + k) 0 ≡ getD ys k 0
+pub past-at : (p ys : List ℕ) (n k : ℕ) → length p ≡ n → getD (p ++ ys) (n + k) 0 ≡ getD ys k 0
 past-at p ys n k e = ap (λ (j : ℕ). getD (p ++ ys) (j + k) 0) (sym e) ∙ getD-append-add p ys k 0
 
 -- words in three runs, as values
@@ -35,7 +35,7 @@ filled-is p t q lp lt =
 
 -- values in three runs, as words
 pub worded-is : (l : Layout) (p t : List ℕ) (b z : ℕ) → length p ≡ headWords →
-    worded l (p ++ (b ∷ z ∷ t)) ≡ p ++ (t ++ (cond (l .marked) b (blankOf (drop headWords t)) ∷ []))
+    worded l (p ++ (b ∷ z ∷ t)) ≡ p ++ (t ++ (cond (l .marked) b (unknownOf (drop headWords t)) ∷ []))
 unfolding worded
 worded-is l p t b z lp =
     let a : take headWords (p ++ (b ∷ z ∷ t)) ≡ p = take-at p (b ∷ z ∷ t) headWords lp in
@@ -62,12 +62,12 @@ worded-filled l w h =
     let v : drop headWords t ≡ take valueCount (drop frontWords w) = drop-take headWords valueCount (drop headWords w) ∙ ap (take valueCount) (drop-drop headWords headWords w) in
     ap (worded l) (ap filled (words-split w) ∙ filled-is p t (drop plainWords w) lp lt)
     ∙ worded-is l p t (getD (drop plainWords w) 0 0) 0 lp
-    ∙ ap (λ (n : ℕ). p ++ (t ++ (cond (l .marked) n (blankOf (drop headWords t)) ∷ []))) q
-    ∙ ap (λ (vs : List ℕ). p ++ (t ++ (cond (l .marked) (getD w plainWords 0) (blankOf vs) ∷ []))) v
+    ∙ ap (λ (n : ℕ). p ++ (t ++ (cond (l .marked) n (unknownOf (drop headWords t)) ∷ []))) q
+    ∙ ap (λ (vs : List ℕ). p ++ (t ++ (cond (l .marked) (getD w plainWords 0) (unknownOf vs) ∷ []))) v
     ∙ sym (append-assoc p t _)
-    ∙ ap (λ (x : List ℕ). x ++ (cond (l .marked) (getD w plainWords 0) (blankOf (take valueCount (drop frontWords w))) ∷ [])) (sym (take-add headWords (plainWords - headWords) w))
+    ∙ ap (λ (x : List ℕ). x ++ (cond (l .marked) (getD w plainWords 0) (unknownOf (take valueCount (drop frontWords w))) ∷ [])) (sym (take-add headWords (plainWords - headWords) w))
 
-fill-back : (m : Bool) (p t : List ℕ) (b y : ℕ) → length p ≡ headWords → length t ≡ plainWords - headWords → b ≤ cond m 1 0 →
+pub fill-back : (m : Bool) (p t : List ℕ) (b y : ℕ) → length p ≡ headWords → length t ≡ plainWords - headWords → b ≤ cond m 1 0 →
     filled (take (cond m readWords plainWords) (p ++ (t ++ (cond m b y ∷ [])))) ≡ p ++ (b ∷ 0 ∷ t)
 fill-back true p t b y lp lt h =
     ap filled (take-all readWords (p ++ (t ++ (b ∷ []))) (rw (length-append, length-append) (omega arith)))
@@ -110,7 +110,7 @@ filled-worded l v h =
     let s : v ≡ p ++ (b ∷ 0 ∷ t) = values-split v (omega arith) ∙ ap (λ (z : ℕ). take headWords v ++ (getD v headWords 0 ∷ z ∷ drop headFields v)) (h .zeros) in
     ap (λ (x : List ℕ). filled (take (takenWords l) (worded l x))) s
     ∙ ap (λ (x : List ℕ). filled (take (takenWords l) x)) (worded-is l p t b 0 lp)
-    ∙ fill-back (l .marked) p t b (blankOf (drop headWords t)) lp lt (h .blank)
+    ∙ fill-back (l .marked) p t b (unknownOf (drop headWords t)) lp lt (h .blank)
     ∙ sym s
 
 pub length-worded : (l : Layout) (v : List ℕ) → length v ≡ fieldCount → length (worded l v) ≡ readWords

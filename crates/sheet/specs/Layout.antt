@@ -2,6 +2,7 @@
 use mathlib.Core.Bool.{Bool, true, false, cond}
 use mathlib.Core.List.{List, [], _∷_, _++_}
 use Prim.Native.Nat.{ℕ, _+_, _-_, _*_, _^_}
+use lib.Dec.{eqb}
 use lib.ListN.{replicate}
 use Rattle.params.specs.Limits.{maxLayers, maxOctave, valueCount}
 use Rattle.sheet.specs.Pack.{Slot, slot}
@@ -13,8 +14,20 @@ pub record Layout : Type 0 where
   pub marked : Bool  -- the header has a rule bit, and each record a blank bit
   pub angled : Bool  -- each record has an angle
 
+-- the editions: the first, and that whose records say whether they are blank
 abbrev pub edition1 : Layout
 edition1 = record { edition = 1; side = 13; marked = false; angled = true }
+
+abbrev pub edition2 : Layout
+edition2 = record { edition = 2; side = 13; marked = true; angled = true }
+
+-- the layout of an edition's number. A number that is no edition's has that of edition 1, which does not state it.
+unfoldable pub layoutOf : ℕ → Layout
+layoutOf n = cond (eqb n 2) edition2 edition1
+
+-- a number is an edition's
+unfoldable pub known : ℕ → Bool
+known n = eqb (layoutOf n .edition) n
 
 -- what a sheet's header says of its frame: width, height, layers, and the rule less 1 (0 where it has no rule bit)
 pub record Frame : Type 0 where
@@ -33,6 +46,10 @@ maxCount = 1_048_575
 abbrev pub markBits : Layout → ℕ
 markBits l = cond (l .marked) 1 0
 
+-- the largest that a rule bit says: there is one rule
+abbrev pub topRule : Layout → ℕ
+topRule l = 0
+
 -- Rule S2: edition, width less 1, height less 1, layers, count, and spare bits that are 0 and fill the 64.
 -- The first of the spare bits is the rule bit of a layout that is marked.
 abbrev pub headerSlots : Layout → List Slot
@@ -42,7 +59,7 @@ headerSlots l =
     slot (l .side) 0 (2 ^ l .side - 1) ∷
     slot 4 1 maxLayers ∷
     slot 20 0 maxCount ∷
-    slot (markBits l) 0 (markBits l) ∷
+    slot (markBits l) 0 (topRule l) ∷
     slot (36 - (2 * l .side + markBits l)) 0 0 ∷ []
 
 abbrev pub headerValues : Layout → Frame → ℕ → List ℕ
@@ -56,8 +73,8 @@ recordSize l = cond (l .angled) 154 150
 abbrev pub headSize : ℕ
 headSize = 6
 
-abbrev pub frontSize : ℕ
-frontSize = 26
+abbrev pub frontSize : Layout → ℕ
+frontSize l = recordSize l - valueCount
 
 -- Rule S3, the whole numbers: row and column inside the frame, octave, layer up to the header's, code, and spare bits that are 0 and fill the 48.
 -- The first of the spare bits is the blank bit of a layout that is marked.

@@ -1,7 +1,7 @@
 pub mod Pack
 pub mod Layout
-pub mod Sheet
 pub mod Words
+pub mod Sheet
 pub mod Writes
 pub mod Reads
 pub mod Trip

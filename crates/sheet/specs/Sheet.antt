@@ -1,11 +1,12 @@
 -- A sheet: the rules that it keeps, its bytes, and what bytes say. Definitions only.
-use mathlib.Core.Bool.{Bool, true, _&&_}
+use mathlib.Core.Bool.{Bool, true, _&&_, _||_}
 use mathlib.Core.List.{List, [], _∷_, _++_, map, flatMap}
 use Prim.Native.Nat.{ℕ, zero, suc, _+_, _*_}
 use lib.Dec.{leb, eqb}
 use lib.ListN.{length, getD, take, drop}
 use Rattle.sheet.specs.Pack.{pack, unpack, sound}
 use Rattle.sheet.specs.Layout.{Layout, Frame, headerSize, headerSlots, headerValues, recordSize, recordSlots}
+use Rattle.sheet.specs.Words.{headWords, frontFields, allZero}
 
 -- n parts of a list, each k long
 unfoldable pub parts : ℕ → ℕ → List ℕ → List (List ℕ)
@@ -22,9 +23,13 @@ pub record Sheet : Type 0 where
   pub frame : Frame
   pub records : List (List ℕ)
 
+-- a record that is blank has no value but 0
+abbrev pub blankRight : List ℕ → Bool
+blankRight v = eqb (getD v headWords 0) 0 || allZero (drop frontFields v)
+
 -- the rules of a record
 unfoldable pub recordRight : Layout → Frame → List ℕ → Bool
-recordRight l f v = sound (recordSlots l f) v
+recordRight l f v = sound (recordSlots l f) v && blankRight v
 
 -- the rules of a sheet
 unfoldable pub sheetRight : Layout → Sheet → Bool

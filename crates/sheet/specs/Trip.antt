@@ -7,10 +7,10 @@ use lib.ListN.{length, take, drop}
 use Rattle.params.specs.Limits.{maxSide}
 use Rattle.params.specs.declared.Answer.the-variants.{Done}
 use Rattle.sheet.specs.Pack.{Bytes}
-use Rattle.sheet.specs.Layout.{Layout, Frame, edition1, markBits}
+use Rattle.sheet.specs.Layout.{Layout, Frame, layoutOf, markBits, topRule}
 use Rattle.sheet.specs.Sheet.{parts, readFrame}
 use Rattle.sheet.specs.Words.{readWords, takenWords, withBlank}
-use Rattle.sheet.specs.Writes.{frameOf, countIn, recordsOf, writeFault, written, writeAnswer, writeOut}
+use Rattle.sheet.specs.Writes.{frameOf, countIn, recordsOf, layoutFault, written, writeAnswer, writeOut}
 use Rattle.sheet.specs.Reads.{readFault, wordsIn, readAnswer, readOut}
 
 -- What the trip asks of a layout: the edition's number fits its four bits, and the sides leave room for the other fields of header and record.
@@ -25,7 +25,7 @@ handedBack l ws = flatMap (take (takenWords l)) (parts readWords (length ws / re
 -- 1. What the writer accepts is accepted by the reader, which gives back the frame and each record, with the added word.
 abbrev pub ReadsBack : Layout → Type 0
 ReadsBack l =
-    (f : Frame) (ws : List ℕ) → f .rule ≤ markBits l → writeFault l f ws ≡ 0 →
+    (f : Frame) (ws : List ℕ) → f .rule ≤ topRule l → layoutFault l f ws ≡ 0 →
     (readFault l (written l f ws) ≡ 0) × (readFrame l (written l f ws) ≡ f) × (wordsIn l (written l f ws) ≡ flatMap (withBlank l) (recordsOf l ws))
 
 -- 2. Bytes that the reader accepts are those that the writer makes of the frame and the records that the reader gave; and the writer accepts these,
@@ -33,7 +33,7 @@ ReadsBack l =
 abbrev pub WritesBack : Layout → Type 0
 WritesBack l =
     (bs : List ℕ) → Bytes bs → readFault l bs ≡ 0 →
-    (written l (readFrame l bs) (handedBack l (wordsIn l bs)) ≡ bs) × (2 ^ l .side ≤ maxSide → writeFault l (readFrame l bs) (handedBack l (wordsIn l bs)) ≡ 0)
+    (written l (readFrame l bs) (handedBack l (wordsIn l bs)) ≡ bs) × (2 ^ l .side ≤ maxSide → layoutFault l (readFrame l bs) (handedBack l (wordsIn l bs)) ≡ 0)
 
 -- 3. Bytes that read the same are the same.
 abbrev pub ReadsOnce : Layout → Type 0
@@ -41,41 +41,42 @@ ReadsOnce l =
     (cs bs : List ℕ) → Bytes cs → Bytes bs → readFault l cs ≡ 0 → readFault l bs ≡ 0 →
     readFrame l cs ≡ readFrame l bs → wordsIn l cs ≡ wordsIn l bs → cs ≡ bs
 
--- Of the public entries. 1: `write_sheet` answered that it wrote n bytes; `read_sheet` on these n, with room, answers the frame and the count and gives the records.
+-- Of the public entries, for every edition at once. 1: `write_sheet` answered that it wrote n bytes; `read_sheet` on these n, with room, answers the edition, the frame and
+-- the count and gives the records.
 abbrev pub WrittenIsRead : Type 0
 WrittenIsRead =
-    (width height layers : ℕ) (words out room : List ℕ) (n : ℕ) →
-    writeAnswer edition1 (frameOf width height layers) words (length out) ≡ Done n →
-    readWords * countIn edition1 words ≤ length room →
-    (readAnswer edition1 (take n (writeOut edition1 (frameOf width height layers) words out)) (length room)
-    ≡ record { answer = Done (countIn edition1 words); width = width; height = height; layers = layers })
-    × (readOut edition1 (take n (writeOut edition1 (frameOf width height layers) words out)) room
-    ≡ flatMap (withBlank edition1) (recordsOf edition1 words) ++ drop (readWords * countIn edition1 words) room)
+    (edition width height layers : ℕ) (words out room : List ℕ) (n : ℕ) →
+    writeAnswer edition (frameOf width height layers) words (length out) ≡ Done n →
+    readWords * countIn (layoutOf edition) words ≤ length room →
+    (readAnswer (take n (writeOut edition (frameOf width height layers) words out)) (length room)
+    ≡ record { answer = Done (countIn (layoutOf edition) words); edition = edition; width = width; height = height; layers = layers })
+    × (readOut (take n (writeOut edition (frameOf width height layers) words out)) room
+    ≡ flatMap (withBlank (layoutOf edition)) (recordsOf (layoutOf edition) words) ++ drop (readWords * countIn (layoutOf edition) words) room)
 
 -- 2: `read_sheet` answered that it gave n records; `write_sheet` on what it answered and gave, with room, writes the sheet again.
 abbrev pub ReadIsWritten : Type 0
 ReadIsWritten =
-    (sheet room out : List ℕ) (width height layers n : ℕ) → Bytes sheet →
-    readAnswer edition1 sheet (length room) ≡ record { answer = Done n; width = width; height = height; layers = layers } →
+    (sheet room out : List ℕ) (edition width height layers n : ℕ) → Bytes sheet →
+    readAnswer sheet (length room) ≡ record { answer = Done n; edition = edition; width = width; height = height; layers = layers } →
     length sheet ≤ length out →
-    (writeAnswer edition1 (frameOf width height layers) (handedBack edition1 (take (readWords * n) (readOut edition1 sheet room))) (length out) ≡ Done (length sheet))
-    × (writeOut edition1 (frameOf width height layers) (handedBack edition1 (take (readWords * n) (readOut edition1 sheet room))) out
+    (writeAnswer edition (frameOf width height layers) (handedBack (layoutOf edition) (take (readWords * n) (readOut sheet room))) (length out) ≡ Done (length sheet))
+    × (writeOut edition (frameOf width height layers) (handedBack (layoutOf edition) (take (readWords * n) (readOut sheet room))) out
     ≡ sheet ++ drop (length sheet) out)
 
 -- 3: two sheets for which `read_sheet` answers the same n records and gives the same words are the same bytes.
 abbrev pub ReadOnce : Type 0
 ReadOnce =
-    (one other room : List ℕ) (width height layers n : ℕ) → Bytes one → Bytes other →
-    readAnswer edition1 one (length room) ≡ record { answer = Done n; width = width; height = height; layers = layers } →
-    readAnswer edition1 other (length room) ≡ record { answer = Done n; width = width; height = height; layers = layers } →
-    readOut edition1 one room ≡ readOut edition1 other room → one ≡ other
+    (one other room : List ℕ) (edition width height layers n : ℕ) → Bytes one → Bytes other →
+    readAnswer one (length room) ≡ record { answer = Done n; edition = edition; width = width; height = height; layers = layers } →
+    readAnswer other (length room) ≡ record { answer = Done n; edition = edition; width = width; height = height; layers = layers } →
+    readOut one room ≡ readOut other room → one ≡ other
 
--- All of it: every lawful layout makes the trip, edition 1 is lawful, and so the public entries make it.
+-- All of it: every lawful layout makes the trip, that of each edition is lawful, and so the public entries make it.
 pub record TripRule : Type 0 where
   pub reads-back : (l : Layout) → Lawful l → ReadsBack l
   pub writes-back : (l : Layout) → Lawful l → WritesBack l
   pub reads-once : (l : Layout) → Lawful l → ReadsOnce l
-  pub edition1-lawful : Lawful edition1
+  pub editions-lawful : (edition : ℕ) → Lawful (layoutOf edition)
   pub written-is-read : WrittenIsRead
   pub read-is-written : ReadIsWritten
   pub read-once : ReadOnce

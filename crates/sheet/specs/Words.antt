@@ -46,13 +46,13 @@ unfoldable pub allZero : List ℕ → Bool
 allZero [] = true
 allZero (v ∷ vs) = eqb v 0 && allZero vs
 
--- rule S8: a record all of whose values are 0 is blank
-abbrev pub blankOf : List ℕ → ℕ
-blankOf values = cond (allZero values) 1 0
+-- rule S8, where the layout has no blank bit: values that are all 0 leave it unknown, 2, whether any cell was read for them
+abbrev pub unknownOf : List ℕ → ℕ
+unknownOf values = cond (allZero values) 2 0
 
 -- the added word: the blank bit where the layout has one
 abbrev pub blankWord : Layout → List ℕ → ℕ
-blankWord l v = cond (l .marked) (getD v headWords 0) (blankOf (drop frontFields v))
+blankWord l v = cond (l .marked) (getD v headWords 0) (unknownOf (drop frontFields v))
 
 -- a record's words as the reader gives them, from the values of its slots
 unfoldable pub worded : Layout → List ℕ → List ℕ
@@ -60,4 +60,4 @@ worded l v = take headWords v ++ (drop headFields v ++ (blankWord l v ∷ []))
 
 -- a record's words as they were handed in, with the added word
 unfoldable pub withBlank : Layout → List ℕ → List ℕ
-withBlank l w = take plainWords w ++ (cond (l .marked) (getD w plainWords 0) (blankOf (take valueCount (drop frontWords w))) ∷ [])
+withBlank l w = take plainWords w ++ (cond (l .marked) (getD w plainWords 0) (unknownOf (take valueCount (drop frontWords w))) ∷ [])

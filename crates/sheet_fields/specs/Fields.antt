@@ -1,11 +1,11 @@
--- Inner: a header's fields, and a record's whole numbers and floats, as the values of their slots at edition 1, and what has room there; and a frame for where only the widths of slots matter. Definitions only.
+-- Inner: a header's fields, and a record's whole numbers and floats, as the values of their slots, and what has room there; and a frame for where only the widths of slots matter. Definitions only.
 use mathlib.Core.Bool.{Bool}
 use mathlib.Core.List.{List, [], _∷_, _++_}
-use Prim.Native.Nat.{ℕ, _-_, _^_, _≤_, _<_}
+use Prim.Native.Nat.{ℕ, _-_, _^_, _<_}
 use lib.ListN.{take, drop}
 use Rattle.params.specs.Limits.{maxSide, maxLayers}
-use Rattle.sheet.specs.Pack.{pack, unpack}
-use Rattle.sheet.specs.Layout.{Frame, edition1, maxCount, headSize, frontSize, headSlots, floatSlots, recordSlots}
+use Rattle.sheet.specs.Pack.{pack, unpack, Held}
+use Rattle.sheet.specs.Layout.{Layout, Frame, headerSlots, headSize, frontSize, headSlots, floatSlots, recordSlots}
 use Rattle.sheet.specs.Sheet.{recordRight}
 use Rattle.sheet.specs.Words.{headWords, filled, worded}
 use Rattle.sheet.specs.Writes.{frameOf}
@@ -13,31 +13,24 @@ use Rattle.sheet_fields.specs.declared.Header.{Header}
 use Rattle.sheet_fields.specs.declared.Head.{Head}
 use Rattle.sheet_fields.specs.declared.Floats.{Floats}
 
--- there is no rule bit
 abbrev pub headerList : Header → List ℕ
-headerList h = h .edition ∷ h .width ∷ h .height ∷ h .layers ∷ h .count ∷ 0 ∷ h .zero ∷ []
+headerList h = h .edition ∷ h .width ∷ h .height ∷ h .layers ∷ h .count ∷ h .rule ∷ h .zero ∷ []
 
-pub record HeaderFits (h : Header) : Type 0 where
-  pub width : h .width < 2 ^ edition1 .side
-  pub height : h .height < 2 ^ edition1 .side
-  pub layers : h .layers < 2 ^ 4
-  pub count : h .count ≤ maxCount
-
--- there is no blank bit
 abbrev pub headValues : Head → List ℕ
-headValues h = h .row ∷ h .column ∷ h .octave ∷ h .layer ∷ h .code ∷ 0 ∷ h .zero ∷ []
-
--- each has room in its bits
-pub record HeadFits (h : Head) : Type 0 where
-  pub row : h .row < 2 ^ edition1 .side
-  pub column : h .column < 2 ^ edition1 .side
-  pub octave : h .octave < 2 ^ 4
-  pub layer : h .layer < 2 ^ 4
-  pub code : h .code < 2 ^ 8
-  pub zero : h .zero < 2 ^ 6
+headValues h = h .row ∷ h .column ∷ h .octave ∷ h .layer ∷ h .code ∷ h .blank ∷ h .zero ∷ []
 
 abbrev pub floatValues : Floats → List ℕ
 floatValues f = f .x ∷ f .y ∷ f .size ∷ f .response ∷ f .angle ∷ []
+
+abbrev pub anyFrame : Frame
+anyFrame = frameOf maxSide maxSide maxLayers
+
+-- each has room in its bits
+abbrev pub HeaderFits : Layout → Header → Type 0
+HeaderFits l h = Held (headerSlots l) (headerList h)
+
+abbrev pub HeadFits : Layout → Head → Type 0
+HeadFits l h = Held (headSlots l anyFrame) (headValues h)
 
 pub record FloatsFit (f : Floats) : Type 0 where
   pub x : f .x < 2 ^ 32
@@ -46,19 +39,16 @@ pub record FloatsFit (f : Floats) : Type 0 where
   pub response : f .response < 2 ^ 32
   pub angle : f .angle < 2 ^ 32
 
-abbrev pub anyFrame : Frame
-anyFrame = frameOf maxSide maxSide maxLayers
-
 -- a record's bytes, from its words
-abbrev pub wordsBytes : List ℕ → List ℕ
-wordsBytes w = pack (recordSlots edition1 anyFrame) (filled w)
+abbrev pub wordsBytes : Layout → List ℕ → List ℕ
+wordsBytes l w = pack (recordSlots l anyFrame) (filled w)
 
 -- a record's first ten words, all of them, from its bytes, and whether these keep the rules
-abbrev pub bytesFront : List ℕ → List ℕ
-bytesFront bs = take headWords (unpack (headSlots edition1 anyFrame) (take headSize bs)) ++ unpack (floatSlots edition1) (take (frontSize - headSize) (drop headSize bs))
+abbrev pub bytesFront : Layout → List ℕ → List ℕ
+bytesFront l bs = take headWords (unpack (headSlots l anyFrame) (take headSize bs)) ++ unpack (floatSlots l) (take (frontSize l - headSize) (drop headSize bs))
 
-abbrev pub bytesWords : List ℕ → List ℕ
-bytesWords bs = worded edition1 (unpack (recordSlots edition1 anyFrame) bs)
+abbrev pub bytesWords : Layout → List ℕ → List ℕ
+bytesWords l bs = worded l (unpack (recordSlots l anyFrame) bs)
 
-abbrev pub recordBytesRight : Frame → List ℕ → Bool
-recordBytesRight f bs = recordRight edition1 f (unpack (recordSlots edition1 f) bs)
+abbrev pub recordBytesRight : Layout → Frame → List ℕ → Bool
+recordBytesRight l f bs = recordRight l f (unpack (recordSlots l f) bs)

@@ -1,15 +1,19 @@
-// One record into the bytes of a sheet, edition 1: its words tested, and packed most significant bit first.
+// One record into the bytes of a sheet, of any edition: its words tested, and packed most significant bit first.
 ghost use mathlib.Core.Path.{_≡_};
+ghost use mathlib.Core.Bool.{_||_};
 ghost use mathlib.Core.List.{_∷_, [], _++_, flatMap};
 ghost use Prim.Native.Nat.{ℕ, _+_, _*_, _<_, _≤_};
+ghost use lib.Dec.{eqb};
 ghost use lib.ListN.{length, take, drop, getD};
 ghost use Rattle.lists.specs.Pasted.{pasted};
 ghost use Rattle.params.specs.Limits.{valueCount};
 ghost use Rattle.sheet.specs.Pack.{Held, bytes, sound};
-ghost use Rattle.sheet.specs.Layout.{edition1, recordSize, valueSlots, recordSlots};
-ghost use Rattle.sheet.specs.Words.{plainWords, headWords, floatWords, frontWords, filled};
+ghost use Rattle.sheet.specs.Layout.{recordSize, valueSlots, recordSlots};
+ghost use Rattle.sheet.specs.Words.{plainWords, takenWords, headWords, floatWords, frontWords, filled, allZero};
 ghost use Rattle.sheet.specs.Writes.{frameOf, wordsRight};
+ghost use Rattle.sheet_edition.specs.Edition.{layoutFor, Known};
 ghost use Rattle.sheet_fields.specs.Fields.{headValues, floatValues, anyFrame, wordsBytes};
+use sheet_edition::Edition;
 use sheet_fields::Floats;
 use sheet_fields::Head;
 
@@ -41,10 +45,20 @@ fn put_floats(words: &[u32], out: &mut [u8], at: usize)
     }
 }
 
-// A record's whole numbers.
+// The blank word, 0 where the words end before it.
+fn blank_of(words: &[u32]) -> u64
+    ensures { λ r. ⌜ r ≡ getD (now (words .entry)) plainWords 0 ⌝ }
+{
+    if words.len() > 138 {
+        return sheet_fields::wide(words[138]);
+    }
+    0
+}
+
+// A record's whole numbers and its blank word.
 fn head_of(words: &[u32]) -> Head
     requires { ⌜ plainWords ≤ length (now words) ⌝ }
-    ensures { λ r. ⌜ headValues r ≡ take headWords (now (words .entry)) ++ (0 ∷ 0 ∷ []) ⌝ }
+    ensures { λ r. ⌜ headValues r ≡ take headWords (now (words .entry)) ++ (getD (now (words .entry)) plainWords 0 ∷ 0 ∷ []) ⌝ }
 {
     Head {
         row: sheet_fields::wide(words[0]),
@@ -52,6 +66,7 @@ fn head_of(words: &[u32]) -> Head
         octave: sheet_fields::wide(words[2]),
         layer: sheet_fields::wide(words[3]),
         code: sheet_fields::wide(words[4]),
+        blank: blank_of(words),
         zero: 0,
     }
 }
@@ -70,17 +85,18 @@ fn floats_of(words: &[u32]) -> Floats
     }
 }
 
-// Writes a record's 154 bytes at the place `at`: 6 of whole numbers, 20 of floats, 128 values.
-pub fn put_record(words: &[u32], out: &mut [u8], at: usize)
-    requires { ⌜ length (now words) ≡ plainWords ⌝ }
-    requires { ⌜ at + recordSize edition1 ≤ length (now out) ⌝ }
-    requires { ⌜ Held (recordSlots edition1 anyFrame) (filled (now words)) ⌝ }
-    ensures { λ _. ⌜ now (out .exit) ≡ pasted at (wordsBytes (now (words .entry))) (now (out .entry)) ⌝ }
+// Writes a record's bytes at the place `at`: 6 of whole numbers, the floats', and the 128 values, which are the last.
+pub fn put_record(e: Edition, words: &[u32], out: &mut [u8], at: usize)
+    requires { ⌜ Known e ⌝ }
+    requires { ⌜ length (now words) ≡ takenWords (layoutFor e) ⌝ }
+    requires { ⌜ at + recordSize (layoutFor e) ≤ length (now out) ⌝ }
+    requires { ⌜ Held (recordSlots (layoutFor e) anyFrame) (filled (now words)) ⌝ }
+    ensures { λ _. ⌜ now (out .exit) ≡ pasted at (wordsBytes (layoutFor e) (now (words .entry))) (now (out .entry)) ⌝ }
 {
-    let head = sheet_fields::head_number(head_of(words));
+    let head = sheet_fields::head_number(e, head_of(words));
     sheet_fields::put(out, at, head, 6);
     put_floats(words, out, at + 6);
-    put_values(words, out, at + 26);
+    put_values(words, out, at + (e.bytes - 128));
 }
 
 // Whether a record's 128 values are bytes.
@@ -98,14 +114,42 @@ fn values_right(words: &[u32]) -> bool
     true
 }
 
-// Whether a record keeps the rules of a sheet of that width, height and layers.
-pub fn record_right(width: u64, height: u64, layers: u64, words: &[u32]) -> bool
-    requires { ⌜ (1 ≤ width) × (1 ≤ height) ⌝ }
-    requires { ⌜ length (now words) ≡ plainWords ⌝ }
-    ensures { λ r. ⌜ r ≡ wordsRight edition1 (frameOf width height layers) (now (words .entry)) ⌝ }
+// Whether they are all 0.
+fn values_zero(words: &[u32]) -> bool
+    requires { ⌜ plainWords ≤ length (now words) ⌝ }
+    ensures { λ r. ⌜ r ≡ allZero (take valueCount (drop frontWords (now (words .entry)))) ⌝ }
 {
-    let head = sheet_fields::head_right(width, height, layers, head_of(words));
-    let floats = sheet_fields::floats_right(floats_of(words));
+    let mut i = 0;
+    while i < 128 {
+        if words[10 + i] != 0 {
+            return false;
+        }
+        i += 1;
+    }
+    true
+}
+
+// Whether a record that is blank has no value but 0.
+fn blank_right(words: &[u32]) -> bool
+    requires { ⌜ plainWords ≤ length (now words) ⌝ }
+    ensures { λ r. ⌜ r ≡ (eqb (getD (now (words .entry)) plainWords 0) 0 || allZero (take valueCount (drop frontWords (now (words .entry))))) ⌝ }
+{
+    if blank_of(words) == 0 {
+        return true;
+    }
+    values_zero(words)
+}
+
+// Whether a record keeps the rules of a sheet of that width, height and layers.
+pub fn record_right(e: Edition, width: u64, height: u64, layers: u64, words: &[u32]) -> bool
+    requires { ⌜ Known e ⌝ }
+    requires { ⌜ (1 ≤ width) × (1 ≤ height) ⌝ }
+    requires { ⌜ length (now words) ≡ takenWords (layoutFor e) ⌝ }
+    ensures { λ r. ⌜ r ≡ wordsRight (layoutFor e) (frameOf width height layers) (now (words .entry)) ⌝ }
+{
+    let head = sheet_fields::head_right(e, width, height, layers, head_of(words));
+    let floats = sheet_fields::floats_right(e, floats_of(words));
     let values = values_right(words);
-    head & (floats & values)
+    let blank = blank_right(words);
+    (head & (floats & values)) & blank
 }

@@ -23,7 +23,10 @@ returns c =
       c .number-of .ensures ∙ ap (λ (r : Read). numberOf (r .answer)) (told .0),
       (
         c .before .count-of .ensures ∙ ap (λ (r : Read). countOf (r .answer)) (told .0),
-        (ap (λ (r : Read). r .width) (told .0), (ap (λ (r : Read). r .height) (told .0), (ap (λ (r : Read). r .layers) (told .0), told .1))),
+        (
+          ap (λ (r : Read). r .edition) (told .0),
+          (ap (λ (r : Read). r .width) (told .0), (ap (λ (r : Read). r .height) (told .0), (ap (λ (r : Read). r .layers) (told .0), told .1))),
+        ),
       ),
     )
 

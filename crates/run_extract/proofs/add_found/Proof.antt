@@ -19,20 +19,17 @@ mul-from c = search needs
 add-to : tie.Need-add-to Inv-loop μ-loop
 add-to c = search needs
 
-mul-keypoint-in : tie.Need-mul-keypoint-in Inv-loop μ-loop
-mul-keypoint-in c = search needs
+mul-add-keypoint : tie.Need-mul-add-keypoint Inv-loop μ-loop
+mul-add-keypoint c = search needs
 
-sub-keypoint-in : tie.Need-sub-keypoint-in Inv-loop μ-loop
-sub-keypoint-in c = search needs
+sub-add-keypoint : tie.Need-sub-add-keypoint Inv-loop μ-loop
+sub-add-keypoint c = search needs
 
-part-keypoint-in-start : tie.Need-part-keypoint-in-start Inv-loop μ-loop
-part-keypoint-in-start c = search needs
+part-add-keypoint-start : tie.Need-part-add-keypoint-start Inv-loop μ-loop
+part-add-keypoint-start c = search needs
 
-part-keypoint-in-end : tie.Need-part-keypoint-in-end Inv-loop μ-loop
-part-keypoint-in-end c = search needs
-
-keypoint-in-requires : tie.Need-keypoint-in-requires Inv-loop μ-loop
-keypoint-in-requires c κs = search needs
+part-add-keypoint-end : tie.Need-part-add-keypoint-end Inv-loop μ-loop
+part-add-keypoint-end c = search needs
 
 add-keypoint-requires : tie.Need-add-keypoint-requires Inv-loop μ-loop
 add-keypoint-requires c κs = search needs
@@ -58,11 +55,10 @@ add-found-spec =
     loop-holds
     mul-from
     add-to
-    mul-keypoint-in
-    sub-keypoint-in
-    part-keypoint-in-start
-    part-keypoint-in-end
-    keypoint-in-requires
+    mul-add-keypoint
+    sub-add-keypoint
+    part-add-keypoint-start
+    part-add-keypoint-end
     add-keypoint-requires
     add-i
     loop-less

@@ -19,20 +19,17 @@ mul-from c = search needs
 add-to : tie.Need-add-to Inv-loop μ-loop
 add-to c = search needs
 
-mul-oriented-in : tie.Need-mul-oriented-in Inv-loop μ-loop
-mul-oriented-in c = search needs
+mul-add-record : tie.Need-mul-add-record Inv-loop μ-loop
+mul-add-record c = search needs
 
-sub-oriented-in : tie.Need-sub-oriented-in Inv-loop μ-loop
-sub-oriented-in c = search needs
+sub-add-record : tie.Need-sub-add-record Inv-loop μ-loop
+sub-add-record c = search needs
 
-part-oriented-in-start : tie.Need-part-oriented-in-start Inv-loop μ-loop
-part-oriented-in-start c = search needs
+part-add-record-start : tie.Need-part-add-record-start Inv-loop μ-loop
+part-add-record-start c = search needs
 
-part-oriented-in-end : tie.Need-part-oriented-in-end Inv-loop μ-loop
-part-oriented-in-end c = search needs
-
-oriented-in-requires : tie.Need-oriented-in-requires Inv-loop μ-loop
-oriented-in-requires c κs = search needs
+part-add-record-end : tie.Need-part-add-record-end Inv-loop μ-loop
+part-add-record-end c = search needs
 
 add-record-requires : tie.Need-add-record-requires Inv-loop μ-loop
 add-record-requires c κs = search needs
@@ -58,11 +55,10 @@ add-peaks-spec =
     loop-holds
     mul-from
     add-to
-    mul-oriented-in
-    sub-oriented-in
-    part-oriented-in-start
-    part-oriented-in-end
-    oriented-in-requires
+    mul-add-record
+    sub-add-record
+    part-add-record-start
+    part-add-record-end
     add-record-requires
     add-j
     loop-less

@@ -43,11 +43,29 @@ returns-3 c = search needs
 array-share-prefix-given-2 : tie.Need-array-share-prefix-given-2
 array-share-prefix-given-2 c = search needs
 
-slice-aggregate-writer-agrees : tie.Need-slice-aggregate-writer-agrees
-slice-aggregate-writer-agrees c = rw length-take (omega arith)
+slice-aggregate-maker-agrees : tie.Need-slice-aggregate-maker-agrees
+slice-aggregate-maker-agrees c = rw length-take (omega arith)
 
 array-share-prefix-want-2 : tie.Need-array-share-prefix-want-2
 array-share-prefix-want-2 c = search needs
+
+slice-aggregate-maker-agrees-2 : tie.Need-slice-aggregate-maker-agrees-2
+slice-aggregate-maker-agrees-2 c = rw length-take (omega arith)
+
+maker-agrees-requires : tie.Need-maker-agrees-requires
+maker-agrees-requires c κs = search needs
+
+returns-4 : tie.Need-returns-4
+returns-4 c = search needs
+
+array-share-prefix-given-3 : tie.Need-array-share-prefix-given-3
+array-share-prefix-given-3 c = search needs
+
+slice-aggregate-writer-agrees : tie.Need-slice-aggregate-writer-agrees
+slice-aggregate-writer-agrees c = rw length-take (omega arith)
+
+array-share-prefix-want-3 : tie.Need-array-share-prefix-want-3
+array-share-prefix-want-3 c = search needs
 
 slice-aggregate-writer-agrees-2 : tie.Need-slice-aggregate-writer-agrees-2
 slice-aggregate-writer-agrees-2 c = rw length-take (omega arith)
@@ -55,8 +73,8 @@ slice-aggregate-writer-agrees-2 c = rw length-take (omega arith)
 writer-agrees-requires : tie.Need-writer-agrees-requires
 writer-agrees-requires c κs = search needs
 
-returns-4 : tie.Need-returns-4
-returns-4 c = search needs
+returns-5 : tie.Need-returns-5
+returns-5 c = search needs
 
 pub parts-agree-spec : {M : Type 1} → statement M
 parts-agree-spec =
@@ -75,8 +93,14 @@ parts-agree-spec =
     reader-agrees-requires
     returns-3
     array-share-prefix-given-2
-    slice-aggregate-writer-agrees
+    slice-aggregate-maker-agrees
     array-share-prefix-want-2
+    slice-aggregate-maker-agrees-2
+    maker-agrees-requires
+    returns-4
+    array-share-prefix-given-3
+    slice-aggregate-writer-agrees
+    array-share-prefix-want-3
     slice-aggregate-writer-agrees-2
     writer-agrees-requires
-    returns-4)
+    returns-5)

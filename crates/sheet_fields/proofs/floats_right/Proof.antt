@@ -1,6 +1,7 @@
 use mathlib.Core.Bool.{and-true}
 use borrow.Author.Needs.{needs}
 use Rattle.sheet.specs.Pack.{sound}
+use Rattle.sheet.proofs.Lawful.{angled-edition}
 use Rattle.sheet_fields.proofs.floats_right.Statement.{statement}
 use Rattle.sheet_fields.proofs.floats_right.Tie as tie
 
@@ -22,7 +23,15 @@ between-requires-5 c κs = search needs
 returns : tie.Need-returns
 unfolding sound
 returns c =
-    rw (c .between5 .ensures, c .before .between4 .ensures, c .before .before .between3 .ensures, c .before .before .before .between2 .ensures, c .before .before .before .before .between .ensures, and-true)
+    rw (
+      angled-edition (c .before .before .before .before .before .args .e .number),
+      c .between5 .ensures,
+      c .before .between4 .ensures,
+      c .before .before .between3 .ensures,
+      c .before .before .before .between2 .ensures,
+      c .before .before .before .before .between .ensures,
+      and-true,
+    )
 
 pub floats-right-spec : {M : Type 1} → statement M
 floats-right-spec =

@@ -1,15 +1,22 @@
-use Prim.Native.Nat.{zero}
+use mathlib.Core.Bool.{and-true}
+use native.Mathlib.Omega.{arith}
 use borrow.Author.Needs.{needs}
 use Rattle.sheet.specs.Pack.{sound}
-use mathlib.Core.Bool.{and-true}
+use Rattle.sheet_edition.proofs.Layouts.{number-is, sides-are, sides-pos}
 use Rattle.sheet_fields.proofs.header_right.Statement.{statement}
 use Rattle.sheet_fields.proofs.header_right.Tie as tie
 
 between-requires : tie.Need-between-requires
 between-requires c κs = search needs
 
+sub-between : tie.Need-sub-between
+sub-between c = let s = c .before .before in sides-pos (s .args .e) (s .pre)
+
 between-requires-2 : tie.Need-between-requires-2
 between-requires-2 c κs = search needs
+
+sub-between-2 : tie.Need-sub-between-2
+sub-between-2 c = let s = c .before .before .before .before in sides-pos (s .args .e) (s .pre)
 
 between-requires-3 : tie.Need-between-requires-3
 between-requires-3 c κs = search needs
@@ -23,19 +30,38 @@ between-requires-5 c κs = search needs
 between-requires-6 : tie.Need-between-requires-6
 between-requires-6 c κs = search needs
 
+between-requires-7 : tie.Need-between-requires-7
+between-requires-7 c κs = search needs
+
 returns : tie.Need-returns
 unfolding sound
 returns c =
-    rw (c .between6 .ensures, c .before .between5 .ensures, c .before .before .between4 .ensures, c .before .before .before .between3 .ensures, c .before .before .before .before .between2 .ensures, c .before .before .before .before .before .between .ensures, and-true)
+    let s = c .before .before .before .before .before .before .before .before .before in
+    let e = s .args .e in
+    rw (
+      c .between7 .ensures,
+      c .before .between6 .ensures,
+      c .before .before .between5 .ensures,
+      c .before .before .before .between4 .ensures,
+      c .before .before .before .before .between3 .ensures,
+      c .before .before .before .before .before .before .between2 .ensures,
+      c .before .before .before .before .before .before .before .before .between .ensures,
+      sides-are e (s .pre),
+      ← number-is e (s .pre),
+      and-true,
+    )
 
 pub header-right-spec : {M : Type 1} → statement M
 header-right-spec =
     tie.close
     (tie.spec
     between-requires
+    sub-between
     between-requires-2
+    sub-between-2
     between-requires-3
     between-requires-4
     between-requires-5
     between-requires-6
+    between-requires-7
     returns)

@@ -1,9 +1,5 @@
-use mathlib.Core.Path.{ap}
-use mathlib.Core.List.{List, [], _∷_, _++_}
-use Prim.Native.Nat.{ℕ}
-use native.Mathlib.Omega.{arith}
 use borrow.Author.Needs.{needs}
-use Rattle.sheet_pack.proofs.Written.{five-are}
+use Rattle.sheet_pack.proofs.Written.{head-are}
 use Rattle.sheet_pack.proofs.head_of.Statement.{statement}
 use Rattle.sheet_pack.proofs.head_of.Tie as tie
 
@@ -37,10 +33,13 @@ shared-slice-read-wide-5 c = search needs
 wide-requires-5 : tie.Need-wide-requires-5
 wide-requires-5 c κs = search needs
 
+blank-of-requires : tie.Need-blank-of-requires
+blank-of-requires c κs = search needs
+
 returns : tie.Need-returns
 returns c =
-    let s = c .before .before .before .before .before .before .before .before .before .before .before in
-    ap (λ (t : List ℕ). t ++ (0 ∷ 0 ∷ [])) (five-are (s .args .words .now) 0 _ _ _ _ _ (omega arith) (c .before .before .before .before .before .before .before .before .wide .ensures) (c .before .before .before .before .before .before .wide2 .ensures) (c .before .before .before .before .wide3 .ensures) (c .before .before .wide4 .ensures) (c .wide5 .ensures))
+    let s = c .before .before .before .before .before .before .before .before .before .before .before .before in
+    head-are (s .args .words .now) _ _ _ _ _ _ (s .pre) (c .before .before .before .before .before .before .before .before .before .wide .ensures) (c .before .before .before .before .before .before .before .wide2 .ensures) (c .before .before .before .before .before .wide3 .ensures) (c .before .before .before .wide4 .ensures) (c .before .wide5 .ensures) (c .blank-of .ensures)
 
 pub head-of-spec : {M : Type 1} → statement M
 head-of-spec =
@@ -56,4 +55,5 @@ head-of-spec =
     wide-requires-4
     shared-slice-read-wide-5
     wide-requires-5
+    blank-of-requires
     returns)

@@ -1,68 +1,41 @@
-use mathlib.Core.Path.{_≡_, sym, ap, _∙_}
+use mathlib.Core.Path.{sym, ap, _∙_}
 use mathlib.Core.Bool.{Bool, cond}
-use Prim.Native.Nat.{_+_, _-_, _≤_}
-use native.Mathlib.Omega.{arith}
 use borrow.Author.Needs.{needs}
-use lib.ListN.{take, drop, length-drop}
-use Rattle.sheet.specs.Pack.{bytes}
-use Rattle.sheet.specs.Layout.{frontSize}
-use Rattle.sheet.specs.Words.{allZero}
-use Rattle.sheet.proofs.Steps.{zeros-good, zeros-bad, zeros-end}
-use lib.Seq.{take-all}
-use Rattle.params.specs.Limits.{valueCount}
+use Rattle.sheet.proofs.Lawful.{lawful-edition}
+use Rattle.sheet_edition.specs.Edition.{layoutFor}
+use Rattle.sheet_unpack.proofs.Taken.{marked, unmarked, head-word, added-marked, added-unmarked}
 use Rattle.sheet_unpack.proofs.blank_in.Statement.{statement}
 use Rattle.sheet_unpack.proofs.blank_in.Tie as tie
 
-abbrev Inv-loop : tie.InvT-loop
-Inv-loop bytes i₀ i = (i ≤ valueCount) × (allZero (take (valueCount - i) (drop (frontSize + i) bytes)) ≡ allZero (drop frontSize bytes))
+head-in-requires : tie.Need-head-in-requires
+head-in-requires c κs = search needs
 
-abbrev μ-loop : tie.MeasureT-loop
-μ-loop bytes i₀ i = valueCount - i
+cast-result : tie.Need-cast-result
+cast-result c =
+    let e = c .before .before .before .before .before .args .e in
+    let h = c .before .head-in in
+    record { fits = head-word (layoutFor e) (lawful-edition (e .number)) (h .result) (h .ensures .1) 5 }
 
-loop-holds : tie.Need-loop-holds Inv-loop μ-loop
-loop-holds c =
-    let bs = c .before .args .bytes .now in
-    (search needs, ap allZero (take-all valueCount (drop frontSize bs) (rw length-drop (omega arith))))
-
-value-at-requires : tie.Need-value-at-requires Inv-loop μ-loop
-value-at-requires c κs = search needs
-
-returns : tie.Need-returns Inv-loop μ-loop
+returns : tie.Need-returns
 returns c =
-    let l = c .before .before .before .loop in
     let s = c .before .before .before .before .before in
-    let v = c .before .value-at .ensures in
-    ap (λ (b : Bool). cond b 1 0) (sym (zeros-bad valueCount (l .i) frontSize (s .args .bytes .now) (omega arith) (omega arith) (λ e. c .if1 .taken (v ∙ e))) ∙ l .inv .1)
+    let h = c .before .head-in in
+    added-marked (layoutFor (s .args .e)) (s .args .bytes .now) (h .result) (h .ensures .0) (marked (s .args .e) (s .pre .0) (c .before .before .if1 .taken))
 
-add-i : tie.Need-add-i Inv-loop μ-loop
-add-i c = search needs
+values-zero-requires : tie.Need-values-zero-requires
+values-zero-requires c κs = search needs
 
-loop-less : tie.Need-loop-less Inv-loop μ-loop
-loop-less c = search needs
-
-loop-again : tie.Need-loop-again Inv-loop μ-loop
-loop-again c =
-    let l = c .before .before .before .loop in
-    let s = c .before .before .before .before .before in
-    let v = c .before .value-at .ensures in
-    (omega arith, zeros-good valueCount (l .i) frontSize (s .args .bytes .now) (omega arith) (omega arith) (sym v ∙ c .if1 .left) ∙ l .inv .1)
-
-returns-2 : tie.Need-returns-2 Inv-loop μ-loop
+returns-2 : tie.Need-returns-2
 returns-2 c =
-    let l = c .before .loop in
-    let s = c .before .before .before in
-    ap (λ (b : Bool). cond b 1 0) (sym (zeros-end valueCount (l .i) frontSize (s .args .bytes .now) (c .loop-test .left)) ∙ l .inv .1)
+    let s = c .before .before .before .before .before in
+    ap (λ (b : Bool). cond b 2 0) (sym (c .if2 .taken)) ∙ added-unmarked (layoutFor (s .args .e)) (s .args .bytes .now) (unmarked (s .args .e) (s .pre .0) (c .before .before .if1 .left)) _ (c .before .values-zero .ensures)
+
+returns-3 : tie.Need-returns-3
+returns-3 c =
+    let s = c .before .before .before .before .before in
+    ap (λ (b : Bool). cond b 2 0) (sym (c .if2 .left)) ∙ added-unmarked (layoutFor (s .args .e)) (s .args .bytes .now) (unmarked (s .args .e) (s .pre .0) (c .before .before .if1 .left)) _ (c .before .values-zero .ensures)
 
 pub blank-in-spec : {M : Type 1} → statement M
 blank-in-spec =
     tie.close
-    (tie.spec
-    Inv-loop
-    μ-loop
-    loop-holds
-    value-at-requires
-    returns
-    add-i
-    loop-less
-    loop-again
-    returns-2)
+    (tie.spec head-in-requires cast-result returns values-zero-requires returns-2 returns-3)

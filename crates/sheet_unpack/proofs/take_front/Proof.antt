@@ -2,8 +2,8 @@ use mathlib.Core.Path.{ap, _∙_}
 use Prim.Native.Nat.{_+_}
 use borrow.Author.Needs.{needs}
 use Rattle.lists.specs.Pasted.{pasted}
-use Rattle.sheet.specs.Pack.{bytes, Bytes}
 use Rattle.sheet.specs.Words.{headWords}
+use Rattle.sheet_edition.specs.Edition.{layoutFor}
 use Rattle.sheet_fields.specs.Fields.{floatValues}
 use Rattle.sheet_unpack.proofs.Taken.{front-set}
 use Rattle.sheet_unpack.proofs.take_front.Statement.{statement}
@@ -30,12 +30,11 @@ same-length c = search needs
 returns : tie.Need-returns
 returns c =
     let s = c .before .before .before .before .before .before .before .before .before .before .before .before in
-    let g : Bytes (s .args .bytes .now) = (λ i. c .before .before .before .before .before .before .before .before .before .before .before .shared-slice-known .given i .fits) in
     let h = c .before .before .before .before .before .before .before .before .head-in in
     let x = c .before .before .before .floats-in in
     c .before .before .put-floats .ensures
     ∙ ap (pasted (s .args .to + headWords) (floatValues (x .result))) (c .before .before .before .before .before .before .before .put-head .ensures)
-    ∙ front-set (s .args .bytes .now) (s .pre .0) g (h .result) (x .result) (h .ensures .0) (x .ensures .0) (s .args .to) (s .args .out .now) (s .pre .1)
+    ∙ front-set (layoutFor (s .args .e)) (s .args .bytes .now) (h .result) (h .ensures .0) (x .result) (x .ensures .0) (s .args .to) (s .args .out .now) (s .pre .1 .1)
 
 pub take-front-spec : {M : Type 1} → statement M
 take-front-spec =

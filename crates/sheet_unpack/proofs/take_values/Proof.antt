@@ -4,30 +4,31 @@ use Prim.Native.Nat.{ℕ, _+_, _-_, _≤_}
 use native.Mathlib.Nat.{add-zero}
 use native.Mathlib.Omega.{arith}
 use borrow.Author.Needs.{needs}
-use lib.ListN.{length, set, take, drop, length-drop}
+use lib.ListN.{length, set, take, drop}
 use Rattle.lists.specs.Pasted.{pasted}
 use Rattle.lists.proofs.Pasted.{pasted-none}
-use Rattle.sheet.specs.Pack.{bytes}
+use Rattle.params.specs.Limits.{valueCount}
 use Rattle.sheet.specs.Layout.{frontSize}
 use Rattle.sheet.proofs.Steps.{copy-turn}
-use lib.Seq.{take-all}
-use Rattle.params.specs.Limits.{valueCount}
+use Rattle.sheet_edition.specs.Edition.{layoutFor}
+use Rattle.sheet_edition.proofs.Layouts.{size-is}
+use Rattle.sheet_unpack.proofs.Taken.{at-start}
 use Rattle.sheet_unpack.proofs.take_values.Statement.{statement}
 use Rattle.sheet_unpack.proofs.take_values.Tie as tie
 
 abbrev Inv-loop : tie.InvT-loop
-Inv-loop bytes out₀ to i₀ out i =
+Inv-loop e bytes out₀ to i₀ out i =
     (i ≤ valueCount) × (length out ≡ length out₀)
-    × (pasted (to + i) (take (valueCount - i) (drop (frontSize + i) bytes)) out ≡ pasted to (drop frontSize bytes) out₀)
+    × (pasted (to + i) (take (valueCount - i) (drop (frontSize (layoutFor e) + i) bytes)) out ≡ pasted to (drop (frontSize (layoutFor e)) bytes) out₀)
 
 abbrev μ-loop : tie.MeasureT-loop
-μ-loop bytes out₀ to i₀ out i = valueCount - i
+μ-loop e bytes out₀ to i₀ out i = valueCount - i
 
 loop-holds : tie.Need-loop-holds Inv-loop μ-loop
 loop-holds c =
     let a = c .before .before .args in
-    let bs = a .bytes .now in
-    (search needs, refl, ap (λ (n : ℕ). pasted n (take valueCount (drop frontSize bs)) (a .out .now)) (add-zero (a .to)) ∙ ap (λ (t : List ℕ). pasted (a .to) t (a .out .now)) (take-all valueCount (drop frontSize bs) (rw length-drop (omega arith))))
+    let f = frontSize (layoutFor (a .e)) in
+    (search needs, refl, ap (λ (n : ℕ). pasted n (take valueCount (drop (f + 0) (a .bytes .now))) (a .out .now)) (add-zero (a .to)) ∙ ap (λ (t : List ℕ). pasted (a .to) t (a .out .now)) (at-start valueCount f (a .bytes .now) (omega (arith, size-is (a .e)))))
 
 value-at-requires : tie.Need-value-at-requires Inv-loop μ-loop
 value-at-requires c κs = search needs
@@ -54,12 +55,13 @@ loop-again : tie.Need-loop-again Inv-loop μ-loop
 loop-again c =
     let l = c .before .before .loop in
     let s = c .before .before .before .before .before in
+    let f = frontSize (layoutFor (s .args .e)) in
     let v = c .value-at .ensures in
     let room : s .args .to + valueCount ≤ length (l .out) = omega arith in (
       omega arith,
       search needs,
-      ap (λ (x : ℕ). pasted (s .args .to + (l .i + 1)) (take (valueCount - (l .i + 1)) (drop (frontSize + (l .i + 1)) (s .args .bytes .now))) (set (l .out) (s .args .to + l .i) x)) v
-          ∙ copy-turn valueCount (l .i) (s .args .to) frontSize (s .args .bytes .now) (l .out) (c .before .loop-test .taken) (omega arith) room
+      ap (λ (x : ℕ). pasted (s .args .to + (l .i + 1)) (take (valueCount - (l .i + 1)) (drop (f + (l .i + 1)) (s .args .bytes .now))) (set (l .out) (s .args .to + l .i) x)) v
+          ∙ copy-turn valueCount (l .i) (s .args .to) f (s .args .bytes .now) (l .out) (c .before .loop-test .taken) (omega (arith, size-is (s .args .e))) room
           ∙ l .inv .2,
     )
 

@@ -1,0 +1,4 @@
+pub mod Bytes
+mod Puts
+pub mod Wrong
+pub mod Rules

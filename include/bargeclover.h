@@ -9,7 +9,8 @@
  *   1  a side of the picture or frame is not 1 to 8192
  *   2  layers are not 1 to 15, a layer is not one of them, or planes are not layers + 2 to 17
  *   3  the samples are not as many as the shape says
- *   4  contrast is not 0 to 1, edge not 1 to 1000, sigma not 0.5 to 16, or octave not 0 to 15; so is a not-a-number
+ *   4  contrast is not 0 to 1, edge not 1 to 1000, sigma not 0.5 to 16, octave not 0 to 15, or edition not 1 or 2; so is a
+ *      not-a-number
  *   5  a field of a keypoint, a place or a record, a quota or a depth is out of its range
  *   6  a sample is no number of at most 2^20 in magnitude
  *   7  there is not the room that the answer needs
@@ -143,23 +144,41 @@ uint32_t bargeclover_compute_descriptor(const float *img, size_t img_len, size_t
     float angle, float *out, size_t out_len, size_t *count, size_t *samples);
 
 /*
- * The sheet of keypoints, edition 1: bits packed most significant first, a header of 8 bytes, then 154 bytes a record.
- * A record is handed over as 138 words: row, column, octave, layer, code; x, y, size, response and angle by their float bits; the 128
- * values. Row and column name a cell of the frame, octave is 0 to 15, layer 1 to layers, code 0 to 255; no float is negative, -0,
- * infinite or a not-a-number, the size is not 0 and the angle is less than 360; the values are 0 to 255.
- * write_sheet: count and out_len are in bytes. Refused with 1; 2 (layers are not 1 to 15, or the layer of a whole record is not
- * one of them); 5 (any other word out of its range, words that make no whole number of records, or more than 1048575 records); 7.
+ * The record of a keypoint for a sheet. The keypoint is ten words, as find_extrema gives them; oriented is one of its directions, six
+ * words, as assign_orientations gives them; values and samples are as compute_descriptor answers them there. What goes out are the
+ * 139 words of a record of edition 2, as write_sheet takes them: the cell's row and column; octave, layer and code, which are the bytes
+ * of the octave word from the lowest; the oriented keypoint's x, y, size, response and angle by their float bits; the values as whole
+ * numbers; and the blank word, 1 exactly where samples is 0 and else 0. It has no count: the words are 139.
+ * Refused with 5 (keypoint_len is not 10 or oriented_len not 6; a float of either is the pattern of a not-a-number; the two differ by
+ * their bits in x, y, size, response or octave word; a word of the record breaks a rule of the sheet, where row and column are to be
+ * below 8192 and the layer is to be 1 to 15; values_len is not 128, or a value is no whole number from 0 to 255, where -0 is 0; a value
+ * is not 0 and samples is) or 7 (out_len is not 139). What stands in the keypoint's layer and moves does not matter, nor does xi if it
+ * is no not-a-number.
  */
-uint32_t bargeclover_write_sheet(size_t width, size_t height, size_t layers, const uint32_t *words, size_t words_len, uint8_t *out,
-    size_t out_len, size_t *count);
+uint32_t bargeclover_make_record(const uint32_t *keypoint, size_t keypoint_len, const uint32_t *oriented, size_t oriented_len,
+    const float *values, size_t values_len, size_t samples, uint32_t *out, size_t out_len);
 
 /*
- * read_sheet: each record goes out as 139 words, the last of them 1 where its 128 values are all zero and else 0. count is in records,
- * out_len in words; width, height and layers are the header's. Refused with 8 (any broken rule), then 7; width, height and layers are 0
+ * The sheet of keypoints, edition 1 or 2: bits packed most significant first, a header of 8 bytes, then 154 bytes a record.
+ * A record is handed over as 138 words in edition 1: row, column, octave, layer, code; x, y, size, response and angle by their float
+ * bits; the 128 values. Row and column name a cell of the frame, octave is 0 to 15, layer 1 to layers, code 0 to 255; no float is
+ * negative, -0, infinite or a not-a-number, the size is not 0 and the angle is less than 360; the values are 0 to 255. In edition 2
+ * there is a 139th word, the blank word: 1 says that no cell was read, beside values that are all 0, and 0 that some were.
+ * write_sheet: count and out_len are in bytes. Refused with 1; 2 (layers are not 1 to 15, or the layer of a whole record is not
+ * one of them; where the edition is not known no record is looked at); 4 (edition is not 1 or 2); 5 (any other word out of its range,
+ * a blank word of 1 beside a value that is not 0, words that make no whole number of records, or more than 1048575 records); 7.
+ */
+uint32_t bargeclover_write_sheet(uint32_t edition, size_t width, size_t height, size_t layers, const uint32_t *words,
+    size_t words_len, uint8_t *out, size_t out_len, size_t *count);
+
+/*
+ * read_sheet: each record goes out as 139 words. The last of them is the blank word; of a sheet of edition 1, which does not have it, it
+ * is 2, unknown, where the 128 values are all zero, and else 0. count is in records, out_len in words; edition, width, height and layers
+ * are the header's. Refused with 8 (any broken rule, and an edition other than 1 and 2), then 7; edition, width, height and layers are 0
  * beside both.
  */
-uint32_t bargeclover_read_sheet(const uint8_t *sheet, size_t sheet_len, uint32_t *out, size_t out_len, size_t *count, size_t *width,
-    size_t *height, size_t *layers);
+uint32_t bargeclover_read_sheet(const uint8_t *sheet, size_t sheet_len, uint32_t *out, size_t out_len, size_t *count,
+    uint32_t *edition, size_t *width, size_t *height, size_t *layers);
 
 #ifdef __cplusplus
 }

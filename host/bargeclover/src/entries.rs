@@ -69,8 +69,33 @@ pub fn thin(
     (number, count)
 }
 
-/// The number, and the count of bytes.
+/// The number; 139 words of `out`, which has 139: those of a record of edition 2.
+pub fn make_record(
+    keypoint: &[u32],
+    oriented: &[u32],
+    values: &[f32],
+    samples: usize,
+    out: &mut [u32],
+) -> u32 {
+    // SAFETY: each pointer is good for its length, and what is written is lent to nobody else.
+    unsafe {
+        ffi::bargeclover_make_record(
+            keypoint.as_ptr(),
+            keypoint.len(),
+            oriented.as_ptr(),
+            oriented.len(),
+            values.as_ptr(),
+            values.len(),
+            samples,
+            out.as_mut_ptr(),
+            out.len(),
+        )
+    }
+}
+
+/// The number, and the count of bytes. A record is 138 words of `words` in edition 1 and 139 in edition 2.
 pub fn write_sheet(
+    edition: u32,
     width: usize,
     height: usize,
     layers: usize,
@@ -81,6 +106,7 @@ pub fn write_sheet(
     // SAFETY: each pointer is good for its length, and what is written is lent to nobody else.
     let number = unsafe {
         ffi::bargeclover_write_sheet(
+            edition,
             width,
             height,
             layers,
@@ -94,9 +120,10 @@ pub fn write_sheet(
     (number, count)
 }
 
-/// The number, the count of records, 139 words of `out` for each, and width, height and layers.
-pub fn read_sheet(sheet: &[u8], out: &mut [u32]) -> (u32, usize, [usize; 3]) {
-    let (mut count, mut width, mut height, mut layers) = (0, 0, 0, 0);
+/// The number, the count of records, 139 words of `out` for each, the edition, and width, height and layers.
+pub fn read_sheet(sheet: &[u8], out: &mut [u32]) -> (u32, usize, u32, [usize; 3]) {
+    let (mut count, mut edition) = (0, 0);
+    let (mut width, mut height, mut layers) = (0, 0, 0);
     // SAFETY: each pointer is good for its length, and what is written is lent to nobody else.
     let number = unsafe {
         ffi::bargeclover_read_sheet(
@@ -105,12 +132,13 @@ pub fn read_sheet(sheet: &[u8], out: &mut [u32]) -> (u32, usize, [usize; 3]) {
             out.as_mut_ptr(),
             out.len(),
             &mut count,
+            &mut edition,
             &mut width,
             &mut height,
             &mut layers,
         )
     };
-    (number, count, [width, height, layers])
+    (number, count, edition, [width, height, layers])
 }
 
 /// The number, the count of oriented keypoints and the cells read; six words of `out` for each.

@@ -46,7 +46,20 @@ unsafe extern "C" {
         count: *mut usize,
     ) -> u32;
 
+    pub fn bargeclover_make_record(
+        keypoint: *const u32,
+        keypoint_len: usize,
+        oriented: *const u32,
+        oriented_len: usize,
+        values: *const f32,
+        values_len: usize,
+        samples: usize,
+        out: *mut u32,
+        out_len: usize,
+    ) -> u32;
+
     pub fn bargeclover_write_sheet(
+        edition: u32,
         width: usize,
         height: usize,
         layers: usize,
@@ -63,6 +76,7 @@ unsafe extern "C" {
         out: *mut u32,
         out_len: usize,
         count: *mut usize,
+        edition: *mut u32,
         width: *mut usize,
         height: *mut usize,
         layers: *mut usize,

@@ -29,5 +29,5 @@ pub use descriptor::{Aim, Descriptor, compute_descriptor, descriptor_inputs};
 pub use detection::{Keypoint, Settings, Stack, find_extrema, threshold};
 pub use orientation::{Orientations, Oriented, Picture, assign_orientations};
 pub use refusal::Refusal;
-pub use sheet::{Record, Sheet, read_sheet, write_sheet};
+pub use sheet::{Blank, Record, Sheet, make_record, read_sheet, write_sheet};
 pub use thinning::thin;

@@ -12,7 +12,7 @@ pub enum Refusal {
     Layers,
     /// 3: the samples are not as many as the shape says.
     Length,
-    /// 4: a setting is out of its range.
+    /// 4: a setting is out of its range, or a sheet's edition is not known.
     Settings,
     /// 5: a field of a keypoint or of a record, a quota or a depth is out of its range.
     Field,
@@ -68,7 +68,7 @@ impl fmt::Display for Refusal {
             Refusal::Length => write!(f, "the samples are not as many as the shape says"),
             Refusal::Settings => write!(
                 f,
-                "contrast must be 0 to 1, edge 1 to 1000, sigma 0.5 to 16 and octave 0 to 15"
+                "contrast must be 0 to 1, edge 1 to 1000, sigma 0.5 to 16, octave 0 to 15 and edition 1 or 2"
             ),
             Refusal::Field => write!(
                 f,

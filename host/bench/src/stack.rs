@@ -4,7 +4,7 @@
 use bargeclover::{Aim, Picture, Settings, bits, entries};
 use cases::detection::Kind;
 use cases::thinning::{self, Places, Responses};
-use cases::{Rng, descriptor, detection, floats, orientation, picture, sheet};
+use cases::{Rng, descriptor, detection, floats, orientation, picture, record, sheet};
 use std::alloc::{Layout, alloc, dealloc};
 use std::ffi::c_void;
 use std::hint::black_box;
@@ -193,7 +193,10 @@ fn of_sheets(r: &mut Rng) -> [usize; 2] {
     let writer = depth(|| {
         for c in &all {
             let (w, h) = (c.width, c.height);
-            black_box(entries::write_sheet(w, h, c.layers, &c.words, &mut bytes));
+            let (edition, words) = (c.edition, &c.words);
+            black_box(entries::write_sheet(
+                edition, w, h, c.layers, words, &mut bytes,
+            ));
         }
     });
     let reader = depth(|| {
@@ -202,6 +205,25 @@ fn of_sheets(r: &mut Rng) -> [usize; 2] {
         }
     });
     [writer, reader]
+}
+
+fn of_records(r: &mut Rng) -> usize {
+    let all: Vec<_> = (0..2000)
+        .map(|k| {
+            let mut c = record::accepted(r);
+            if k % 4 == 0 {
+                record::damage(r, &mut c);
+            }
+            c
+        })
+        .collect();
+    let mut out = [0; record::WORDS];
+    depth(|| {
+        for c in &all {
+            let (k, o, values) = (&c.keypoint, &c.oriented, &c.values);
+            black_box(entries::make_record(k, o, values, c.samples, &mut out));
+        }
+    })
 }
 
 /// What calls on many operands take, half of them any pattern and half of them numbers.
@@ -232,6 +254,7 @@ pub fn measured() -> Vec<(&'static str, usize)> {
         ("assign_orientations", of_orientation(r)),
         ("compute_descriptor", of_descriptor(r)),
     ];
+    all.push(("make_record", of_records(r)));
     let [writer, reader] = of_sheets(r);
     all.push(("write_sheet", writer));
     all.push(("read_sheet", reader));

@@ -7,6 +7,7 @@ pub mod fate;
 pub mod floats;
 pub mod orientation;
 pub mod picture;
+pub mod record;
 pub mod rng;
 pub mod sheet;
 pub mod table;

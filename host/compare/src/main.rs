@@ -1,15 +1,18 @@
-//! compare [--seed N] [--stacks N] [--lists N] [--operations N]: the library and the published Rust on the same inputs.
+//! compare [--seed N] [--stacks N] [--sheets N] [--lists N] [--operations N]: the library and the published Rust on the same inputs.
 //!
 //! Every word, number, count and untouched word of each answer is compared: with the published Rust where the input is accepted,
-//! with the refusal table rendered a second time where it is not, and single operations with the processor. Sheets and thinned lists,
-//! which the Rust has not, are compared with a second rendering. It prints what it tried and what differs, and ends with status 1
-//! where anything does, or where a run of 10,000 stacks or more did not meet every number of every entry, every fate of a candidate,
-//! every way of detection, and patches of all kinds, or one of 10,000 lists or more every reason and every way of thinning.
+//! with the refusal table rendered a second time where it is not, and single operations with the processor. Sheets, made records and
+//! thinned lists, which the Rust has not, are compared with a second rendering; there are as many sheets and records as stacks where
+//! --sheets says nothing else. It prints what it tried and what differs, and ends with status 1 where anything does, or where a run of
+//! 10,000 stacks or more did not meet every number of every entry, every fate of a candidate, every way of detection, and patches of all
+//! kinds, or one of 10,000 sheets or more every reason, edition and blank word, or one of 10,000 lists or more every reason and every way
+//! of thinning.
 
 mod descriptor;
 mod detection;
 mod operations;
 mod orientation;
+mod record;
 mod report;
 mod sheet;
 mod thinning;
@@ -21,13 +24,11 @@ use std::env;
 use std::process::ExitCode;
 
 /// Each entry, and the numbers of the table that it can answer.
-const ENTRIES: [(&str, &[u32]); 6] = [
+const ENTRIES: [(&str, &[u32]); 4] = [
     ("find_extrema", &[0, 1, 2, 3, 4, 6, 7]),
     ("assign_orientations", &[0, 1, 3, 5, 6, 7]),
     ("descriptor_inputs", &[0, 4, 5, 7]),
     ("compute_descriptor", &[0, 1, 3, 5, 6, 7]),
-    ("write_sheet", &[0, 1, 2, 5, 7]),
-    ("read_sheet", &[0, 7, 8]),
 ];
 
 /// What else a run of some length has to have met.
@@ -58,6 +59,10 @@ fn missing(w: &Wanted, r: &Report) -> Vec<String> {
     if w.stacks >= LONG && oracle::FOUND {
         due.extend(due_of_stacks());
     }
+    if w.sheets() >= LONG {
+        due.extend(sheet::due(w.sheets()));
+        due.extend(record::due(w.sheets()));
+    }
     if w.lists >= LONG {
         due.extend(thinning::due(w.lists));
     }
@@ -67,20 +72,28 @@ fn missing(w: &Wanted, r: &Report) -> Vec<String> {
     seldom.map(|(what, _)| what).collect()
 }
 
-/// From so many stacks or lists on a run has to meet everything.
+/// From so many stacks, sheets or lists on a run has to meet everything.
 const LONG: u64 = 10_000;
 
 struct Wanted {
     seed: u64,
     stacks: u64,
+    sheets: Option<u64>,
     lists: u64,
     operations: u64,
+}
+
+impl Wanted {
+    fn sheets(&self) -> u64 {
+        self.sheets.unwrap_or(self.stacks)
+    }
 }
 
 fn wanted() -> Result<Wanted, String> {
     let mut w = Wanted {
         seed: 1,
         stacks: 100_000,
+        sheets: None,
         lists: 200_000,
         operations: 5_000_000,
     };
@@ -91,11 +104,12 @@ fn wanted() -> Result<Wanted, String> {
         match word.as_str() {
             "--seed" => w.seed = number,
             "--stacks" => w.stacks = number,
+            "--sheets" => w.sheets = Some(number),
             "--lists" => w.lists = number,
             "--operations" => w.operations = number,
             _ => {
                 return Err(format!(
-                    "{word} is not known: --seed, --stacks, --lists, --operations"
+                    "{word} is not known: --seed, --stacks, --sheets, --lists, --operations"
                 ));
             }
         }
@@ -116,8 +130,9 @@ fn main() -> ExitCode {
     let mut rng = Rng::new(w.seed);
     operations::operations(&mut rng, w.operations, &mut r);
     operations::routines(&mut rng, w.operations, &mut r);
-    sheet::sheets(&mut rng, w.stacks, &mut r);
-    // random numbers of its own, so that the other parts have theirs whatever --lists is
+    // random numbers of their own, so that the other parts have theirs whatever --sheets and --lists are
+    sheet::sheets(&mut Rng::new(w.seed), w.sheets(), &mut r);
+    record::records(&mut Rng::new(w.seed), w.sheets(), &mut r);
     thinning::lists(&mut Rng::new(w.seed), w.lists, &mut r);
     if oracle::FOUND {
         detection::thresholds(&mut rng, w.stacks, &mut r);

@@ -1,15 +1,16 @@
 //! The commands.
 
+mod extract;
+
 use crate::args::Given;
 use crate::cover::{self, Cover, Tally, Thinned};
-use crate::extract::extract;
 use crate::find::{self, Wanted};
 use crate::help::{self, COMMANDS, Command};
 use crate::pgm::Frame;
 use crate::progress::Progress;
 use crate::table::{self, Mark};
 use crate::{Trouble, draw, files, svg};
-use bargeclover::{Settings, read_sheet, write_sheet};
+use bargeclover::{Settings, read_sheet};
 use std::ffi::OsString;
 use std::io::{self, BufWriter, Write};
 use std::path::{Path, PathBuf};
@@ -39,7 +40,7 @@ pub fn run(words: impl IntoIterator<Item = OsString>) -> Result<(), Trouble> {
                 return print(|out| write!(out, "{}", command.help()));
             }
             let ran = match command.name {
-                "extract" => extract_command(&given),
+                "extract" => extract::run(&given),
                 "find" => find_command(&given),
                 "show" => show(&given),
                 "check" => check(&given),
@@ -100,6 +101,7 @@ fn wanted(given: &Given) -> Result<Wanted, Trouble> {
         },
         double: given.has("double"),
         cover: cover(given)?,
+        unsearched: false,
     })
 }
 
@@ -137,98 +139,6 @@ fn marks(frame: &Frame, given: &Given) -> Result<(Vec<Mark>, Option<Tally>), Tro
     Ok((all, found.tally))
 }
 
-/// Where the sheet of each frame goes: the file that is named, or in the folder that is named under the frame's own name.
-fn sheets(frames: &[PathBuf], out: &Path) -> Result<Vec<PathBuf>, Trouble> {
-    let usage = |words: String| Err(Trouble::Usage(words));
-    if !out.is_dir() {
-        return match frames {
-            [] => usage("name the frame, a PGM file".into()),
-            [_] => Ok(vec![out.into()]),
-            _ => usage(format!(
-                "several frames want a folder after -o, and there is no folder '{}'",
-                out.display()
-            )),
-        };
-    }
-    let mut all: Vec<PathBuf> = Vec::new();
-    for frame in frames {
-        let name = Path::new(frame.file_name().unwrap_or_default());
-        let place = out.join(name).with_extension("sheet");
-        if all.contains(&place) {
-            return usage(format!(
-                "two frames would have the sheet '{}'",
-                place.display()
-            ));
-        }
-        all.push(place);
-    }
-    if all.is_empty() {
-        return usage("name the frames, PGM files".into());
-    }
-    Ok(all)
-}
-
-fn extract_command(given: &Given) -> Result<(), Trouble> {
-    let out = given
-        .path("output")
-        .ok_or_else(|| Trouble::Usage("say where with -o OUT.sheet".into()))?;
-    let sheets = sheets(&given.files, out)?;
-    for (frame, sheet) in given.files.iter().zip(&sheets) {
-        files::apart(frame, sheet)?;
-    }
-    let wanted = wanted(given)?;
-    let mut failed = 0;
-    for (frame, sheet) in given.files.iter().zip(&sheets) {
-        match extract_one(frame, sheet, &wanted, given) {
-            Err(Trouble::Closed) => return Err(Trouble::Closed),
-            // of a roll the others are still made
-            Err(t) if sheets.len() > 1 => {
-                t.complain();
-                failed += 1;
-            }
-            ended => ended?,
-        }
-    }
-    if failed > 0 {
-        let all = sheets.len();
-        return Err(Trouble::Refused(format!(
-            "{failed} of {all} frames have no sheet"
-        )));
-    }
-    Ok(())
-}
-
-fn extract_one(path: &Path, out: &Path, wanted: &Wanted, given: &Given) -> Result<(), Trouble> {
-    let frame = files::frame(path)?;
-    let made = extract(&frame, wanted, &mut progress(given))?;
-    let bytes = write_sheet(&made.sheet).map_err(find::inside)?;
-    files::write(out, &bytes)?;
-    if given.has("quiet") || out.as_os_str() == "-" {
-        return Ok(());
-    }
-    print(|to| {
-        let (records, found) = (made.sheet.records.len(), made.keypoints);
-        writeln!(
-            to,
-            "{}: {records} records, the directions of {found} keypoints, of {} x {} cells",
-            out.display(),
-            made.sheet.width,
-            made.sheet.height
-        )?;
-        if let Some(tally) = made.tally {
-            writeln!(to, "{tally}")?;
-        }
-        if made.flat + made.unread > 0 {
-            writeln!(
-                to,
-                "all zero: {} records of flat patches, {} of patches that were not read",
-                made.flat, made.unread
-            )?;
-        }
-        Ok(())
-    })
-}
-
 fn find_command(given: &Given) -> Result<(), Trouble> {
     let frame = files::frame(&one(given, "the frame, a PGM file")?)?;
     let (all, tally) = marks(&frame, given)?;
@@ -243,14 +153,14 @@ fn find_command(given: &Given) -> Result<(), Trouble> {
         if given.has("csv") {
             writeln!(out, "{}", table::csv_head(false))?;
             for (k, m) in all.iter().enumerate() {
-                writeln!(out, "{}", table::csv_line(k, m, None))?;
+                writeln!(out, "{}", table::csv_line(k, m))?;
             }
             return Ok(());
         }
         if let Some(tally) = tally {
             writeln!(out, "{tally}\n")?;
         }
-        writeln!(out, "{}", table::head())?;
+        writeln!(out, "{}", table::head(false))?;
         for (k, m) in all.iter().enumerate() {
             writeln!(out, "{}", table::line(k, m))?;
         }
@@ -260,7 +170,7 @@ fn find_command(given: &Given) -> Result<(), Trouble> {
 
 fn show(given: &Given) -> Result<(), Trouble> {
     let path = one(given, "the sheet")?;
-    let (sheet, blank) = files::sheet(&path)?;
+    let sheet = files::sheet(&path)?;
     if given.has("record") {
         let number: usize = given.number("record", 0)?;
         let record = sheet.records.get(number).ok_or_else(|| {
@@ -269,22 +179,21 @@ fn show(given: &Given) -> Result<(), Trouble> {
                 sheet.records.len()
             ))
         })?;
-        return print(|out| write!(out, "{}", table::full(number, record, blank[number])));
+        return print(|out| write!(out, "{}", table::full(number, record)));
     }
-    let all = sheet.records.iter().zip(&blank).enumerate();
+    let all = sheet.records.iter().enumerate();
     print(|out| {
         if given.has("csv") {
             writeln!(out, "{}", table::csv_head(true))?;
-            for (k, (r, b)) in all {
-                let line = table::csv_line(k, &Mark::of_record(r, *b), Some(&r.values));
-                writeln!(out, "{line}")?;
+            for (k, r) in all {
+                writeln!(out, "{}", table::csv_record(k, r))?;
             }
             return Ok(());
         }
-        let words = table::summary(&sheet, &blank);
-        writeln!(out, "{}: {words}\n\n{}", path.display(), table::head())?;
-        for (k, (r, b)) in all {
-            writeln!(out, "{}", table::line(k, &Mark::of_record(r, *b)))?;
+        let words = table::summary(&sheet);
+        writeln!(out, "{}: {words}\n\n{}", path.display(), table::head(true))?;
+        for (k, r) in all {
+            writeln!(out, "{}", table::line(k, &Mark::of_record(r)))?;
         }
         Ok(())
     })
@@ -298,13 +207,7 @@ fn check(given: &Given) -> Result<(), Trouble> {
     for path in &given.files {
         let bytes = files::sheet_bytes(path)?;
         let words = match read_sheet(&bytes) {
-            Ok((sheet, blank)) => {
-                format!(
-                    "{}: sound: {}",
-                    path.display(),
-                    table::summary(&sheet, &blank)
-                )
-            }
+            Ok(sheet) => format!("{}: sound: {}", path.display(), table::summary(&sheet)),
             Err(r) => {
                 broken += 1;
                 files::unsound(path, &bytes, r).to_string()
@@ -386,10 +289,9 @@ fn of_sheet(
         )));
     }
     let frame = files::frame(frame)?;
-    let (sheet, blank) = files::sheet(sheet)?;
+    let sheet = files::sheet(sheet)?;
     let doubled = doubled(&frame, sheet.width, sheet.height)?;
-    let all = sheet.records.iter().zip(&blank);
-    let marks = all.map(|(r, b)| Mark::of_record(r, *b)).collect();
+    let marks = sheet.records.iter().map(Mark::of_record).collect();
     Ok((frame, marks, doubled))
 }
 

@@ -1,19 +1,15 @@
-//! The descriptor of an oriented keypoint, by the library.
+//! The record of an oriented keypoint, by the library: its descriptor, and whether that read any cell.
 
-use bargeclover::{Oriented, Picture, Refusal, compute_descriptor, descriptor_inputs};
+use crate::Trouble;
+use crate::find::inside;
+use crate::pyramid::Octave;
+use bargeclover::{Keypoint, Oriented, Record, compute_descriptor, descriptor_inputs, make_record};
 
-/// The 128 values, and the number of samples that they were made of.
-pub struct Described {
-    pub values: [u8; 128],
-    pub samples: usize,
-}
-
-pub fn describe(picture: &Picture, oriented: &Oriented, octave: u32) -> Result<Described, Refusal> {
-    let inputs = descriptor_inputs(oriented, octave as i32)?;
-    let d = compute_descriptor(picture, &inputs)?;
-    Ok(Described {
-        // whole numbers from 0 to 255, so nothing is cut
-        values: d.values.map(|v| v as u8),
-        samples: d.samples,
-    })
+/// The octave is the keypoint's.
+pub fn describe(octave: &Octave, k: &Keypoint, o: &Oriented) -> Result<Record, Trouble> {
+    let picture = octave.picture(k.layer as usize);
+    let made = descriptor_inputs(o, octave.number as i32)
+        .and_then(|aim| compute_descriptor(&picture, &aim))
+        .and_then(|d| make_record(k, o, &d));
+    made.map_err(inside)
 }

@@ -1,34 +1,20 @@
 //! The frame with its keypoints on it: a circle as large as the keypoint's size, a line in its direction, a colour for each octave.
-//! Records whose 128 values are all zero are dashed and crossed out. Of thinned keypoints those that are kept are circles of one colour
-//! and the others dots of another, over the lines where regions were cut.
+//! Records whose 128 values are all zero are white, each kind with its own look. Of thinned keypoints those that are kept are circles of
+//! one colour and the others dots of another, over the lines where regions were cut.
 
 use crate::canvas::{Canvas, Colour, Stroke, text_width};
 use crate::cover::{Line, Thinned};
+use crate::look::{COLOURS, Look, ZERO, colour, look};
+use crate::patch::Patch;
 use crate::pgm::Frame;
 use crate::table::Mark;
 
-/// Octave by octave; after the last it starts anew.
-pub const COLOURS: [Colour; 8] = [
-    [64, 224, 255],
-    [255, 214, 64],
-    [255, 110, 70],
-    [214, 120, 255],
-    [120, 240, 120],
-    [255, 150, 200],
-    [150, 180, 255],
-    [240, 240, 150],
-];
-pub const ZERO: Colour = [255, 255, 255];
 /// Blue and orange are told apart by every eye.
 pub const KEPT: Colour = COLOURS[0];
 pub const DROPPED: Colour = [255, 140, 40];
 pub const CUT: Colour = [255, 255, 255];
 const UNDER: Colour = [12, 16, 22];
 const WORDS: Colour = [226, 230, 235];
-
-pub fn colour(octave: u32) -> Colour {
-    COLOURS[octave as usize % COLOURS.len()]
-}
 
 /// A mark in the frame's cells: a cell's middle is half a cell from its corner.
 #[derive(Clone, Copy, Debug, PartialEq)]
@@ -75,7 +61,7 @@ pub fn in_order(marks: &[Mark]) -> Vec<&Mark> {
 pub enum Entry {
     Words(String),
     Octave(u32, String),
-    Zero(String),
+    Patch(Patch, String),
     Kept(String),
     Dropped(String),
     Cut(String),
@@ -86,7 +72,7 @@ impl Entry {
         match self {
             Entry::Words(w)
             | Entry::Octave(_, w)
-            | Entry::Zero(w)
+            | Entry::Patch(_, w)
             | Entry::Kept(w)
             | Entry::Dropped(w)
             | Entry::Cut(w) => w,
@@ -98,7 +84,7 @@ impl Entry {
         match self {
             Entry::Words(_) => WORDS,
             Entry::Octave(octave, _) => colour(*octave),
-            Entry::Zero(_) => ZERO,
+            Entry::Patch(..) => ZERO,
             Entry::Kept(_) => KEPT,
             Entry::Dropped(_) => DROPPED,
             Entry::Cut(_) => CUT,
@@ -117,10 +103,17 @@ pub fn legend(marks: &[Mark]) -> Vec<Entry> {
             all.push(Entry::Octave(octave, format!("octave {octave}: {many}")));
         }
     }
-    let zero = marks.iter().filter(|m| m.blank).count();
-    if zero > 0 {
-        let words = format!("all zero: {zero}, flat or not read");
-        all.push(Entry::Zero(words));
+    // the letters of a picture have no brackets
+    for (patch, about) in [
+        (Patch::Level, "read, all zero"),
+        (Patch::Blank, "no cell read"),
+        (Patch::Unknown, "level or blank"),
+    ] {
+        let many = marks.iter().filter(|m| m.patch == Some(patch)).count();
+        if many > 0 {
+            let words = format!("{}: {many}, {about}", patch.name());
+            all.push(Entry::Patch(patch, words));
+        }
     }
     all
 }
@@ -168,11 +161,11 @@ fn background(frame: &Frame, zoom: usize, below: usize) -> Canvas {
 }
 
 fn draw_mark(canvas: &mut Canvas, m: &Mark, p: &Place, zoom: f32) {
-    let colour = if m.blank { ZERO } else { colour(m.octave) };
+    let look = look(m.patch, m.octave);
     let half = if zoom < 2.0 { 0.5 } else { 0.85 };
     let middle = (p.x * zoom, p.y * zoom);
     let end = (p.end.0 * zoom, p.end.1 * zoom);
-    let radius = (p.radius * zoom).max(1.5);
+    let radius = (p.radius * zoom).max(look.least);
     let under = Stroke {
         half: half + 1.1,
         colour: UNDER,
@@ -180,21 +173,22 @@ fn draw_mark(canvas: &mut Canvas, m: &Mark, p: &Place, zoom: f32) {
     };
     let over = Stroke {
         half,
-        colour,
+        colour: look.colour,
         cover: 1.0,
     };
     for stroke in [under, over] {
-        canvas.ring(middle, radius, m.blank, stroke);
+        draw_look(canvas, middle, radius, &look, stroke);
         canvas.line(middle, end, stroke);
-        if m.blank {
-            cross(canvas, middle, (radius * 0.5).min(9.0), stroke);
-        }
     }
 }
 
-fn cross(canvas: &mut Canvas, (x, y): (f32, f32), arm: f32, stroke: Stroke) {
-    canvas.line((x - arm, y - arm), (x + arm, y + arm), stroke);
-    canvas.line((x - arm, y + arm), (x + arm, y - arm), stroke);
+/// The circle of a mark, and what is in it.
+fn draw_look(canvas: &mut Canvas, middle: (f32, f32), radius: f32, look: &Look, stroke: Stroke) {
+    canvas.ring(middle, radius, look.dashed, stroke);
+    let at = |(x, y): (f32, f32)| (middle.0 + radius * x, middle.1 + radius * y);
+    for [from, to] in look.inside {
+        canvas.line(at(*from), at(*to), stroke);
+    }
 }
 
 /// Where each entry of the legend begins, its rows, and the height of a row.
@@ -263,10 +257,7 @@ fn draw_sign(canvas: &mut Canvas, e: &Entry, middle: (f32, f32), z: f32) {
             canvas.ring(middle, 3.5 * z, false, s);
             canvas.line(middle, (x + 3.5 * z, y), s);
         }
-        Entry::Zero(_) => {
-            canvas.ring(middle, 3.5 * z, true, s);
-            cross(canvas, middle, 1.8 * z, s);
-        }
+        Entry::Patch(patch, _) => draw_look(canvas, middle, 3.5 * z, &look(Some(*patch), 0), s),
         Entry::Kept(_) => canvas.ring(middle, 3.5 * z, false, s),
         Entry::Dropped(_) => dot(canvas, middle, 1.6 * z, s),
         Entry::Cut(_) => canvas.line((x - 3.5 * z, y), (x + 3.5 * z, y), s),
@@ -338,5 +329,76 @@ fn draw_thinned(canvas: &mut Canvas, t: &Thinned, cuts: &[Line], doubled: bool, 
         let radius = (radius(k.size, doubled) * zoom).max(1.5);
         canvas.ring(middle, radius, false, stroke(half + 1.1, UNDER, 0.55));
         canvas.ring(middle, radius, false, stroke(half, KEPT, 1.0));
+    }
+}
+
+#[cfg(test)]
+mod tests {
+    use super::*;
+
+    fn mark(x: f32, patch: Option<Patch>) -> Mark {
+        Mark {
+            row: 9,
+            column: 9,
+            octave: 1,
+            layer: 1,
+            code: 128,
+            x,
+            y: 9.0,
+            size: 0.25,
+            response: 0.0,
+            angle: 0.0,
+            patch,
+        }
+    }
+
+    #[test]
+    fn the_legend_counts_what_has_zeros() {
+        let patches = [
+            Some(Patch::Blank),
+            None,
+            Some(Patch::Values),
+            Some(Patch::Level),
+            Some(Patch::Blank),
+            Some(Patch::Unknown),
+        ];
+        let marks = patches.map(|p| mark(9.0, p));
+        let all = legend(&marks);
+        let words: Vec<&str> = all.iter().map(Entry::words).collect();
+        assert_eq!(
+            words,
+            [
+                "6 oriented keypoints",
+                "octave 1: 6",
+                "level: 1, read, all zero",
+                "blank: 2, no cell read",
+                "unknown: 1, level or blank",
+            ]
+        );
+        assert_eq!(legend(&marks[1..3]).len(), 2);
+    }
+
+    #[test]
+    fn four_looks() {
+        let frame = Frame {
+            width: 20,
+            height: 20,
+            samples: vec![99.0; 400],
+        };
+        let drawn = |p| to_png(&frame, &[mark(9.0, Some(p))], false, 4);
+        // the legends differ too, so that the canvas is looked at by itself
+        let alone = |p| {
+            let mut canvas = background(&frame, 4, 0);
+            let m = mark(9.0, Some(p));
+            draw_mark(&mut canvas, &m, &place(&m, false), 4.0);
+            canvas.to_png()
+        };
+        for (k, a) in Patch::ALL.into_iter().enumerate() {
+            for b in &Patch::ALL[..k] {
+                assert_ne!(look(Some(a), 1), look(Some(*b), 1));
+                assert!(alone(a) != alone(*b) && drawn(a) != drawn(*b));
+            }
+        }
+        assert_eq!(look(None, 1), look(Some(Patch::Values), 1));
     }
 }

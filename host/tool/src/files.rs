@@ -1,7 +1,9 @@
 //! Files in and out; `-` is standard input or output.
 
 use crate::Trouble;
+use crate::fault::fault;
 use crate::pgm::{self, Frame};
+use crate::points::{self, Points};
 use bargeclover::{Refusal, Sheet, read_sheet};
 use std::fs::{self, File};
 use std::io::{self, Read, Write};
@@ -12,6 +14,9 @@ const MOST_FRAME: u64 = 1 << 30;
 
 /// One byte more than the longest sheet has.
 const MOST_SHEET: u64 = 8 + 154 * 1_048_575 + 1;
+
+/// A hundred bytes for each record of the largest sheet.
+const MOST_POINTS: u64 = 100 * 1_048_575;
 
 fn is_dash(path: &Path) -> bool {
     path.as_os_str() == "-"
@@ -41,29 +46,40 @@ pub fn frame(path: &Path) -> Result<Frame, Trouble> {
     pgm::read(&bytes).map_err(|f| Trouble::Refused(format!("{}: {f}", path.display())))
 }
 
+/// Points set by hand.
+pub fn points(path: &Path) -> Result<Points, Trouble> {
+    let bytes = read(path, MOST_POINTS, |_| true)?;
+    let file = path.display().to_string();
+    if bytes.len() as u64 == MOST_POINTS {
+        return Err(Trouble::Refused(format!(
+            "{file}: longer than {MOST_POINTS} bytes, and a sheet has at most 1048575 records"
+        )));
+    }
+    points::read(&file, &bytes)
+}
+
 /// A sheet's bytes, whatever they are.
 pub fn sheet_bytes(path: &Path) -> Result<Vec<u8>, Trouble> {
     read(path, MOST_SHEET, |_| true)
 }
 
-/// A sound sheet, and which of its records are all zero.
-pub fn sheet(path: &Path) -> Result<(Sheet, Vec<bool>), Trouble> {
+/// A sound sheet.
+pub fn sheet(path: &Path) -> Result<Sheet, Trouble> {
     let bytes = sheet_bytes(path)?;
     read_sheet(&bytes).map_err(|r| unsound(path, &bytes, r))
 }
 
 /// Why a sheet is refused: the library's number and words, and what a look at its fields finds.
 pub fn unsound(path: &Path, bytes: &[u8], refusal: Refusal) -> Trouble {
-    let why =
-        crate::table::fault(bytes).unwrap_or("no fault was found by looking at its fields".into());
+    let why = fault(bytes).unwrap_or("no fault was found by looking at its fields".into());
     Trouble::Refused(format!("{}: {refusal}: {why}", path.display()))
 }
 
 /// That what is written does not take the place of what is read.
-pub fn apart(from: &Path, to: &Path) -> Result<(), Trouble> {
+pub fn apart(what: &str, from: &Path, to: &Path) -> Result<(), Trouble> {
     match (fs::canonicalize(from), fs::canonicalize(to)) {
         (Ok(a), Ok(b)) if a == b && b.is_file() => Err(Trouble::Usage(format!(
-            "'{}' would take the place of the frame",
+            "'{}' would take the place of the {what}",
             to.display()
         ))),
         _ => Ok(()),

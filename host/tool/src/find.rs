@@ -20,7 +20,12 @@ pub struct Wanted {
     pub double: bool,
     /// Where only so many keypoints are kept.
     pub cover: Option<Cover>,
+    /// Nothing is looked for: the planes are made for points that are given.
+    pub unsearched: bool,
 }
+
+/// The edition that sheets have unless another is asked for.
+pub const EDITION: u32 = 2;
 
 /// What detection answers to these settings, on a stack too small to find anything in.
 fn tried(settings: Settings) -> Result<(), Refusal> {
@@ -71,6 +76,7 @@ pub fn accepted(frame: &Frame, wanted: &Wanted) -> Result<(), Trouble> {
     }
     let (width, height) = size(frame, wanted.double);
     let empty = Sheet {
+        edition: EDITION,
         width,
         height,
         layers: s.layers,
@@ -127,8 +133,12 @@ fn search(
     let many = pyramid.octaves();
     for octave in pyramid {
         let at = format!("octave {} of {many}", octave.number + 1);
-        progress.say(|| format!("{at}: looking for extrema"));
-        let list = keypoints(&octave, s).map_err(inside)?;
+        let list = if wanted.unsearched {
+            Vec::new()
+        } else {
+            progress.say(|| format!("{at}: looking for extrema"));
+            keypoints(&octave, s).map_err(inside)?
+        };
         take(octave, list, progress)?;
         progress.say(|| format!("{at} done: making the next planes"));
     }
@@ -183,7 +193,18 @@ pub fn each(
     frame: &Frame,
     wanted: &Wanted,
     progress: &mut Progress,
+    take: impl FnMut(&Octave, &Keypoint, &Oriented) -> Result<(), Trouble>,
+) -> Result<Found, Trouble> {
+    each_with_planes(frame, wanted, progress, take, |_| {})
+}
+
+/// The same, and gives away each octave's Gaussian planes when its keypoints are handed over.
+pub fn each_with_planes(
+    frame: &Frame,
+    wanted: &Wanted,
+    progress: &mut Progress,
     mut take: impl FnMut(&Octave, &Keypoint, &Oriented) -> Result<(), Trouble>,
+    mut leave: impl FnMut(Octave),
 ) -> Result<Found, Trouble> {
     if let Some(cover) = &wanted.cover {
         let (thinned, octaves) = thinned(frame, wanted, cover, progress)?;
@@ -193,19 +214,22 @@ pub fn each(
             let keypoint = &thinned.keypoints[p];
             orient(&octaves[octave_of(keypoint)], keypoint, &mut take)?;
         }
+        octaves.into_iter().for_each(leave);
         return Ok(Found {
             keypoints: many,
             tally: Some(thinned.tally()),
         });
     }
     let mut found = 0;
-    search(frame, wanted, progress, |octave, list, progress| {
+    search(frame, wanted, progress, |mut octave, list, progress| {
         for (k, keypoint) in list.iter().enumerate() {
             let (at, many) = (octave.number + 1, list.len());
             progress.say(|| format!("octave {at}: keypoint {} of {many}", k + 1));
             orient(&octave, keypoint, &mut take)?;
         }
         found += list.len();
+        octave.differences = Vec::new();
+        leave(octave);
         Ok(())
     })?;
     Ok(Found {
@@ -215,6 +239,6 @@ pub fn each(
 }
 
 /// The octave in which a keypoint was found.
-fn octave_of(keypoint: &Keypoint) -> usize {
+pub fn octave_of(keypoint: &Keypoint) -> usize {
     (keypoint.octave & 255) as usize
 }

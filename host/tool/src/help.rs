@@ -93,23 +93,50 @@ said how many are kept, and how many of 8 x 8 fields of the frame have a keypoin
     };
 }
 
+const SHEET: &[Opt] = &[
+    opt(
+        "output",
+        Some('o'),
+        Some("FILE"),
+        "the sheet, or a folder for the sheets",
+    ),
+    opt(
+        "edition",
+        None,
+        Some("NUMBER"),
+        "the sheet's edition, 2 or 1 [2]",
+    ),
+    opt(
+        "points",
+        None,
+        Some("FILE"),
+        "points set by hand, which have records beside what is found",
+    ),
+    opt(
+        "only-points",
+        None,
+        None,
+        "search nothing: records of the points alone",
+    ),
+];
+
 pub const EXTRACT: Command = Command {
     name: "extract",
     files: "FRAME.pgm..",
     about: "make a sheet of the keypoints of each frame",
-    options: &[
-        &[opt(
-            "output",
-            Some('o'),
-            Some("FILE"),
-            "the sheet, edition 1, or a folder for the sheets",
-        )],
-        SEARCH,
-        HELP,
-    ],
+    options: &[SHEET, SEARCH, HELP],
     more: concat!(
         "Where a folder is named, which has to be there, each sheet has its frame's name in it. Of several frames those that are refused\n\
-         are told, and the others are made.\n",
+         are told, and the others are made.\n\
+         Edition 2 tells a level patch, which was read, from a blank one, of which no cell was read. Edition 1 leaves both unknown.\n\
+         --points names a file of lines x,y,size or x,y,size,angle, of one frame. A first line may name these columns; empty lines, spaces and\n\
+         Windows line ends do not matter; a line that is wrong is refused with its number. x and y are in cells of the file, 0 to its width or\n\
+         height less 1, whole numbers in the middle of a cell. The size is a diameter in cells, as `bargeclover show` prints it: it decides\n\
+         the octave and layer, those whose own size is nearest and whose octave has a cell there, and is kept as it is. The angle is in\n\
+         degrees, clockwise from the right, 0 to below 360. Without one the point has the directions that are found for it, or 0 where there\n\
+         are none, so that each point has a record. Their records come last, in the order of the lines, with a response of 0. A --quota does\n\
+         not count them and drops none. With --double x and y become 2x + 1/2 and 2y + 1/2, the same places of the doubled frame, and the\n\
+         size is doubled.\n",
         planes!()
     ),
 };
@@ -133,8 +160,11 @@ pub const SHOW: Command = Command {
     ],
     more: "\
 The table's numbers are rounded; --csv has them exact, with the 128 values. x, y and size are in cells of octave 0, row and column
-are the keypoint's cell in its own octave, the angle is in degrees, clockwise from the right. \"all zero\" marks records whose 128
-values are all zero: the patch was flat or no cell of it was read, and a sheet of edition 1 can't say which.",
+are the keypoint's cell in its own octave, the angle is in degrees, clockwise from the right. The last column tells of the patch:
+  values   not all of the 128 values are zero
+  level    cells of it were read, and all values are zero
+  blank    no cell of it was read; all values are zero
+  unknown  all values are zero, and a sheet of edition 1 can't say whether a cell was read",
 };
 
 pub const CHECK: Command = Command {
@@ -143,8 +173,9 @@ pub const CHECK: Command = Command {
     about: "say whether sheets are sound",
     options: &[HELP],
     more: "\
-One line for each sheet: that it is sound, or the library's number and the first field found at fault. Ends with 0 where all
-are sound and with 1 where one is not.",
+One line for each sheet: that it is sound, with its edition and how many of its records are level, blank or unknown, which
+`bargeclover help show` explains; or the library's number and the first field found at fault. Ends with 0 where all are sound and
+with 1 where one is not.",
 };
 
 pub const DRAW: Command = Command {
@@ -161,7 +192,9 @@ pub const DRAW: Command = Command {
     ],
     more: "\
 A circle is as large as the keypoint's size, its line shows the direction, its colour the octave. Records whose 128 values are
-all zero are dashed and crossed. Without a SHEET the frame is searched, as `bargeclover find` does, and the options for that apply.
+all zero are white: level ones have a level line through the circle, blank ones are dashed and crossed out, unknown ones dashed; they
+are never drawn too small to be told apart. Without a SHEET the frame is searched, as `bargeclover find` does, and the options for that
+apply.
 A SHEET of the doubled frame is drawn on the frame itself.
 With --quota, and without a SHEET, the keypoints that are kept are circles, those that are dropped dots, and lines show where regions
 were cut.",

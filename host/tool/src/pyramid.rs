@@ -144,14 +144,28 @@ fn halved(plane: &[f32], width: usize, height: usize) -> Vec<f32> {
         .collect()
 }
 
+/// Width and height of each octave of a frame, which may be doubled first.
+pub fn sides(width: usize, height: usize, double: bool) -> Vec<(usize, usize)> {
+    let times = if double { 2 } else { 1 };
+    let (mut w, mut h) = (times * width, times * height);
+    let least = w.min(h) as f64;
+    let many = (least.log2() - 2.0).round_ties_even() as i32 + i32::from(double);
+    let mut all = Vec::new();
+    while w.min(h) >= LEAST_SIDE && all.len() < many.max(1) as usize {
+        all.push((w, h));
+        (w, h) = (w / 2, h / 2);
+    }
+    all
+}
+
 /// The octaves of a frame, made one after the other: the one before is let go when the next is asked for.
 pub struct Pyramid {
     kernels: Vec<Vec<f32>>,
     layers: usize,
     /// The first plane of the next octave.
-    next: Option<(Vec<f32>, usize, usize)>,
+    next: Vec<f32>,
     number: u32,
-    octaves: u32,
+    sides: Vec<(usize, usize)>,
 }
 
 impl Pyramid {
@@ -180,20 +194,18 @@ impl Pyramid {
         } else {
             (samples, width, height)
         };
-        let least = w.min(h) as f64;
-        let many = (least.log2() - 2.0).round_ties_even() as i32 + i32::from(double);
         Pyramid {
             kernels: (1..s.layers + 3).map(|i| kernel(step(i))).collect(),
             layers: s.layers,
-            next: Some((blurred(base, w, h, &kernel(first)), w, h)),
+            next: blurred(base, w, h, &kernel(first)),
             number: 0,
-            octaves: many.max(1) as u32,
+            sides: sides(width, height, double),
         }
     }
 
-    /// How many octaves there will be, at most.
-    pub fn octaves(&self) -> u32 {
-        self.octaves
+    /// How many octaves there are.
+    pub fn octaves(&self) -> usize {
+        self.sides.len()
     }
 }
 
@@ -201,11 +213,8 @@ impl Iterator for Pyramid {
     type Item = Octave;
 
     fn next(&mut self) -> Option<Octave> {
-        let (first, width, height) = self.next.take()?;
-        if width < LEAST_SIDE || height < LEAST_SIDE || self.number >= self.octaves {
-            return None;
-        }
-        let mut gaussian = vec![first];
+        let (width, height) = *self.sides.get(self.number as usize)?;
+        let mut gaussian = vec![std::mem::take(&mut self.next)];
         let mut differences = Vec::with_capacity(self.kernels.len() * width * height);
         for (i, k) in self.kernels.iter().enumerate() {
             let below = &gaussian[i];
@@ -216,10 +225,9 @@ impl Iterator for Pyramid {
                 gaussian[i] = Vec::new();
             }
         }
-        let start = halved(&gaussian[self.layers], width, height);
+        self.next = halved(&gaussian[self.layers], width, height);
         gaussian.truncate(self.layers + 1);
         gaussian.resize(self.kernels.len() + 1, Vec::new());
-        self.next = Some((start, width / 2, height / 2));
         let number = self.number;
         self.number += 1;
         Some(Octave {
@@ -296,7 +304,11 @@ mod tests {
         let sides = |w: usize, h: usize, double| {
             let s = Settings::default();
             let p = Pyramid::new(&vec![0.0; w * h], w, h, &s, double);
-            p.map(|o| (o.width, o.height)).collect::<Vec<_>>()
+            p.map(|o| {
+                assert_eq!(o.gaussian[1].len(), o.width * o.height);
+                (o.width, o.height)
+            })
+            .collect::<Vec<_>>()
         };
         // round(log2(240) - 2) is 6, and the fifth octave would be 20 x 15
         assert_eq!(

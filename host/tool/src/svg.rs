@@ -2,9 +2,9 @@
 
 use crate::cover::Thinned;
 use crate::draw::{
-    CUT, DROPPED, Entry, KEPT, ZERO, colour, in_order, legend, legend_of_thinned, on_frame, place,
-    radius, shade,
+    CUT, DROPPED, Entry, KEPT, in_order, legend, legend_of_thinned, on_frame, place, radius, shade,
 };
+use crate::look::{Look, look};
 use crate::pgm::Frame;
 use crate::png::{self, Kind};
 use crate::table::Mark;
@@ -31,48 +31,42 @@ fn hex([r, g, b]: [u8; 3]) -> String {
     format!("#{r:02x}{g:02x}{b:02x}")
 }
 
-fn shape(m: &Mark, doubled: bool) -> String {
-    let p = place(m, doubled);
-    let (x, y, r) = (p.x, p.y, p.radius);
+/// The circle of a mark and what is in it, as a path and its look.
+fn ring((x, y): (f32, f32), r: f32, look: &Look) -> (String, String) {
     let mut path = format!(
-        "M{:.2} {y:.2}a{r:.2} {r:.2} 0 1 0 {:.2} 0a{r:.2} {r:.2} 0 1 0 {:.2} 0M{x:.2} {y:.2}L{:.2} {:.2}",
+        "M{:.2} {y:.2}a{r:.2} {r:.2} 0 1 0 {:.2} 0a{r:.2} {r:.2} 0 1 0 {:.2} 0",
         x - r,
         2.0 * r,
-        -2.0 * r,
-        p.end.0,
-        p.end.1
+        -2.0 * r
     );
-    if m.blank {
-        let a = (r * 0.5).min(3.0);
-        let _ = write!(
-            path,
-            "M{:.2} {:.2}l{:.2} {:.2}m0 {:.2}l{:.2} {:.2}",
-            x - a,
-            y - a,
-            2.0 * a,
-            2.0 * a,
-            -2.0 * a,
-            -2.0 * a,
-            2.0 * a
-        );
+    for [from, to] in look.inside {
+        let at = |(u, v): &(f32, f32)| format!("{:.2} {:.2}", x + r * u, y + r * v);
+        let _ = write!(path, "M{}L{}", at(from), at(to));
     }
-    let (look, zero) = if m.blank {
-        (
-            format!("stroke=\"{}\" stroke-dasharray=\"1.5 1\"", hex(ZERO)),
-            ", all zero",
-        )
-    } else {
-        (format!("stroke=\"{}\"", hex(colour(m.octave))), "")
-    };
+    let mut words = format!("stroke=\"{}\"", hex(look.colour));
+    if look.dashed {
+        let (dash, gap) = ((0.5 * r).min(1.5), (0.35 * r).min(1.0));
+        let _ = write!(words, " stroke-dasharray=\"{dash:.2} {gap:.2}\"");
+    }
+    (path, words)
+}
+
+fn shape(m: &Mark, doubled: bool, zoom: usize) -> String {
+    let p = place(m, doubled);
+    let look = look(m.patch, m.octave);
+    let radius = p.radius.max(look.least / zoom as f32);
+    let (path, words) = ring((p.x, p.y), radius, &look);
+    let line = format!("M{:.2} {:.2}L{:.2} {:.2}", p.x, p.y, p.end.0, p.end.1);
+    let patch = m.patch.map_or(String::new(), |p| format!(", {}", p.name()));
     format!(
-        "<path d=\"{path}\" {look}><title>x {}, y {}, size {}, response {}, angle {}, octave {}, layer {}, row {}, column {}{zero}</title></path>\n",
+        "<path d=\"{path}{line}\" {words}><title>x {}, y {}, size {}, response {}, angle {}, octave {}, layer {}, row {}, column {}{patch}</title></path>\n",
         m.x, m.y, m.size, m.response, m.angle, m.octave, m.layer, m.row, m.column
     )
 }
 
 pub fn to_svg(frame: &Frame, marks: &[Mark], doubled: bool, zoom: usize) -> String {
-    let shapes: String = in_order(marks).iter().map(|m| shape(m, doubled)).collect();
-    page(frame, zoom, &legend(marks), &shapes)
+    let each = in_order(marks).into_iter().map(|m| shape(m, doubled, zoom));
+    page(frame, zoom, &legend(marks), &each.collect::<String>())
 }
 
 /// Kept keypoints as circles, dropped ones as dots, and the lines where regions were cut.
@@ -134,18 +128,35 @@ fn page(frame: &Frame, zoom: usize, entries: &[Entry], shapes: &str) -> String {
     for (k, e) in entries.iter().enumerate() {
         let (fill, words) = (hex(e.colour()), e.words());
         let y = h as f32 + letter * 1.6 * (k as f32 + 1.0);
+        let sign = sign(e, (1.3 * letter, y - 0.35 * letter), 0.45 * letter);
+        s += &sign;
         let _ = writeln!(
             s,
-            "<text x=\"{letter:.2}\" y=\"{y:.2}\" fill=\"{fill}\">{words}</text>"
+            "<text x=\"{:.2}\" y=\"{y:.2}\" fill=\"{fill}\">{words}</text>",
+            if sign.is_empty() {
+                letter
+            } else {
+                2.2 * letter
+            }
         );
     }
     s += "</g>\n</svg>\n";
     s
 }
 
+/// What stands before the words of an entry: how its marks look, where their colour alone does not say it.
+fn sign(e: &Entry, middle: (f32, f32), radius: f32) -> String {
+    let Entry::Patch(patch, _) = e else {
+        return String::new();
+    };
+    let (path, words) = ring(middle, radius, &look(Some(*patch), 0));
+    format!("<path d=\"{path}\" fill=\"none\" stroke-width=\"0.5\" {words}/>\n")
+}
+
 #[cfg(test)]
 mod tests {
     use super::*;
+    use crate::patch::Patch;
 
     #[test]
     fn base64_as_in_its_standard() {
@@ -160,5 +171,52 @@ mod tests {
         ] {
             assert_eq!(base64(bytes.as_bytes()), words);
         }
+    }
+
+    #[test]
+    fn four_things_are_told_apart() {
+        let frame = Frame {
+            width: 50,
+            height: 40,
+            samples: vec![99.0; 2000],
+        };
+        let mark = |patch| Mark {
+            row: 9,
+            column: 9,
+            octave: 0,
+            layer: 1,
+            code: 128,
+            x: 9.0,
+            y: 9.0,
+            size: 0.25,
+            response: 0.0,
+            angle: 0.0,
+            patch: Some(patch),
+        };
+        let marks = Patch::ALL.map(mark);
+        let mut shapes: Vec<String> = marks.iter().map(|m| shape(m, false, 2)).collect();
+        for (s, p) in shapes.iter().zip(Patch::ALL) {
+            assert!(s.contains(&format!(", {}</title>", p.name())), "{s}");
+        }
+        // without their words they differ too
+        for s in &mut shapes {
+            s.truncate(s.find("<title>").unwrap());
+        }
+        shapes.sort();
+        shapes.dedup();
+        assert_eq!(shapes.len(), 4);
+        let svg = to_svg(&frame, &marks, false, 2);
+        for words in [
+            "level: 1, read, all zero",
+            "blank: 1, no cell read",
+            "unknown: 1, level or blank",
+        ] {
+            assert_eq!(
+                svg.matches(&format!(">{words}</text>")).count(),
+                1,
+                "{words}"
+            );
+        }
+        assert_eq!(svg.matches("<path ").count(), 4 + 3);
     }
 }

@@ -1,5 +1,6 @@
-//! Keypoints and sheets as words: tables, comma-separated lines, one record in full, and what is wrong with a sheet.
+//! Keypoints and sheets as words: tables, comma-separated lines, and one record in full.
 
+use crate::patch::{self, Patch};
 use bargeclover::{Keypoint, Oriented, Record, Sheet};
 use std::fmt::Write;
 
@@ -16,12 +17,12 @@ pub struct Mark {
     pub size: f32,
     pub response: f32,
     pub angle: f32,
-    /// Its 128 values are all zero.
-    pub blank: bool,
+    /// What its record tells of its patch; none where it has no descriptor.
+    pub patch: Option<Patch>,
 }
 
 impl Mark {
-    pub fn of_record(r: &Record, blank: bool) -> Mark {
+    pub fn of_record(r: &Record) -> Mark {
         Mark {
             row: r.row,
             column: r.column,
@@ -33,30 +34,26 @@ impl Mark {
             size: r.size,
             response: r.response,
             angle: r.angle,
-            blank,
+            patch: Some(Patch::of(r)),
         }
     }
 
     /// Of an oriented keypoint that has no descriptor.
     pub fn of_oriented(k: &Keypoint, o: &Oriented) -> Mark {
-        Mark::of_record(&record(k, o, [0; 128]), false)
-    }
-}
-
-/// The sheet's record of an oriented keypoint.
-pub fn record(k: &Keypoint, o: &Oriented, values: [u8; 128]) -> Record {
-    Record {
-        row: k.row,
-        column: k.column,
-        octave: o.octave & 255,
-        layer: o.octave >> 8 & 255,
-        code: o.octave >> 16 & 255,
-        x: o.x,
-        y: o.y,
-        size: o.size,
-        response: o.response,
-        angle: o.angle,
-        values,
+        let [octave, layer, code, _] = o.octave.to_le_bytes().map(u32::from);
+        Mark {
+            row: k.row,
+            column: k.column,
+            octave,
+            layer,
+            code,
+            x: o.x,
+            y: o.y,
+            size: o.size,
+            response: o.response,
+            angle: o.angle,
+            patch: None,
+        }
     }
 }
 
@@ -64,13 +61,14 @@ const FIELDS: [&str; 11] = [
     "number", "x", "y", "size", "response", "angle", "octave", "layer", "code", "row", "column",
 ];
 
-/// The head of a table.
-pub fn head() -> String {
-    let widths = WIDTHS.iter().zip(FIELDS);
-    widths.fold(String::new(), |s, (w, f)| s + &format!("{f:>w$}"))
-}
-
 const WIDTHS: [usize; 11] = [7, 10, 10, 9, 10, 9, 8, 7, 6, 7, 8];
+
+/// The head of a table, of records or of keypoints without descriptors.
+pub fn head(records: bool) -> String {
+    let widths = WIDTHS.iter().zip(FIELDS);
+    let s = widths.fold(String::new(), |s, (w, f)| s + &format!("{f:>w$}"));
+    if records { s + "  patch" } else { s }
+}
 
 /// A line of a table; the numbers are rounded for reading.
 pub fn line(number: usize, m: &Mark) -> String {
@@ -78,36 +76,42 @@ pub fn line(number: usize, m: &Mark) -> String {
         "{number:>7}{:>10.2}{:>10.2}{:>9.2}{:>10.5}{:>9.2}{:>8}{:>7}{:>6}{:>7}{:>8}",
         m.x, m.y, m.size, m.response, m.angle, m.octave, m.layer, m.code, m.row, m.column
     );
-    if m.blank {
-        s += "  all zero";
+    if let Some(patch) = m.patch {
+        let _ = write!(s, "  {}", patch.name());
     }
     s
 }
 
-/// The head of comma-separated lines, with or without the 128 values.
-pub fn csv_head(values: bool) -> String {
+/// The head of comma-separated lines, of records with their 128 values or of keypoints without descriptors.
+pub fn csv_head(records: bool) -> String {
     let mut s = FIELDS.join(",");
-    if values {
+    if records {
         for k in 0..128 {
             let _ = write!(s, ",v{k}");
         }
+        s += ",patch";
     }
     s
 }
 
 /// A comma-separated line; each number is written so that it reads back to the same bits.
-pub fn csv_line(number: usize, m: &Mark, values: Option<&[u8; 128]>) -> String {
-    let mut s = format!(
+pub fn csv_line(number: usize, m: &Mark) -> String {
+    format!(
         "{number},{},{},{},{},{},{},{},{},{},{}",
         m.x, m.y, m.size, m.response, m.angle, m.octave, m.layer, m.code, m.row, m.column
-    );
-    for v in values.into_iter().flatten() {
-        let _ = write!(s, ",{v}");
-    }
-    s
+    )
 }
 
-fn plural(n: usize, one: &str) -> String {
+/// The comma-separated line of a record.
+pub fn csv_record(number: usize, r: &Record) -> String {
+    let mut s = csv_line(number, &Mark::of_record(r));
+    for v in &r.values {
+        let _ = write!(s, ",{v}");
+    }
+    s + "," + Patch::of(r).name()
+}
+
+pub fn plural(n: usize, one: &str) -> String {
     if n == 1 {
         format!("1 {one}")
     } else {
@@ -116,28 +120,26 @@ fn plural(n: usize, one: &str) -> String {
 }
 
 /// A sheet in one line.
-pub fn summary(sheet: &Sheet, blank: &[bool]) -> String {
-    let zero = blank.iter().filter(|b| **b).count();
+pub fn summary(sheet: &Sheet) -> String {
     let mut s = format!(
-        "edition 1, {} x {} cells, {}, {}",
+        "edition {}, {} x {} cells, {}, {}",
+        sheet.edition,
         sheet.width,
         sheet.height,
         plural(sheet.layers, "layer"),
         plural(sheet.records.len(), "record")
     );
-    if zero > 0 {
-        let _ = write!(
-            s,
-            ", {zero} of them all zero (flat or not read: edition 1 can't say which)"
-        );
+    if let Some(zeros) = patch::zeros(sheet.records.iter().map(Patch::of)) {
+        let _ = write!(s, ", of them {zeros}");
     }
     s
 }
 
 /// One record in full, its 128 values as 4 rows of 4 cells of 8 directions.
-pub fn full(number: usize, r: &Record, blank: bool) -> String {
+pub fn full(number: usize, r: &Record) -> String {
     let mut s = String::new();
-    let fields: [(&str, String); 10] = [
+    let patch = Patch::of(r);
+    let fields: [(&str, String); 11] = [
         ("x", r.x.to_string()),
         ("y", r.y.to_string()),
         ("size", r.size.to_string()),
@@ -148,13 +150,13 @@ pub fn full(number: usize, r: &Record, blank: bool) -> String {
         ("code", r.code.to_string()),
         ("row", r.row.to_string()),
         ("column", r.column.to_string()),
+        ("patch", format!("{} ({})", patch.name(), patch.about())),
     ];
     let _ = writeln!(s, "record {number}");
     for (name, value) in fields {
         let _ = writeln!(s, "  {name:<9} {value}");
     }
-    let marked = if blank { ", all zero" } else { "" };
-    let _ = writeln!(s, "  values, a line for each row of cells{marked}");
+    let _ = writeln!(s, "  values, a line for each row of cells");
     for row in r.values.chunks(32) {
         let cells = row.chunks(8).map(|cell| {
             let values: Vec<String> = cell.iter().map(|v| format!("{v:>3}")).collect();
@@ -165,136 +167,14 @@ pub fn full(number: usize, r: &Record, blank: bool) -> String {
     s
 }
 
-/// Takes bits off the front of bytes, most significant first.
-struct Bits<'a> {
-    bytes: &'a [u8],
-    at: usize,
-}
-
-impl Bits<'_> {
-    fn take(&mut self, wide: usize) -> u32 {
-        let mut n = 0;
-        for at in self.at..self.at + wide {
-            let byte = self.bytes.get(at / 8).copied().unwrap_or(0);
-            n = n << 1 | u32::from(byte >> (7 - at % 8) & 1);
-        }
-        self.at += wide;
-        n
-    }
-}
-
-/// The first rule of the sheet that bytes are seen to break. The verdict is the library's; this says where to look.
-pub fn fault(bytes: &[u8]) -> Option<String> {
-    if bytes.len() < 8 {
-        return Some(format!(
-            "a head has 8 bytes, and {} are there: not a sheet, or cut short",
-            bytes.len()
-        ));
-    }
-    let mut bits = Bits { bytes, at: 0 };
-    let [edition, wide, high, layers, count, zero] = [4, 13, 13, 4, 20, 10].map(|w| bits.take(w));
-    if edition != 1 {
-        return Some(format!(
-            "its edition is {edition}, and 1 is read: not a sheet, or one of another edition"
-        ));
-    }
-    if layers == 0 {
-        return Some("its head names no layer".into());
-    }
-    if zero != 0 {
-        return Some("one of the ten bits at the end of the head is not zero".into());
-    }
-    let long = 8 + 154 * count as usize;
-    if bytes.len() != long {
-        return Some(format!(
-            "{} is {long} bytes long, and this has {}: cut short, or the count is wrong",
-            match count {
-                1 => "a sheet of 1 record".into(),
-                n => format!("a sheet of {n} records"),
-            },
-            bytes.len()
-        ));
-    }
-    let (width, height) = (wide + 1, high + 1);
-    for (k, record) in bytes[8..].chunks_exact(154).enumerate() {
-        if let Some(what) = record_fault(record, width, height, layers) {
-            return Some(format!("record {k}: {what}"));
-        }
-    }
-    None
-}
-
-fn record_fault(record: &[u8], width: u32, height: u32, layers: u32) -> Option<String> {
-    let mut bits = Bits {
-        bytes: record,
-        at: 0,
-    };
-    let [row, column, _octave, layer, _code, zero] = [13, 13, 4, 4, 8, 6].map(|w| bits.take(w));
-    let floats = [(); 5].map(|()| bits.take(32));
-    if row >= height {
-        return Some(format!("row {row} is not below the height, {height}"));
-    }
-    if column >= width {
-        return Some(format!("column {column} is not below the width, {width}"));
-    }
-    if !(1..=layers).contains(&layer) {
-        return Some(format!("layer {layer} is not 1 to {layers}"));
-    }
-    if zero != 0 {
-        return Some("one of its six zero bits is set".into());
-    }
-    for (name, b) in ["x", "y", "size", "response", "angle"]
-        .into_iter()
-        .zip(floats)
-    {
-        let v = f32::from_bits(b);
-        if b >> 31 == 1 || !v.is_finite() {
-            return Some(format!(
-                "{name} is {v}, and must be finite with its sign bit clear"
-            ));
-        }
-        if name == "size" && v == 0.0 {
-            return Some("size is 0".into());
-        }
-        if name == "angle" && v >= 360.0 {
-            return Some(format!("angle {v} is not below 360"));
-        }
-    }
-    None
-}
-
 #[cfg(test)]
 mod tests {
     use super::*;
-    use bargeclover::read_sheet;
-    use cases::{Rng, sheet};
+    use bargeclover::Blank;
 
-    #[test]
-    fn a_fault_is_found_exactly_where_the_library_refuses() {
-        let mut rng = Rng::new(5);
-        let (mut sound, mut broken) = (0, 0);
-        for _ in 0..4000 {
-            let mut bytes = sheet::written(&sheet::accepted(&mut rng, 3));
-            for _ in 0..rng.below(3) {
-                sheet::damage_sheet(&mut rng, &mut bytes);
-            }
-            match read_sheet(&bytes) {
-                Ok(_) => {
-                    assert_eq!(fault(&bytes), None);
-                    sound += 1;
-                }
-                Err(_) => {
-                    assert!(fault(&bytes).is_some(), "{bytes:?}");
-                    broken += 1;
-                }
-            }
-        }
-        assert!(sound > 500 && broken > 500, "{sound} {broken}");
-    }
-
-    #[test]
-    fn head_and_line_have_one_width() {
-        let m = Mark {
+    /// One record of each kind, in the order of `Patch::ALL`.
+    fn records() -> Vec<Record> {
+        let zero = Record {
             row: 1,
             column: 2,
             octave: 3,
@@ -305,13 +185,68 @@ mod tests {
             size: 8.0,
             response: 0.5,
             angle: 359.0,
-            blank: false,
+            values: [0; 128],
+            blank: Blank::No,
         };
-        assert_eq!(head().len(), line(3, &m).len());
+        let with = |blank| Record { blank, ..zero };
+        let values = Record {
+            values: [9; 128],
+            ..zero
+        };
+        vec![values, zero, with(Blank::Yes), with(Blank::Unknown)]
+    }
+
+    #[test]
+    fn head_and_line_have_one_width() {
+        let m = Mark {
+            patch: None,
+            ..Mark::of_record(&records()[0])
+        };
+        assert_eq!(head(false).len(), line(3, &m).len());
         assert_eq!(csv_head(false).split(',').count(), 11);
+        assert_eq!(csv_line(3, &m).split(',').count(), 11);
+        for r in records() {
+            let fields = csv_head(true).split(',').count();
+            assert_eq!(csv_record(3, &r).split(',').count(), fields);
+            assert!(csv_record(3, &r).starts_with(&csv_line(3, &m)));
+        }
+    }
+
+    #[test]
+    fn four_things_are_told_apart() {
+        let names = ["values", "level", "blank", "unknown"];
+        assert!(head(true).ends_with("  column  patch") && csv_head(true).ends_with(",v127,patch"));
+        for (r, name) in records().iter().zip(names) {
+            let shown = line(0, &Mark::of_record(r));
+            assert_eq!(shown.split_whitespace().last(), Some(name));
+            assert_eq!(csv_record(0, r).rsplit(',').next(), Some(name));
+            assert!(full(0, r).contains(&format!("\n  patch     {name} (")));
+        }
+    }
+
+    #[test]
+    fn a_summary_counts_what_has_zeros() {
+        let of = |edition, records: &[Record]| {
+            summary(&Sheet {
+                edition,
+                width: 9,
+                height: 8,
+                layers: 1,
+                records: records.into(),
+            })
+        };
+        let all = records();
         assert_eq!(
-            csv_line(3, &m, Some(&[9; 128])).split(',').count(),
-            csv_head(true).split(',').count()
+            of(2, &all[..1]),
+            "edition 2, 9 x 8 cells, 1 layer, 1 record"
+        );
+        assert_eq!(
+            of(2, &all[..3]),
+            "edition 2, 9 x 8 cells, 1 layer, 3 records, of them 1 level (read, all zero), 1 blank (no cell read)"
+        );
+        assert_eq!(
+            of(1, &[all[0], all[3], all[3]]),
+            "edition 1, 9 x 8 cells, 1 layer, 3 records, of them 2 unknown (all zero, level or blank: edition 1 can't say which)"
         );
     }
 }

@@ -1,15 +1,16 @@
-//! Thousands of bent frames and sheets: each is taken or refused, and nothing panics.
+//! Thousands of bent frames, sheets and files of points: each is taken or refused, and nothing panics.
 
 use cases::{Rng, sheet};
 use std::fs;
 use std::path::Path;
 use std::process::{Command, Stdio};
 use tool::cover::Cover;
-use tool::extract::extract;
+use tool::extract::{Order, extract};
 use tool::find::{self, Wanted};
+use tool::patch::Patch;
 use tool::progress::Progress;
 use tool::table::Mark;
-use tool::{draw, pgm, svg};
+use tool::{draw, pgm, points, svg};
 
 /// A small frame's file of one of the four kinds.
 fn frame(rng: &mut Rng) -> Vec<u8> {
@@ -58,7 +59,7 @@ fn use_up(f: &pgm::Frame, wanted: &Wanted) {
         marks.push(Mark::of_oriented(k, o));
         Ok(())
     });
-    if extract(f, wanted, &mut Progress::none()).is_ok() {
+    if extract(f, wanted, &Order::default(), &mut Progress::none()).is_ok() {
         assert!(found.is_ok());
     }
     if found.is_ok() && f.width.max(f.height) < 300 {
@@ -119,13 +120,12 @@ fn odd_sheets_are_drawn() {
     for _ in 0..300 {
         let case = sheet::accepted(&mut rng, 6);
         let bytes = sheet::written(&case);
-        let (sheet, blank) = bargeclover::read_sheet(&bytes).unwrap();
-        let marks: Vec<Mark> = sheet
-            .records
-            .iter()
-            .zip(&blank)
-            .map(|(r, b)| Mark::of_record(r, *b))
-            .collect();
+        let sheet = bargeclover::read_sheet(&bytes).unwrap();
+        let marks: Vec<Mark> = sheet.records.iter().map(Mark::of_record).collect();
+        for m in &marks {
+            let unknown = m.patch == Some(Patch::Unknown);
+            assert!(!unknown || sheet.edition == 1);
+        }
         let (width, height) = (rng.from_to(1, 60), rng.from_to(1, 60));
         let f = pgm::Frame {
             width,
@@ -136,6 +136,77 @@ fn odd_sheets_are_drawn() {
         draw::to_png(&f, &marks, rng.one_in(2), zoom);
         svg::to_svg(&f, &marks, rng.one_in(2), zoom);
     }
+}
+
+/// Lines of points, most of them sound.
+fn point_lines(rng: &mut Rng) -> Vec<u8> {
+    let mut text = String::from(rng.pick(&["", "x,y,size\n", "x, y, size, angle\r\n"]));
+    for _ in 0..rng.below(5) {
+        let number = |rng: &mut Rng, most: f64| match rng.below(8) {
+            0 => rng
+                .pick(&["0", "-0", "39", "1e9", "0.25", "nan", "", "-1"])
+                .into(),
+            1 => format!(" {:.0}", rng.unit() * most),
+            _ => format!("{:.2}", rng.unit() * most),
+        };
+        let fields: Vec<String> = [20.0, 20.0, 20.0, 400.0][..rng.from_to(3, 4)]
+            .iter()
+            .map(|most| number(rng, *most))
+            .collect();
+        text += &fields.join(",");
+        text += rng.pick(&["\n", "\r\n", "\n\n"]);
+    }
+    text.into_bytes()
+}
+
+/// Each point that is taken has a record at least, and the sheet is written.
+#[test]
+fn bent_points() {
+    let mut rng = Rng::new(34);
+    let (mut taken, mut refused, mut placed) = (0, 0, 0);
+    for k in 0..4000 {
+        let mut bytes = point_lines(&mut rng);
+        if k % 2 != 0 {
+            bend(&mut rng, &mut bytes);
+        }
+        let points = match points::read("bent.csv", &bytes) {
+            Ok(p) => p,
+            Err(told) => {
+                assert!(told.to_string().starts_with("bent.csv: line "), "{told}");
+                refused += 1;
+                continue;
+            }
+        };
+        taken += 1;
+        let (width, height) = (rng.from_to(14, 40), rng.from_to(14, 40));
+        let f = pgm::Frame {
+            width,
+            height,
+            samples: (0..width * height).map(|_| rng.below(256) as f32).collect(),
+        };
+        let wanted = Wanted {
+            double: rng.one_in(2),
+            unsearched: true,
+            ..Wanted::default()
+        };
+        let many = points.list.len();
+        let order = Order {
+            edition: rng.from_to(1, 2) as u32,
+            points,
+        };
+        match extract(&f, &wanted, &order, &mut Progress::none()) {
+            Ok(made) => {
+                assert!(made.sheet.records.len() >= many);
+                bargeclover::write_sheet(&made.sheet).unwrap();
+                placed += many;
+            }
+            Err(told) => assert!(told.to_string().starts_with("bent.csv: line "), "{told}"),
+        }
+    }
+    assert!(
+        taken > 1000 && refused > 1000 && placed > 500,
+        "{taken} {refused} {placed}"
+    );
 }
 
 /// The program itself: it ends by itself, with one of its own statuses.

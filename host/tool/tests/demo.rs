@@ -30,9 +30,9 @@ fn planes(o: &Octave) -> Vec<u8> {
         .collect()
 }
 
-/// The records by the published Rust, 138 words each, by the layer searched; a keypoint's picture is that of the layer where it
-/// settled.
-fn records(o: &Octave) -> Vec<[u32; 138]> {
+/// The records by the published Rust, 139 words each, by the layer searched; a keypoint's picture is that of the layer where it
+/// settled. The last word is 1 where no sample was used.
+fn records(o: &Octave) -> Vec<[u32; 139]> {
     let s = Settings::default();
     let mut all = Vec::new();
     for layer in 1..=3 {
@@ -40,14 +40,15 @@ fn records(o: &Octave) -> Vec<[u32; 138]> {
             let plane = &o.gaussian[k[5] as usize];
             for d in oracle::assign_orientations(plane, WIDTH, HEIGHT, &k).0 {
                 let at = oracle::descriptor_inputs(&d, 0).map(f32::from_bits);
-                let (values, _) = oracle::compute_descriptor(plane, WIDTH, HEIGHT, at);
-                let mut w = [0; 138];
+                let (values, samples) = oracle::compute_descriptor(plane, WIDTH, HEIGHT, at);
+                let mut w = [0; 139];
                 let head = [k[8], k[7], d[4] & 255, d[4] >> 8 & 255, d[4] >> 16];
                 w[..5].copy_from_slice(&head);
                 w[5..10].copy_from_slice(&[d[0], d[1], d[2], d[3], d[5]]);
                 for (w, v) in w[10..].iter_mut().zip(values) {
                     *w = f32::from_bits(v) as u32;
                 }
+                w[138] = u32::from(samples == 0);
                 all.push(w);
             }
         }
@@ -55,9 +56,9 @@ fn records(o: &Octave) -> Vec<[u32; 138]> {
     all
 }
 
-fn text(records: &[[u32; 138]]) -> String {
+fn text(records: &[[u32; 139]]) -> String {
     let mut s = String::from(
-        "row\tcolumn\toctave\tlayer\tcode\tx\ty\tsize\tresponse x 100000\tangle\tlargest value\tall zero\n",
+        "row\tcolumn\toctave\tlayer\tcode\tx\ty\tsize\tresponse x 100000\tangle\tlargest value\tblank\n",
     );
     for r in records {
         for v in &r[..5] {
@@ -72,10 +73,11 @@ fn text(records: &[[u32; 138]]) -> String {
             s += &hundredths(*bits);
         }
         let _ = write!(s, "{}\t{}", whole(r[8], 100000.0), hundredths(r[9]));
-        let largest = r[10..].iter().max().unwrap();
-        let _ = writeln!(s, "{largest}\t{}", u32::from(*largest == 0));
+        let largest = r[10..138].iter().max().unwrap();
+        let _ = writeln!(s, "{largest}\t{}", r[138]);
     }
     let sheet = cases::sheet::written(&cases::sheet::Case {
+        edition: 2,
         width: WIDTH,
         height: HEIGHT,
         layers: 3,

@@ -1,46 +1,16 @@
 //! The program as it is called: what it prints and the status that it ends with.
 
+mod program;
+
+use bargeclover::{Blank, Record};
+use program::{COAST, bargeclover, file, lines, place, run, text};
 use std::fs;
 use std::io::Write;
-use std::path::{Path, PathBuf};
-use std::process::{Command, Output, Stdio};
+use std::process::{Command, Stdio};
 
-fn bargeclover(words: &[&str]) -> Output {
-    let mut program = Command::new(env!("CARGO_BIN_EXE_bargeclover"));
-    program.args(words).stdin(Stdio::null()).output().unwrap()
-}
-
-fn text(bytes: &[u8]) -> &str {
-    std::str::from_utf8(bytes).unwrap()
-}
-
-/// Runs and holds to a status; answers what was printed and what was complained.
-fn run(words: &[&str], status: i32) -> (String, String) {
-    let o = bargeclover(words);
-    let (said, complained) = (text(&o.stdout), text(&o.stderr));
-    assert_eq!(
-        o.status.code(),
-        Some(status),
-        "{words:?}: {said}{complained}"
-    );
-    (said.into(), complained.into())
-}
-
-fn place(name: &str) -> PathBuf {
-    Path::new(env!("CARGO_TARGET_TMPDIR")).join(name)
-}
-
-fn file(name: &str, bytes: &[u8]) -> String {
-    let path = place(name);
-    fs::write(&path, bytes).unwrap();
-    path.to_str().unwrap().into()
-}
-
-const COAST: &str = concat!(env!("CARGO_MANIFEST_DIR"), "/../../frames/coast.pgm");
-
-/// A sheet of two records, the second all zero.
-fn sheet() -> Vec<u8> {
-    let mut record = bargeclover::Record {
+/// A sheet of records, the first with values and the others all zero: in edition 2 a level and a blank one, in edition 1 an unknown one.
+fn sheet(edition: u32) -> Vec<u8> {
+    let mut record = Record {
         row: 100,
         column: 50,
         octave: 0,
@@ -52,14 +22,21 @@ fn sheet() -> Vec<u8> {
         response: 0.0625,
         angle: 90.0,
         values: [0; 128],
+        blank: Blank::No,
     };
-    let blank = record;
+    let level = record;
+    let blank = Record {
+        blank: Blank::Yes,
+        ..level
+    };
     record.values[3] = 255;
+    let all = [record, level, blank];
     let sheet = bargeclover::Sheet {
+        edition,
         width: 320,
         height: 240,
         layers: 3,
-        records: vec![record, blank],
+        records: all[..1 + edition as usize].into(),
     };
     bargeclover::write_sheet(&sheet).unwrap()
 }
@@ -107,6 +84,11 @@ fn wrong_commands_end_with_2() {
         &["draw", COAST, "s", "-o", "x.png", "--quota", "5"],
         &["draw", COAST, "-o", "x.png", "--depth", "5"],
         &["extract", COAST, "-o", "x.sheet", "--depth", "5"],
+        &["extract", COAST, "-o", "x.sheet", "--edition", "two"],
+        &["extract", COAST, "-o", "x.sheet", "--only-points"],
+        &["extract", COAST, "-o", "x.sheet", "--points", COAST],
+        &["find", COAST, "--points", "x.csv"],
+        &["find", COAST, "--edition", "2"],
         &["find", COAST, "--depth", "5"],
         &["find", COAST, "--quota", "-1"],
         &["find", COAST, "--quota", "5", "--depth", "deep"],
@@ -154,7 +136,12 @@ fn what_is_refused_ends_with_1_and_says_what_to_change() {
     refused(&["find", &wide], "number 1");
     let long = file("long.pgm", &[b"P5 5000 1 255 ", &[0; 5000][..]].concat());
     refused(&["find", &long, "--double"], "leave out --double");
-    let other = file("other.sheet", &sheet());
+    for edition in ["0", "3", "15", "4294967295"] {
+        let words = ["extract", COAST, "-o", "x.sheet", "--edition", edition];
+        refused(&words, "number 4");
+        refused(&words, "give --edition 2 or 1");
+    }
+    let other = file("other.sheet", &sheet(2));
     refused(&["draw", &no, &other, "-o", "x.png"], "not a PGM picture");
     let small = file("small.pgm", b"P5 1 1 255 a");
     refused(
@@ -172,6 +159,7 @@ fn what_is_not_there_ends_with_3() {
         &["check", "."],
         &["extract", "no/such.pgm", "-o", "x.sheet"],
         &["extract", COAST, "-o", "no/such/x.sheet"],
+        &["extract", COAST, "-o", "x.sheet", "--points", "no/such.csv"],
         &["draw", COAST, "-o", "no/such/x.png"],
         &["draw", COAST, "no/such.sheet", "-o", "x.png"],
     ] {
@@ -182,35 +170,111 @@ fn what_is_not_there_ends_with_3() {
 
 #[test]
 fn a_sheet_is_shown_and_checked() {
-    let good = file("good.sheet", &sheet());
+    let good = file("good.sheet", &sheet(2));
+    let words = "edition 2, 320 x 240 cells, 3 layers, 3 records, of them 1 level (read, all zero), 1 blank (no cell read)";
     let (said, _) = run(&["show", &good], 0);
-    assert!(
-        said.contains("edition 1, 320 x 240 cells, 3 layers, 2 records, 1 of them all zero"),
-        "{said}"
+    assert_eq!(
+        said.lines().next(),
+        Some(format!("{good}: {words}").as_str())
     );
-    assert_eq!(said.lines().count(), 5);
-    assert_eq!(said.matches("  all zero").count(), 1);
+    let last = |l: &str| l.split_whitespace().last().map(String::from);
+    let column: Vec<_> = said.lines().skip(2).filter_map(last).collect();
+    assert_eq!(column, ["patch", "values", "level", "blank"]);
+    assert_eq!(
+        run(&["check", &good], 0).0,
+        format!("{good}: sound: {words}\n")
+    );
     let (csv, _) = run(&["show", &good, "--csv"], 0);
-    assert_eq!(csv.lines().count(), 3);
+    assert_eq!(csv.lines().count(), 4);
     assert!(
         csv.contains("\n0,50.25,100.5,12.5,0.0625,90,0,1,128,100,50,0,0,0,255,0,"),
         "{csv}"
     );
     let (one, _) = run(&["show", &good, "--record", "0"], 0);
     assert!(one.contains("response  0.0625") && one.contains("255"));
-    run(&["show", &good, "--record", "2"], 2);
-    assert!(run(&["check", &good], 0).0.contains("sound: edition 1"));
+    assert!(one.contains("\n  patch     values (not all zero)\n"));
+    let (one, _) = run(&["show", &good, "--record", "1"], 0);
+    assert!(one.contains("\n  patch     level (read, all zero)\n"));
+    let (one, _) = run(&["show", &good, "--record", "2"], 0);
+    assert!(one.contains("\n  patch     blank (no cell read)\n"));
+    run(&["show", &good, "--record", "3"], 2);
+}
 
-    let mut bytes = sheet();
-    bytes.pop();
-    let short = file("short.sheet", &bytes);
-    let (said, _) = run(&["check", &good, &short], 1);
+#[test]
+fn edition_1_is_shown_and_checked() {
+    let old = file("old.sheet", &sheet(1));
+    let words = "edition 1, 320 x 240 cells, 3 layers, 2 records, of them 1 unknown (all zero, level or blank: edition 1 can't say which)";
+    assert_eq!(
+        run(&["check", &old], 0).0,
+        format!("{old}: sound: {words}\n")
+    );
+    let (said, _) = run(&["show", &old], 0);
     assert!(
-        said.contains("number 8") && said.contains("cut short"),
+        said.contains(words) && said.ends_with("  unknown\n"),
         "{said}"
     );
-    assert!(said.contains("sound: "));
-    assert!(run(&["show", &short], 1).1.contains("number 8"));
+    assert!(run(&["show", &old, "--csv"], 0).0.ends_with(",unknown\n"));
+    let (one, _) = run(&["show", &old, "--record", "1"], 0);
+    assert!(one.contains("\n  patch     unknown (all zero, level or blank"));
+}
+
+/// Sheets that were written before there was another edition.
+#[test]
+fn old_sheets_are_read() {
+    for (name, words) in [
+        ("coast", "320 x 240 cells, 3 layers, 16 records\n"),
+        ("squares", "96 x 80 cells, 2 layers, 4 records\n"),
+        ("none", "32 x 24 cells, 3 layers, 0 records\n"),
+        (
+            "zeros",
+            "7 records, of them 3 unknown (all zero, level or blank: ",
+        ),
+    ] {
+        let path = format!(
+            "{}/../../frames/edition1/{name}.sheet",
+            env!("CARGO_MANIFEST_DIR")
+        );
+        let (said, _) = run(&["check", &path], 0);
+        assert!(
+            said.contains(".sheet: sound: edition 1, ") && said.contains(words),
+            "{said}"
+        );
+    }
+}
+
+#[test]
+fn what_is_wrong_with_a_sheet_is_told() {
+    let good = file("sound.sheet", &sheet(2));
+    let bent = |name: &str, part: &str, bend: &dyn Fn(&mut Vec<u8>)| {
+        let mut bytes = sheet(2);
+        bend(&mut bytes);
+        let path = file(name, &bytes);
+        let (said, _) = run(&["check", &good, &path], 1);
+        assert!(said.contains("number 8") && said.contains(part), "{said}");
+        assert!(said.contains("sound: "));
+        let (_, told) = run(&["show", &path], 1);
+        assert!(told.contains("number 8") && told.contains(part), "{told}");
+    };
+    bent("short.sheet", "cut short", &|b| {
+        b.pop();
+    });
+    bent(
+        "edition.sheet",
+        "its edition is 3, and 1 and 2 are read",
+        &|b| {
+            b[0] = 0x30 | b[0] & 15;
+        },
+    );
+    bent("five.sheet", "record 1: one of the five zero bits", &|b| {
+        b[8 + 154 + 5] |= 1;
+    });
+    bent(
+        "blank.sheet",
+        "record 2: its blank bit is set, and not all",
+        &|b| {
+            b[8 + 2 * 154 + 153] = 7;
+        },
+    );
 }
 
 #[test]
@@ -235,17 +299,28 @@ fn from_a_frame_to_a_sheet_and_its_picture() {
             assert!(a.starts_with(b), "{a} {b}");
         }
         let svg = fs::read_to_string(picture).unwrap();
-        assert_eq!(svg.matches("<path ").count(), listed.lines().count() - 1);
+        assert_eq!(svg.matches("<title>").count(), listed.lines().count() - 1);
     }
     assert_eq!(run(&["extract", COAST, "-q", "-o", sheet], 0).0, "");
     let o = bargeclover(&["extract", COAST, "-o", "-"]);
     assert_eq!(o.stdout, fs::read(sheet).unwrap());
 }
 
-/// The lines of a table without their numbers.
-fn lines(csv: &str) -> Vec<&str> {
-    let each = csv.lines().skip(1);
-    each.map(|l| l.split_once(',').unwrap().1).collect()
+#[test]
+fn either_edition_is_written() {
+    let [first, second, none] = ["1.sheet", "2.sheet", "none.sheet"].map(place);
+    let [first, second, none] = [&first, &second, &none].map(|p| p.to_str().unwrap());
+    let (said, _) = run(&["extract", COAST, "--edition", "1", "-o", first], 0);
+    assert!(said.contains("1.sheet: edition 1, "), "{said}");
+    let (said, _) = run(&["extract", COAST, "--edition=2", "-o", second], 0);
+    assert!(said.contains("2.sheet: edition 2, "), "{said}");
+    run(&["extract", COAST, "-o", none], 0);
+    assert_eq!(fs::read(second).unwrap(), fs::read(none).unwrap());
+    // every patch of the coast has values, so that the sheets differ in their first four bits alone
+    let (mut a, b) = (fs::read(first).unwrap(), fs::read(second).unwrap());
+    assert_eq!((a[0] >> 4, b[0] >> 4), (1, 2));
+    a[0] ^= 0x30;
+    assert!(a == b);
 }
 
 #[test]
@@ -332,7 +407,7 @@ fn a_roll_into_a_folder() {
 
 #[test]
 fn pictures_are_written_whole() {
-    let good = file("drawn.sheet", &sheet());
+    let good = file("drawn.sheet", &sheet(2));
     for (name, starts) in [
         ("a.png", &b"\x89PNG\r\n\x1a\n"[..]),
         ("a.svg", b"<svg xmlns="),
@@ -356,8 +431,10 @@ fn pictures_are_written_whole() {
     let svg = place("b.svg");
     run(&["draw", COAST, &good, "-o", svg.to_str().unwrap()], 0);
     let svg = fs::read_to_string(svg).unwrap();
-    assert_eq!(svg.matches("<path ").count(), 2);
-    assert_eq!(svg.matches(", all zero</title>").count(), 1);
+    assert_eq!(svg.matches("<title>").count(), 3);
+    for word in ["values", "level", "blank"] {
+        assert_eq!(svg.matches(&format!(", {word}</title>")).count(), 1);
+    }
 }
 
 #[test]

@@ -40,6 +40,7 @@
  *   assign_orientations: 7168
  *   exp2, exp: 2560
  *   angle: 1536
+ *   make_record: 1024
  *   all others: 512
  */
 #ifndef BARGECLOVER_H

@@ -58,7 +58,7 @@ module _ (img : List Float) (s : Size) (p : Spot) where
   zero-words e = rw (e, map-replicate bitsOf valueCount nought, no-bits)
 
   -- ---- no sample
-  none-zeros : length (samplesOf img t) ≡ 0 → valuesAt img s p ≡ replicate valueCount nought
+  pub none-zeros : length (samplesOf img t) ≡ 0 → valuesAt img s p ≡ replicate valueCount nought
   unfolding valuesAt gathered gatheredIn
   none-zeros e = rw (nil-of (samplesOf img t) e) (value-rule .zeros)
 
@@ -86,10 +86,10 @@ module _ (img : List Float) (s : Size) (p : Spot) where
 
     -- ---- what is answered and left
     module _ (out : List ℕ) (room : length out ≡ valueCount) where
-      samples-are : usedOf (describedOf img s p (length out)) ≡ length (samplesOf img t)
+      pub samples-are : usedOf (describedOf img s p (length out)) ≡ length (samplesOf img t)
       samples-are = ap usedOf (sym (answer-done img s p fine (length (samplesOf img t)) (length out) refl room))
 
-      left-is : describedOut img s p out ≡ wordsAt img s p
+      pub left-is : describedOut img s p out ≡ wordsAt img s p
       left-is = sym (out-done img s p fine (length (samplesOf img t)) out (wordsAt img s p) refl room refl)
 
       four : length (readsOf img t) ≡ 4 * usedOf (describedOf img s p (length out))

@@ -9,15 +9,20 @@ use lib.Dec.{eqb, lit<}
 use lib.ListN.{length, getD, take, drop, length-append, length-map}
 use lib.Seq.{getD-take, getD-drop}
 use lib.Ieee.{Float}
+use Rattle.ieee.specs.F32.{bitsOf}
 use Rattle.params.specs.Limits.{valueCount}
 use Rattle.params.specs.declared.Answer.the-variants.{Done}
 use Rattle.picture.specs.declared.Size.{Size}
 use Rattle.detect_keypoint.specs.declared.RawKeypoint.{RawKeypoint}
 use Rattle.orient_words.specs.declared.OrientedKeypoint.{OrientedKeypoint}
+use Rattle.descriptor_run.specs.Cells.{samplesOf}
+use Rattle.descriptor_words.specs.Words.{turnAt, valuesAt, wordsAt}
 use Rattle.descriptor_words.specs.declared.Spot.{Spot}
 use Rattle.descriptor.specs.Nothing.{Told, read, samples, left}
-use Rattle.descriptor.proofs.Nothing.{nothing-rule}
+use Rattle.descriptor.specs.Entry.{faultOf}
+use Rattle.descriptor.proofs.Nothing.{samples-are, left-is as described-is, nothing-rule}
 use Rattle.record.specs.Record.{headOf, floatsOf, byteOf, blankOf, recordOf}
+use Rattle.record.specs.Make.{makeNumber}
 use Rattle.record.proofs.Wrong.{accepted, right, left-is}
 use Rattle.sheet.specs.Pack.{bits, number, bytes, pack}
 use Rattle.sheet.specs.Layout.{Frame, edition2, layoutOf, headerSize, headSize, headSlots, recordSize, recordSlots}
@@ -31,7 +36,7 @@ use Rattle.sheet.proofs.Public.{wrote-sound, wrote-record}
 use Rattle.sheet.proofs.Runs.{pack-runs}
 use Rattle.sheet.proofs.Words.{filled-is}
 use Rattle.road.specs.Blank.{blankBit, Tells, BlankRule}
-use Rattle.road.proofs.Record.{blank-small}
+use Rattle.road.proofs.Record.{blank-small, filled-at, makeable-taken}
 
 -- ---- a record's head fills six bytes, of which the last ends in blank and five zero bits
 
@@ -135,9 +140,18 @@ module _ (img : List Float) (s : Size) (p : Spot) (values : List ℕ) (t : Told 
         level = λ h flat. some h;
       }
 
+left-words : (img : List Float) (s : Size) (p : Spot) (values : List ℕ) → faultOf img s p ≡ 0 → length values ≡ valueCount → left img s p values ≡ map bitsOf (valuesAt img s p)
+unfolding wordsAt
+left-words img s p values fine room = described-is img s p fine values room
+
 pub blank-rule : BlankRule
 blank-rule =
     record {
+      made =
+          λ img s p values fine room k o m.
+          ap (λ (n : ℕ). makeNumber k o (left img s p values) n readWords) (samples-are img s p fine values room)
+          ∙ ap (λ (ws : List ℕ). makeNumber k o ws (length (samplesOf img (turnAt s p))) readWords) (left-words img s p values fine room)
+          ∙ makeable-taken k o (filled-at img s p fine) m;
       told =
           λ img s p values fine room k o made e width height layers words out n i done l h.
           let v = left img s p values in

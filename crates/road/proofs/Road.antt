@@ -2,9 +2,9 @@
 use Prim.Native.Nat.{ℕ, _+_, _≤_}
 use native.Mathlib.Nat.{le-refl}
 use native.Mathlib.Omega.{arith}
-use mathlib.Core.Path.{_≡_, refl, sym, ap, _∙_}
+use mathlib.Core.Path.{_≡_, sym, ap, _∙_}
 use mathlib.Core.Bool.{true}
-use mathlib.Core.List.{List, [], _∷_, map}
+use mathlib.Core.List.{List, map}
 use borrow.Author.Tests.{eq-eqb}
 use lib.ListN.{length}
 use lib.Ieee.{Float}
@@ -17,12 +17,8 @@ use Rattle.detect_keypoint.specs.Search.{searchOf}
 use Rattle.detect_refine.specs.Place.{Searched}
 use Rattle.orient_words.specs.Oriented.{orientedOf}
 use Rattle.orient_words.specs.declared.OrientedKeypoint.{OrientedKeypoint}
-use Rattle.descriptor_run.specs.Cells.{samplesOf}
-use Rattle.descriptor_grid.specs.Grid.{gatheredIn, gathered}
-use Rattle.descriptor_laws.proofs.ValuesRules.{value-rule}
-use Rattle.descriptor_words.specs.Words.{turnAt, valuesAt, wordsAt}
+use Rattle.descriptor_words.specs.Words.{wordsAt}
 use Rattle.descriptor_words.specs.declared.Spot.{Spot}
-use Rattle.descriptor.proofs.Rules.{descriptor-rule}
 use Rattle.record.specs.Record.{recordOf}
 use Rattle.record.specs.Make.{makeNumber, makeLeft}
 use Rattle.sheet.specs.Layout.{layoutOf}
@@ -36,7 +32,7 @@ use Rattle.road.specs.Rules.{Making}
 use Rattle.road.proofs.Members.{from-flat, from-map, from-joined, pass-all}
 use Rattle.road.proofs.Described.{passed-is}
 use Rattle.road.proofs.Stages.{stack, sound, passed, turn, through}
-use Rattle.road.proofs.Record.{Filled, Given, record-right, record-layer, record-long, make-accepts}
+use Rattle.road.proofs.Record.{Filled, filled-at, Given, record-right, record-layer, record-long, make-accepts}
 use Rattle.road.proofs.Writer.{whole}
 
 -- ---- what a record of a frame is made of
@@ -69,20 +65,8 @@ module _ (wide high : ℕ) (s : Settings) (r : List ℕ) (f : OfFrame wide high 
   good : Sound (q .shape .width) (q .shape .height) s (q .number) k
   good = sound s q (f .layer) (f .searched) k (f .found)
 
-  none : samples ≡ 0 → samplesOf img (turnAt (sizeIn q) spot) ≡ []
-  none z = nil-of _ z
-    where
-      nil-of : {A : Type 0} (l : List A) → length l ≡ 0 → l ≡ []
-      nil-of [] e = refl
-      nil-of (x ∷ l) e = absurd (omega (arith, e))
-
   filled : Filled values samples
-  unfolding valuesAt gathered gatheredIn
-  filled = record {
-    all = value-rule .count (gathered (spot .angle) (samplesOf img (turnAt (sizeIn q) spot)));
-    each = descriptor-rule .whole img (sizeIn q) spot (f .described);
-    none = λ z. rw (none z) (value-rule .zeros);
-  }
+  filled = filled-at img (sizeIn q) spot (f .described)
 
   given : Given (q .shape .width) (q .shape .height) s (q .number) k (o .angle) values samples
   given = record {
@@ -101,7 +85,7 @@ module _ (wide high : ℕ) (s : Settings) (r : List ℕ) (f : OfFrame wide high 
   record-is = ap (λ (d : OrientedKeypoint). recordOf k d (map bitsOf values) samples) (sym direction-is) ∙ sym (f .is)
 
   long : length r ≡ readWords
-  long = ap length (sym record-is) ∙ record-long given
+  long = ap length (sym record-is) ∙ record-long k (orientedOf k (o .angle)) filled
 
   pub recorded : (edition : ℕ) → wordsRight (layoutOf edition) (frameOf wide high (s .layers)) (taken edition r) ≡ true
   recorded edition =

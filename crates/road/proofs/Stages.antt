@@ -1,5 +1,5 @@
 -- A keypoint that was found, on a picture of its octave's size: what orientation answers, and the descriptor to each direction. Assumes nothing.
-use Prim.Native.Nat.{ℕ, _*_, _≤_}
+use Prim.Native.Nat.{ℕ, _*_}
 use mathlib.Core.Path.{_≡_, ap, _∙_, subst}
 use mathlib.Core.Bool.{true, false}
 use mathlib.Core.List.{List}

@@ -6,7 +6,7 @@ use native.Mathlib.Omega.{arith}
 use borrow.Author.Tests.{ne-eqb}
 use lib.Dec.{eqb}
 use lib.Pow.{pow-pos, pow-mono}
-use Rattle.sheet.specs.Layout.{Layout, edition1, edition2, layoutOf, markBits, recordSize}
+use Rattle.sheet.specs.Layout.{edition1, edition2, layoutOf, markBits, recordSize}
 use Rattle.sheet.specs.Words.{takenWords}
 use Rattle.sheet.specs.Writes.{frameOf}
 use Rattle.sheet.proofs.Lawful.{lawful-edition, angled-edition}

@@ -1,5 +1,5 @@
 -- Inner: what the code goes by for an edition. Definitions only.
-use Prim.Native.Nat.{ℕ, _+_, _-_, _*_, _^_}
+use Prim.Native.Nat.{_+_, _-_, _*_, _^_}
 use mathlib.Core.Path.{_≡_}
 use Rattle.sheet.specs.Layout.{Layout, layoutOf, markBits, recordSize}
 use Rattle.sheet.specs.Words.{takenWords}

@@ -3,13 +3,13 @@ use mathlib.Core.Path.{_≡_, refl, sym, ap, _∙_, subst}
 use mathlib.Core.Bool.{Bool, true, false, cond}
 use mathlib.Core.List.{List, [], _∷_}
 use Prim.Native.Nat.{ℕ, zero, suc, _+_, _-_, _*_, _/_, _%_, _^_, _≤_, _<_}
-use native.Mathlib.Nat.{suc-inj, le-refl, le-trans, lt-of-le-of-lt, mul-suc, add-mul, mul-assoc, mod-lt, div-add-mod'}
+use native.Mathlib.Nat.{suc-inj, le-trans, lt-of-le-of-lt, mul-suc, add-mul, mul-assoc, mod-lt, div-add-mod'}
 use native.Mathlib.Omega.{arith}
 use lib.ListN.{length}
 use lib.Pow.{pow-pos, pow-add, high, shr-lt}
 use Rattle.sheet.specs.Pack.{Slot, bits, number, fields, Held}
 use Rattle.sheet.specs.Pack.Held.{none, one}
-use Rattle.sheet.specs.Layout.{Layout, Frame, markBits, headerSize, headerSlots, headSize, headSlots}
+use Rattle.sheet.specs.Layout.{Layout, Frame, markBits, headerSlots, headSize, headSlots}
 use Rattle.sheet.specs.Trip.{Lawful}
 use Rattle.sheet.proofs.Packed.{number-lt, fields-number}
 use Rattle.sheet.proofs.Lawful.{lawful-edition}

@@ -2,6 +2,7 @@
 //! The published Rust has no record.
 
 use crate::Rng;
+use crate::sheet::float;
 
 pub const WORDS: usize = 139;
 
@@ -144,16 +145,6 @@ pub fn expected(c: &Case, before: u32, room: usize) -> (u32, Vec<u32>) {
         (7, vec![before; room])
     } else {
         (0, made(c).to_vec())
-    }
-}
-
-fn float(r: &mut Rng) -> u32 {
-    match r.below(6) {
-        0 => 0,
-        1 => 1,
-        2 => 0x7f7f_ffff,
-        3 => r.below(0x7f80_0000) as u32,
-        _ => ((r.unit() * 8192.0) as f32).to_bits(),
     }
 }
 

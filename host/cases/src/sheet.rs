@@ -326,7 +326,8 @@ pub fn read(sheet: &[u8]) -> Option<(Case, Vec<[u32; READ_WORDS]>)> {
     reading(sheet).ok()
 }
 
-fn float(r: &mut Rng) -> u32 {
+/// The bits of a float that a record may have, but for a size of 0: the ends, any, and most often a place in a frame.
+pub(crate) fn float(r: &mut Rng) -> u32 {
     match r.below(6) {
         0 => 0,
         1 => 1,

@@ -1,4 +1,4 @@
-use Prim.Native.Nat.{ℕ, _*_, _/_, _^_, _<_}
+use Prim.Native.Nat.{ℕ, _/_, _^_, _<_}
 use mathlib.Core.Path.{refl, sym, subst}
 use Rattle.sheet.specs.Pack.Held.{none}
 use Rattle.sheet.proofs.Lawful.{lawful-edition}

@@ -1,6 +1,5 @@
-use Prim.Native.Nat.{ℕ, _*_, _^_, _<_}
-use mathlib.Core.Path.{refl, ap, _∙_, subst}
-use native.Mathlib.Omega.{arith}
+use Prim.Native.Nat.{ℕ, _^_, _<_}
+use mathlib.Core.Path.{refl, subst}
 use lib.Dec.{lit≤}
 use native.Mathlib.Nat.{lt-of-lt-of-le}
 use Rattle.sheet.specs.Pack.{number}

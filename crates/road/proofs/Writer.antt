@@ -1,36 +1,27 @@
 -- Records that keep the rules, each by itself, make words that the writer of an edition accepts, and the sheet reads back. Assumes nothing.
-use Prim.Native.Nat.{ℕ, _+_, _*_, _/_, _%_, _^_, _≤_}
+use Prim.Native.Nat.{ℕ, _+_, _*_, _/_, _%_, _≤_}
 use native.Mathlib.Nat.{le-trans, le-of-eq, mul-div-right, mul-mod-right}
 use mathlib.Core.Path.{_≡_, sym, ap, _∙_, subst}
-use mathlib.Core.Bool.{Bool, true, false, cond}
+use mathlib.Core.Bool.{Bool, true}
 use mathlib.Core.List.{List, _++_, map, flatMap}
 use borrow.Author.Tests.{eqb-true}
-use lib.Dec.{eqb, lit≤}
+use lib.Dec.{eqb}
 use lib.ListN.{length, drop}
 use lib.Seq.{length-take-le}
-use Rattle.params.specs.Limits.{maxSide}
 use Rattle.params.specs.Answers.{answerOf}
 use Rattle.params.specs.declared.Answer.the-variants.{Done}
-use Rattle.sheet.specs.Layout.{Layout, Frame, edition1, edition2, layoutOf, known, headerSize, recordSize, maxCount}
+use Rattle.sheet.specs.Layout.{Layout, Frame, layoutOf, known, headerSize, recordSize, maxCount}
 use Rattle.sheet.specs.Sheet.{parts, allPass}
 use Rattle.sheet.specs.Words.{readWords, takenWords, withBlank}
 use Rattle.sheet.specs.Writes.{frameOf, countIn, recordsOf, wordsRight, layerRight, writeFault, writeAnswer}
 use Rattle.sheet.specs.Reads.{readAnswer, readOut}
 use Rattle.sheet.proofs.Parts.{length-flat, parts-flat, pass-map, flat-map}
 use Rattle.sheet.proofs.Faults.{Sound, fault-none, known-fault}
+use Rattle.sheet.proofs.Lawful.{side-edition}
 use Rattle.sheet.proofs.Return.{taken-pos, taken-read}
 use Rattle.sheet.proofs.Answered.{answer-done}
 use Rattle.sheet.proofs.Public.{written-is-read}
 use Rattle.road.specs.Back.{Framed, taken, handedOver, sheetSize, sheetIn, ReadsBack}
-
--- every edition can state a side up to the limit
-side-either : (b : Bool) → maxSide ≤ 2 ^ cond b edition2 edition1 .side
-side-either true = lit≤ tt
-side-either false = lit≤ tt
-
-side-room : (edition : ℕ) → maxSide ≤ 2 ^ layoutOf edition .side
-unfolding layoutOf
-side-room edition = side-either (eqb edition 2)
 
 abbrev pub whole : List ℕ → Bool
 whole r = eqb (length r) readWords
@@ -67,9 +58,9 @@ module _ (edition : ℕ) (rs : List (List ℕ)) (each : allPass whole rs ≡ tru
     keeps : Sound l f words
     keeps = record {
       width-low = framed .across .0;
-      width-high = le-trans (framed .across .1) (side-room edition);
+      width-high = le-trans (framed .across .1) (le-of-eq (sym (side-edition edition)));
       height-low = framed .down .0;
-      height-high = le-trans (framed .down .1) (side-room edition);
+      height-high = le-trans (framed .down .1) (le-of-eq (sym (side-edition edition)));
       layers-low = framed .deep .0;
       layers-high = framed .deep .1;
       whole = ap (λ (n : ℕ). n % takenWords l) long ∙ mul-mod-right (takenWords l) (length rs);

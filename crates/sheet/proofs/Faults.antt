@@ -4,20 +4,16 @@ use mathlib.Core.Bool.{Bool, true, false, _&&_, _||_, not}
 use mathlib.Core.List.{List, [], _∷_}
 use Prim.Native.Nat.{ℕ, _%_, _^_, _≤_}
 use native.Mathlib.Omega.{arith}
-use borrow.Author.Tests.{ltb-false, le-ltb, eqb-true, eqb-false, eq-eqb, ne-eqb, not-false}
+use borrow.Author.Tests.{ltb-false, le-ltb, eqb-true, eq-eqb, ne-eqb, not-false}
 use lib.Dec.{ltb, eqb}
 use lib.ListN.{length}
 use Rattle.params.specs.Limits.{maxSide, maxLayers}
 use Rattle.params.specs.Table.{line, firstFault, sideWrong, shapeWrong}
+use Rattle.params.proofs.Bools.{or-neither, in-range}
 use Rattle.sheet.specs.Layout.{Layout, Frame, layoutOf, known, maxCount}
 use Rattle.sheet.specs.Sheet.{allPass}
 use Rattle.sheet.specs.Words.{takenWords}
 use Rattle.sheet.specs.Writes.{countIn, recordsOf, sidesWrong, layersWrong, recordsLayered, wordsRight, wordsWrong, faultIn, layoutFault, writeFault}
-
-neither : (a b : Bool) → (a || b) ≡ false → (a ≡ false) × (b ≡ false)
-neither false false e = (refl, refl)
-neither false true e = absurd (let z : _≡_ {A = ℕ} 0 1 = cc in omega arith)
-neither true b e = absurd (let z : _≡_ {A = ℕ} 0 1 = cc in omega arith)
 
 -- no line of the writer's table is given
 none-given : (a b c d : Bool) → firstFault (line 1 a ∷ line 2 b ∷ line 4 c ∷ line 5 d ∷ []) ≡ 0 → (a ≡ false) × (b ≡ false) × (c ≡ false) × (d ≡ false)
@@ -28,15 +24,12 @@ none-given false true c d h = absurd (omega arith)
 none-given false false true d h = absurd (omega arith)
 none-given false false false true h = absurd (omega arith)
 
-not-zero : (n : ℕ) → (n ≡ 0 → ⊥) → 1 ≤ n
-not-zero n h = omega arith
-
 -- what the table says of a frame's shape
 pub shape-fine : (w h : ℕ) → shapeWrong w h ≡ false → (1 ≤ w) × (1 ≤ h)
 unfolding shapeWrong
 shape-fine w h e =
-    let a = neither (sideWrong w) (sideWrong h) e in
-    (not-zero w (eqb-false _ _ (neither (eqb w 0) (ltb maxSide w) (a .0) .0)), not-zero h (eqb-false _ _ (neither (eqb h 0) (ltb maxSide h) (a .1) .0)))
+    let a = or-neither (sideWrong w) (sideWrong h) e in
+    (in-range w maxSide (a .0) .0, in-range h maxSide (a .1) .0)
 
 -- the writer's fault, from its tests
 module _ (asked : Bool) (l : Layout) (f : Frame) (ws : List ℕ) where
@@ -86,25 +79,23 @@ module _ (l : Layout) (f : Frame) (ws : List ℕ) where
     pub records : allPass (wordsRight l f) (recordsOf l ws) ≡ true
 
   pub sound-of : layoutFault l f ws ≡ 0 → Sound
-  unfolding faultIn sidesWrong shapeWrong wordsWrong
+  unfolding faultIn sidesWrong wordsWrong
   sound-of h =
       let k = none-given (sidesWrong l f) (layersWrong f || not (recordsLayered l f ws)) false (wordsWrong l f ws) h in
-      let s = neither (shapeWrong (f .width) (f .height)) (ltb (2 ^ l .side) (f .width) || ltb (2 ^ l .side) (f .height)) (k .0) in
-      let a = neither (sideWrong (f .width)) (sideWrong (f .height)) (s .0) in
-      let w = neither (eqb (f .width) 0) (ltb maxSide (f .width)) (a .0) in
-      let v = neither (eqb (f .height) 0) (ltb maxSide (f .height)) (a .1) in
-      let t = neither (ltb (2 ^ l .side) (f .width)) (ltb (2 ^ l .side) (f .height)) (s .1) in
-      let b = neither (layersWrong f) (not (recordsLayered l f ws)) (k .1) in
-      let y = neither (eqb (f .layers) 0) (ltb maxLayers (f .layers)) (b .0) in
-      let c = neither (not (eqb (length ws % takenWords l) 0)) (ltb maxCount (countIn l ws) || not (allPass (wordsRight l f) (recordsOf l ws))) (k .3) in
-      let d = neither (ltb maxCount (countIn l ws)) (not (allPass (wordsRight l f) (recordsOf l ws))) (c .1) in
+      let s = or-neither (shapeWrong (f .width) (f .height)) (ltb (2 ^ l .side) (f .width) || ltb (2 ^ l .side) (f .height)) (k .0) in
+      let a = shape-fine (f .width) (f .height) (s .0) in
+      let t = or-neither (ltb (2 ^ l .side) (f .width)) (ltb (2 ^ l .side) (f .height)) (s .1) in
+      let b = or-neither (layersWrong f) (not (recordsLayered l f ws)) (k .1) in
+      let y = in-range (f .layers) maxLayers (b .0) in
+      let c = or-neither (not (eqb (length ws % takenWords l) 0)) (ltb maxCount (countIn l ws) || not (allPass (wordsRight l f) (recordsOf l ws))) (k .3) in
+      let d = or-neither (ltb maxCount (countIn l ws)) (not (allPass (wordsRight l f) (recordsOf l ws))) (c .1) in
       record {
-        width-low = not-zero _ (eqb-false _ _ (w .0));
+        width-low = a .0;
         width-high = ltb-false _ _ (t .0);
-        height-low = not-zero _ (eqb-false _ _ (v .0));
+        height-low = a .1;
         height-high = ltb-false _ _ (t .1);
-        layers-low = not-zero _ (eqb-false _ _ (y .0));
-        layers-high = ltb-false _ _ (y .1);
+        layers-low = y .0;
+        layers-high = y .1;
         whole = eqb-true _ _ (not-false _ (c .0));
         count = ltb-false _ _ (d .0);
         records = not-false _ (d .1);

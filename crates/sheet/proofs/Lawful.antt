@@ -4,44 +4,42 @@ use mathlib.Core.Bool.{Bool, true, false, cond, and-eq-true-iff}
 use mathlib.Core.List.{List, _∷_}
 use Prim.Native.Nat.{ℕ, zero, suc, _+_, _-_, _*_, _^_, _≤_, _<_}
 use native.Mathlib.Omega.{arith}
-use lib.Dec.{eqb, lit<, lit≤}
+use lib.Dec.{eqb, lit<}
 use lib.ListN.{replicate}
 use lib.Pow.{pow-pos, ones-lt}
 use Rattle.params.specs.Limits.{maxSide, maxLayers, valueCount}
 use Rattle.sheet.specs.Pack.{Slot, slot, bits, sound, Held}
-use Rattle.sheet.specs.Layout.{Layout, Frame, edition1, edition2, layoutOf, headerSize, markBits, headerSlots, recordSize, largestAngle, valueSlots, recordSlots}
+use Rattle.sheet.specs.Layout.{Layout, Frame, edition1, edition2, layoutOf, headerSize, markBits, headerSlots, headSize, headSlots, recordSize, largestAngle, valueSlots, recordSlots}
 use Rattle.sheet.specs.Sheet.{recordRight}
 use Rattle.sheet.specs.Trip.{Lawful}
 use Rattle.sheet.proofs.Packed.{Roomy, held}
 
-lawful-either : (b : Bool) → Lawful (cond b edition2 edition1)
-lawful-either true = record { edition = omega arith; side = omega arith }
-lawful-either false = record { edition = omega arith; side = omega arith }
+-- what holds of each edition's layout holds of that of every number
+pub by-edition : (P : Layout → Type 0) → P edition1 → P edition2 → (edition : ℕ) → P (layoutOf edition)
+unfolding layoutOf
+by-edition P one two edition = either (eqb edition 2)
+  where
+    either : (b : Bool) → P (cond b edition2 edition1)
+    either true = two
+    either false = one
 
 pub lawful-edition : (edition : ℕ) → Lawful (layoutOf edition)
-unfolding layoutOf
-lawful-edition edition = lawful-either (eqb edition 2)
+lawful-edition = by-edition Lawful (record { edition = omega arith; side = omega arith }) (record { edition = omega arith; side = omega arith })
 
--- each edition's records have an angle, and none of them can state a side above the limit
-angled-either : (b : Bool) → cond b edition2 edition1 .angled ≡ true
-angled-either true = refl
-angled-either false = refl
-
+-- its records have an angle, and it states each side up to the limit, and none above
 pub angled-edition : (edition : ℕ) → layoutOf edition .angled ≡ true
-unfolding layoutOf
-angled-edition edition = angled-either (eqb edition 2)
+angled-edition = by-edition (λ l. l .angled ≡ true) refl refl
 
-side-either : (b : Bool) → 2 ^ cond b edition2 edition1 .side ≤ maxSide
-side-either true = lit≤ tt
-side-either false = lit≤ tt
-
-pub side-edition : (edition : ℕ) → 2 ^ layoutOf edition .side ≤ maxSide
-unfolding layoutOf
-side-edition edition = side-either (eqb edition 2)
+pub side-edition : (edition : ℕ) → 2 ^ layoutOf edition .side ≡ maxSide
+side-edition = by-edition (λ l. 2 ^ l .side ≡ maxSide) refl refl
 
 pub header-bits : (l : Layout) → Lawful l → bits (headerSlots l) ≡ 8 * headerSize
 unfolding bits
 header-bits l k = omega (arith, k .side)
+
+pub head-bits : (l : Layout) (f : Frame) → Lawful l → bits (headSlots l f) ≡ 8 * headSize
+unfolding bits
+head-bits l f k = omega (arith, k .side)
 
 tail-bits : (a : Bool) → bits (slot (cond a 32 0) 0 (cond a largestAngle 0) ∷ valueSlots) + 176 ≡ 8 * cond a 154 150
 unfolding bits

@@ -3,6 +3,7 @@ use mathlib.Core.Path.{_≡_, refl, sym, ap, _∙_, subst}
 use mathlib.Core.Bool.{true}
 use mathlib.Core.List.{List, _++_, append-assoc, map, flatMap}
 use Prim.Native.Nat.{ℕ, _+_, _-_, _*_, _/_, _^_, _≤_, _<_}
+use native.Mathlib.Nat.{le-of-eq}
 use native.Mathlib.Omega.{arith}
 use borrow.Author.Tests.{eqb-true, eq-eqb}
 use lib.Dec.{eqb, lit<}
@@ -256,7 +257,7 @@ module _ (bs room out : List ℕ) (v w h y n : ℕ) (g : Bytes bs) (e : readAnsw
   again =
       let l = layoutIn bs in
       let p = writes-back l (lawful-edition (editionIn bs)) bs g (told-fault bs room v w h y n e) in
-      let a : At l (readFrame l bs) (wordsIn l bs) = (p .0, p .1 (side-edition (editionIn bs))) in
+      let a : At l (readFrame l bs) (wordsIn l bs) = (p .0, p .1 (le-of-eq (side-edition (editionIn bs)))) in
       let b : At l (frameOf w h y) (wordsIn l bs) = subst (λ (f : Frame). At l f (wordsIn l bs)) (told-frame bs room v w h y n e) a in
       let c : At l (frameOf w h y) (take (readWords * n) (readOut bs room)) = subst (λ (ws : List ℕ). At l (frameOf w h y) ws) (sym (told-words bs room v w h y n e)) b in
       subst (λ (k : ℕ). At (layoutOf k) (frameOf w h y) (take (readWords * n) (readOut bs room))) edition-told c

@@ -20,6 +20,7 @@ use Rattle.sheet.specs.Words.{plainWords, headWords, floatWords, frontWo
 use Rattle.sheet.proofs.Packed.{bits-append, Each, each-bits, pack-append, pack-each, pack-bytes}
 use Rattle.sheet.proofs.Cut.{bytes-take, bytes-drop, both-bytes, one-value, unpack-append, unpack-step}
 use Rattle.sheet.specs.Trip.{Lawful}
+use Rattle.sheet.proofs.Lawful.{head-bits}
 use Rattle.sheet.proofs.Words.{drop-take, past}
 
 held-left : (ss ts : List Slot) (vs us : List ℕ) → length ss ≡ length vs → Held (ss ++ ts) (vs ++ us) → Held ss vs
@@ -139,10 +140,6 @@ worded-runs l hv fv vv lh lf =
     rw (p, q, r, b, append-assoc)
 
 module _ (l : Layout) (k : Lawful l) (a : l .angled ≡ true) (f : Frame) where
-  head-bits : bits (headSlots l f) ≡ 8 * headSize
-  unfolding bits
-  head-bits = omega (arith, k .side)
-
   -- the bytes of a record
   pub sized : recordSize l ≡ 154
   sized = size-is (l .angled) a
@@ -180,7 +177,7 @@ module _ (l : Layout) (k : Lawful l) (a : l .angled ≡ true) (f : Frame) where
 
     head-run : pack (headSlots l f) hv ≡ bytes headSize (number (headSlots l f) hv)
     unfolding pack
-    head-run = ap (λ (n : ℕ). bytes (n / 8) (number (headSlots l f) hv)) head-bits
+    head-run = ap (λ (n : ℕ). bytes (n / 8) (number (headSlots l f) hv)) (head-bits l f k)
 
     tail-run : pack (floatSlots l ++ valueSlots) (fv ++ vv) ≡ flatMap (bytes 4) fv ++ vv
     tail-run =
@@ -189,7 +186,7 @@ module _ (l : Layout) (k : Lawful l) (a : l .angled ≡ true) (f : Frame) where
 
     pub pack-runs : pack (recordSlots l f) (hv ++ (fv ++ vv)) ≡ bytes headSize (number (headSlots l f) hv) ++ (flatMap (bytes 4) fv ++ vv)
     unfolding recordSlots
-    pack-runs = pack-append headSize (frontSize l - headSize + valueCount) head-bits tail-bits held-head-run held-tail-run ∙ rw (head-run, tail-run)
+    pack-runs = pack-append headSize (frontSize l - headSize + valueCount) (head-bits l f k) tail-bits held-head-run held-tail-run ∙ rw (head-run, tail-run)
 
   -- whether a record's values are right, from its runs
   pub right-runs : (hv fv vv : List ℕ) → length hv ≡ headFields → length fv ≡ floatWords →
@@ -230,7 +227,7 @@ module _ (l : Layout) (k : Lawful l) (a : l .angled ≡ true) (f : Frame) where
         let gz = bytes-drop (frontSize l) bs g in
         let lt : length (y ++ z) ≡ frontSize l - headSize + valueCount = length-append y z ∙ rw (ly, lz) in
         ap (unpack (headSlots l f ++ (floatSlots l ++ valueSlots))) whole
-        ∙ unpack-append (headSlots l f) (floatSlots l ++ valueSlots) x (y ++ z) (head-bits ∙ ap (λ (m : ℕ). 8 * m) (sym lx)) (tail-bits ∙ ap (λ (m : ℕ). 8 * m) (sym lt)) gx (both-bytes y z gy gz)
+        ∙ unpack-append (headSlots l f) (floatSlots l ++ valueSlots) x (y ++ z) (head-bits l f k ∙ ap (λ (m : ℕ). 8 * m) (sym lx)) (tail-bits ∙ ap (λ (m : ℕ). 8 * m) (sym lt)) gx (both-bytes y z gy gz)
         ∙ ap (λ (t : List ℕ). unpack (headSlots l f) x ++ t)
         (unpack-append (floatSlots l) valueSlots y z (floats-bits ∙ ap (λ (m : ℕ). 8 * m) (sym ly)) (value-bits ∙ ap (λ (m : ℕ). 8 * m) (sym lz)) gy gz
         ∙ ap (λ (t : List ℕ). unpack (floatSlots l) y ++ t) (unpack-bytes valueCount 0 255 z lz gz))

@@ -1,15 +1,13 @@
 -- The layouts of the editions, and what an edition's value says of its layout. Assumes nothing.
 use mathlib.Core.Path.{_≡_, refl, sym, ap, _∙_, subst}
-use mathlib.Core.Bool.{Bool, true, false, cond}
 use Prim.Native.Nat.{ℕ, _+_, _-_, _*_, _^_, _≤_, _<_}
 use native.Mathlib.Omega.{arith}
 use borrow.Author.Tests.{ne-eqb}
-use lib.Dec.{eqb}
 use lib.Pow.{pow-pos, pow-mono}
 use Rattle.sheet.specs.Layout.{edition1, edition2, layoutOf, markBits, recordSize}
 use Rattle.sheet.specs.Words.{takenWords}
 use Rattle.sheet.specs.Writes.{frameOf}
-use Rattle.sheet.proofs.Lawful.{lawful-edition, angled-edition}
+use Rattle.sheet.proofs.Lawful.{by-edition, lawful-edition, angled-edition}
 use Rattle.sheet.proofs.Runs.{sized}
 use Rattle.sheet_edition.specs.Edition.{editionOf, layoutFor, Known}
 use Rattle.sheet_edition.specs.declared.Edition.{Edition}
@@ -23,14 +21,14 @@ unfolding layoutOf
 layout-other n h = rw (ne-eqb n 2 h)
 
 -- the layout of a layout's number is that layout
-own-either : (b : Bool) → layoutOf (cond b edition2 edition1 .edition) ≡ cond b edition2 edition1
-unfolding layoutOf
-own-either true = refl
-own-either false = refl
+own : (n : ℕ) → layoutOf (layoutOf n .edition) ≡ layoutOf n
+own = by-edition (λ l. layoutOf (l .edition) ≡ l) own-one own-two
+  where
+    own-one : layoutOf 1 ≡ edition1
+    own-one = layout-other 1 (λ e. omega (arith, e))
 
-pub own : (n : ℕ) → layoutOf (layoutOf n .edition) ≡ layoutOf n
-unfolding layoutOf
-own n = own-either (eqb n 2)
+    own-two : layoutOf 2 ≡ edition2
+    own-two = layout-two
 
 -- so an edition of that layout has it by its number
 pub layout-is : (n : ℕ) (e : Edition) → e ≡ editionOf (layoutOf n) → layoutFor e ≡ layoutOf n

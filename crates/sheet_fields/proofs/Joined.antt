@@ -9,7 +9,7 @@ use lib.ListN.{length}
 use lib.Pow.{pow-pos, pow-add, high, shr-lt}
 use Rattle.sheet.specs.Pack.{Slot, bits, number, fields, Held}
 use Rattle.sheet.specs.Pack.Held.{none, one}
-use Rattle.sheet.specs.Layout.{Layout, Frame, markBits, headerSlots, headSize, headSlots}
+use Rattle.sheet.specs.Layout.{Layout, markBits}
 use Rattle.sheet.specs.Trip.{Lawful}
 use Rattle.sheet.proofs.Packed.{number-lt, fields-number}
 use Rattle.sheet.proofs.Lawful.{lawful-edition}
@@ -99,14 +99,6 @@ module _ (s : Slot) {ss : List Slot} {v : ℕ} {vs : List ℕ} {n : ℕ} (h : He
   all-cut = ap (fields (s ∷ ss)) (sym whole) ∙ fields-number all-held
 
 -- ---- the widths
-
-pub header-bits : (l : Layout) → Lawful l → bits (headerSlots l) ≡ 64
-unfolding bits
-header-bits l k = omega (arith, k .side)
-
-pub head-bits : (l : Layout) (f : Frame) → Lawful l → bits (headSlots l f) ≡ 8 * headSize
-unfolding bits
-head-bits l f k = omega (arith, k .side)
 
 -- the header has four zero bits more than a record
 header-spare : (l : Layout) → Lawful l → 2 ^ (32 - (2 * l .side + markBits l)) * 16 ≡ 2 ^ (36 - (2 * l .side + markBits l))

@@ -136,3 +136,27 @@ fn editions_that_are_not_known() {
         assert_eq!(entries::read_sheet(&bytes, &mut []), (8, 0, 0, [0; 3]));
     }
 }
+
+/// As many records as a sheet holds are written and read, and one more is refused by 5. It takes 1.3 GB, so that it is run by
+/// `cargo test --release -p bargeclover --test sheet -- --ignored`.
+#[test]
+#[ignore]
+fn as_many_as_a_sheet_holds() {
+    const MOST: usize = 1_048_575;
+    for edition in [1, 2] {
+        let taken = 137 + edition as usize;
+        let one = record().to_words();
+        let mut words = one[..taken].repeat(MOST + 1);
+        let mut out = vec![7; 8 + 154 * MOST];
+        let told = entries::write_sheet(edition, 640, 480, 3, &words, &mut out);
+        assert_eq!(told, (5, 0));
+        assert!(out.iter().all(|b| *b == 7));
+        words.truncate(taken * MOST);
+        let told = entries::write_sheet(edition, 640, 480, 3, &words, &mut out);
+        assert_eq!(told, (0, out.len()));
+        let mut back = vec![0; 139 * MOST];
+        let told = entries::read_sheet(&out, &mut back);
+        assert_eq!(told, (0, MOST, edition, [640, 480, 3]));
+        assert!(back.chunks_exact(139).all(|r| r == one));
+    }
+}

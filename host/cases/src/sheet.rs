@@ -99,7 +99,7 @@ pub enum Reason {
     Part,
     Short,
     Length,
-    /// Of the writer: more records than a sheet holds. It takes 579 MB of words, and is not tried.
+    /// Of the writer: more records than a sheet holds. It takes 579 MB of words, and a test of the wrapper tries it.
     Many,
     Row,
     Column,

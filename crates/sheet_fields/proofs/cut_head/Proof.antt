@@ -1,11 +1,11 @@
 use Prim.Native.Nat.{ℕ, _/_, _^_, _<_}
 use mathlib.Core.Path.{refl, sym, subst}
 use Rattle.sheet.specs.Pack.Held.{none}
-use Rattle.sheet.proofs.Lawful.{lawful-edition}
+use Rattle.sheet.proofs.Lawful.{lawful-edition, head-bits}
 use Rattle.sheet_edition.specs.Edition.{layoutFor}
 use Rattle.sheet_edition.proofs.Layouts.{sides-are, marks-are, spare-is, sides-pos, marks-pos, spare-pos}
 use Rattle.sheet_fields.specs.Fields.{anyFrame}
-use Rattle.sheet_fields.proofs.Joined.{none-cut, cut-off, cut-held, all-held, all-cut, head-bits}
+use Rattle.sheet_fields.proofs.Joined.{none-cut, cut-off, cut-held, all-held, all-cut}
 use Rattle.sheet_fields.proofs.cut_head.Statement.{statement}
 use Rattle.sheet_fields.proofs.cut_head.Tie as tie
 

@@ -2,10 +2,10 @@ use Prim.Native.Nat.{ℕ, _*_, _/_, _^_, _<_}
 use mathlib.Core.Path.{refl, sym, subst}
 use native.Mathlib.Omega.{arith}
 use Rattle.sheet.specs.Pack.Held.{none}
-use Rattle.sheet.proofs.Lawful.{lawful-edition}
+use Rattle.sheet.proofs.Lawful.{lawful-edition, header-bits}
 use Rattle.sheet_edition.specs.Edition.{layoutFor}
 use Rattle.sheet_edition.proofs.Layouts.{sides-are, marks-are, sides-pos, marks-pos, spare-pos, spare-low}
-use Rattle.sheet_fields.proofs.Joined.{none-cut, cut-off, cut-held, all-held, all-cut, header-bits, spare-header}
+use Rattle.sheet_fields.proofs.Joined.{none-cut, cut-off, cut-held, all-held, all-cut, spare-header}
 use Rattle.sheet_fields.proofs.cut_header.Statement.{statement}
 use Rattle.sheet_fields.proofs.cut_header.Tie as tie
 

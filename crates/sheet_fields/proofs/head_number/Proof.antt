@@ -5,13 +5,13 @@ use native.Mathlib.Nat.{lt-of-lt-of-le}
 use Rattle.sheet.specs.Pack.{number}
 use Rattle.sheet.specs.Layout.{headSlots}
 use Rattle.sheet.proofs.Packed.{number-lt}
-use Rattle.sheet.proofs.Lawful.{lawful-edition}
+use Rattle.sheet.proofs.Lawful.{lawful-edition, head-bits}
 use Rattle.sheet_edition.specs.Edition.{layoutFor, Known}
 use Rattle.sheet_edition.specs.declared.Edition.{Edition}
 use Rattle.sheet_edition.proofs.Layouts.{sides-are, marks-are, spare-is}
 use Rattle.sheet_fields.specs.declared.Head.{Head}
 use Rattle.sheet_fields.specs.Fields.{headValues, HeadFits, anyFrame}
-use Rattle.sheet_fields.proofs.Joined.{first-stands, next-stands, step-fits, all-joined, head-bits}
+use Rattle.sheet_fields.proofs.Joined.{first-stands, next-stands, step-fits, all-joined}
 use Rattle.sheet_fields.proofs.head_number.Statement.{statement}
 use Rattle.sheet_fields.proofs.head_number.Tie as tie
 

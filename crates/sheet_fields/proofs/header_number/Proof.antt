@@ -4,13 +4,13 @@ use native.Mathlib.Omega.{arith}
 use Rattle.sheet.specs.Pack.{number}
 use Rattle.sheet.specs.Layout.{headerSlots}
 use Rattle.sheet.proofs.Packed.{number-lt}
-use Rattle.sheet.proofs.Lawful.{lawful-edition}
+use Rattle.sheet.proofs.Lawful.{lawful-edition, header-bits}
 use Rattle.sheet_edition.specs.Edition.{layoutFor, Known}
 use Rattle.sheet_edition.specs.declared.Edition.{Edition}
 use Rattle.sheet_edition.proofs.Layouts.{sides-are, marks-are, spare-low}
 use Rattle.sheet_fields.specs.declared.Header.{Header}
 use Rattle.sheet_fields.specs.Fields.{headerList, HeaderFits}
-use Rattle.sheet_fields.proofs.Joined.{first-stands, next-stands, step-fits, all-joined, header-bits, spare-header}
+use Rattle.sheet_fields.proofs.Joined.{first-stands, next-stands, step-fits, all-joined, spare-header}
 use Rattle.sheet_fields.proofs.header_number.Statement.{statement}
 use Rattle.sheet_fields.proofs.header_number.Tie as tie
 

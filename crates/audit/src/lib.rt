@@ -1,4 +1,6 @@
 // The checker of a sheet: whether its records are those that the rules give for an octave, and if not, where they first differ.
+#![tactic(auto)]
+
 ghost use Rattle.std.specs.Prelude.{◌≡◌, true, false, length};
 ghost use Rattle.params.specs.Table.{allGood};
 ghost use Rattle.sheet.specs.Sheet.{bytesRight};

@@ -1,4 +1,6 @@
 // A record that the rules give beside a record of a sheet: the first field in which they differ, and how far all records agree.
+#![tactic(auto)]
+
 ghost use Rattle.std.specs.Prelude.{◌≡◌, ◌*◌, ◌<◌, ◌≤◌, length, get_or, take, drop};
 ghost use Rattle.sheet.specs.Layout.{recordSize};
 ghost use Rattle.sheet.specs.Sheet.{allPass};
@@ -28,7 +30,7 @@ pub const MISSING: u32 = 141;
 
 // How far the records made so far agree with those of a sheet: `place` of them, and no difference while `field` is 0; then the record `place` differs in `field`, or is
 // missing. `good` is whether no stage has refused, and the rest counts only while it is.
-#[derive(Drop)]
+#[derive(Clone, Copy)]
 pub struct Standing {
     pub place: usize,
     pub field: u32,

@@ -1,4 +1,6 @@
 // The records of a keypoint, made and compared with a sheet's one after the other: none is held.
+#![tactic(auto)]
+
 ghost use Rattle.std.specs.Prelude.{◌≡◌, cond, ◌*◌, ◌≤◌, eqb, length};
 ghost use Rattle.orient_words.specs.Oriented.{orientedWords};
 ghost use Rattle.words.specs.Keypoint.{keypointIn};
@@ -19,7 +21,7 @@ use picture::{Shape, Size};
 use sheet_edition::Edition;
 
 // What the records of an octave are compared with: the shape of its difference planes, its number, and the edition and the records of the sheet.
-#[derive(Drop)]
+#[derive(Clone, Copy)]
 pub struct Task {
     pub shape: Shape,
     pub octave: u32,

@@ -1,4 +1,6 @@
 // The verdict on a sheet: what the checker answers, how a header differs, and what the standing tells when all records are made.
+#![tactic(auto)]
+
 ghost use Rattle.std.specs.Prelude.{◌≡◌, true, ◌≤◌};
 ghost use Rattle.sheet.specs.Pack.{sound};
 ghost use Rattle.sheet.specs.Layout.{headerSlots, headerValues};
@@ -16,7 +18,7 @@ use sheet_fields::Header;
 
 // What the checker answers: refused, by its number; the sheet is the rules' own; the header differs in a field; a record differs in a field; records are missing from one on;
 // or are left over from one on.
-#[derive(Drop)]
+#[derive(Clone, Copy)]
 pub enum Checked {
     Refused(u32),
     Accepted,

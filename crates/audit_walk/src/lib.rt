@@ -1,4 +1,6 @@
 // The keypoints of an octave as they are found, and the records of each compared with a sheet's: the keypoints of 64 cells are held at a time.
+#![tactic(auto)]
+
 ghost use Rattle.std.specs.Prelude.{◌≡◌, ◌-◌, ◌*◌, ◌<◌, ◌≤◌, length};
 ghost use mathlib.Core.List.{foldl};
 ghost use Rattle.params.specs.Limits.{border, keypointWords};

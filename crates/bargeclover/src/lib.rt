@@ -1,6 +1,8 @@
 // The C library: one thin exported function for each entry, and nothing else. `include/bargeclover.h` says the same in C's words.
 // Where a parameter or an answer stands for a float and is a u32 (or a u64), it is the float's bits, and every pattern is taken;
 // a not-a-number answered has the bits 2143289344.
+#![tactic(auto)]
+
 ghost use Rattle.std.specs.Prelude.{◌≡◌, length};
 ghost use Rattle.std.specs.Float.Ieee.{of_bits};
 ghost use Rattle.std.specs.Float.{binary64};

@@ -1,4 +1,6 @@
 // Rust's `max`, `min` and `clamp` on floats.
+#![tactic(auto)]
+
 ghost use Rattle.std.specs.Prelude.{◌≡◌};
 ghost use Rattle.bounds.specs.Bounds.{numberOr, max_of, minOf, clampOf};
 

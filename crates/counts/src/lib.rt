@@ -1,1 +1,2 @@
 // Counting numbers of a range that pass a test: nothing to run.
+#![tactic(auto)]

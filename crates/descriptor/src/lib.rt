@@ -1,4 +1,5 @@
 // The descriptor: 128 values from the gradients of a turned patch, and how many samples they were made of.
+#![tactic(auto)]
 
 ghost use Rattle.std.specs.Prelude.{◌≡◌, length};
 ghost use Rattle.descriptor_words.specs.Accepted.{Ready};
@@ -12,7 +13,7 @@ use picture::Size;
 const VALUES: usize = 128;
 
 // What `compute_descriptor` answers: done, with the samples used; not 128 places lent; or refused, by its number (rule A2).
-#[derive(Drop)]
+#[derive(Clone, Copy)]
 pub enum Described {
     Done(usize),
     Short,

@@ -1,4 +1,5 @@
 // The samples of a patch, row by row, added to the histogram and counted.
+#![tactic(auto)]
 
 ghost use Rattle.std.specs.Prelude.{◌≡◌, true, cond, [], length};
 ghost use Rattle.params.specs.Table.{allGood};
@@ -17,7 +18,7 @@ use descriptor_run::Run;
 use descriptor_shares::Landed;
 
 // A row of the patch, and the columns of it that are gone through.
-#[derive(Drop)]
+#[derive(Clone, Copy)]
 pub struct Line {
     pub patch: Patch,
     pub row: usize,
@@ -25,7 +26,7 @@ pub struct Line {
 }
 
 // A cell of the patch.
-#[derive(Drop)]
+#[derive(Clone, Copy)]
 pub struct Point {
     pub patch: Patch,
     pub row: usize,

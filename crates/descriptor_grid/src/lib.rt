@@ -1,4 +1,5 @@
 // The histogram of 6 by 6 cells of 10 slots, and what a sample adds to it: `scatter` of the source, a sample at a time.
+#![tactic(auto)]
 
 ghost use Rattle.std.specs.Prelude.{◌≡◌, ◌&&◌, ◌+◌, ◌<◌, leb};
 ghost use Rattle.descriptor_values.specs.Places.{slots, places};
@@ -16,7 +17,7 @@ const SLOTS: usize = 10;
 const ROW: usize = CELLS * SLOTS;
 
 // The four shares that go to one row of the grid: by column and slot.
-#[derive(Drop)]
+#[derive(Clone, Copy)]
 pub struct RowShares {
     pub v00: f32,
     pub v01: f32,

@@ -1,4 +1,5 @@
 // What the descriptor is asked with for an oriented keypoint: position and scale in its octave's cells, and the angle turned round.
+#![tactic(auto)]
 
 ghost use Rattle.std.specs.Prelude.{◌≡◌, ◌≤◌};
 ghost use Rattle.params.specs.Limits.{maxOctave};
@@ -7,7 +8,7 @@ ghost use Rattle.descriptor_inputs.specs.Inputs.{octaveWrong, octaveOf, oriented
 use orient_words::OrientedKeypoint;
 
 // The number of a refusal, or 0, and what the descriptor is asked with; all +0 on a refusal (rule A16).
-#[derive(Drop)]
+#[derive(Clone, Copy)]
 pub struct Inputs {
     pub number: u32,
     pub x: f32,

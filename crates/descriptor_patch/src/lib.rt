@@ -1,4 +1,5 @@
 // The patch of a descriptor: how it lies, where a cell lies in it, and what a cell gives.
+#![tactic(auto)]
 
 ghost use Rattle.std.specs.Prelude.{◌≡◌, ◌<◌, ◌≤◌, true, length, pos, ◌-ℤ◌};
 ghost use Rattle.ieee.specs.F32.{float as float_of, floatZ};
@@ -11,7 +12,7 @@ ghost use Rattle.descriptor_patch.specs.Place.{maxRadius, Sides, Lies};
 use picture::Size;
 
 // How a patch lies on a picture: the picture's size, the angle that it is turned by, that angle's cosine and sine over the width of a cell of the grid, the radius, and the cell of the position.
-#[derive(Drop)]
+#[derive(Clone, Copy)]
 pub struct Patch {
     pub size: Size,
     pub angle: f32,
@@ -23,14 +24,14 @@ pub struct Patch {
 }
 
 // A cell's place in the turned patch, in cells of the grid.
-#[derive(Drop)]
+#[derive(Clone, Copy)]
 pub struct Rots {
     pub col: f32,
     pub row: f32,
 }
 
 // A cell of the patch that lies in the grid: its gradient, where it lies in the grid, and the exponent of its weight.
-#[derive(Drop)]
+#[derive(Clone, Copy)]
 pub struct Sample {
     pub dx: f32,
     pub dy: f32,

@@ -1,4 +1,5 @@
 // The test of what is read of a patch: the four neighbours of each used cell.
+#![tactic(auto)]
 
 ghost use Rattle.std.specs.Prelude.{◌≡◌, cond, [], ◌*◌, ◌≤◌, length};
 ghost use Rattle.params.specs.Limits.{maxSide};

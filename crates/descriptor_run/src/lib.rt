@@ -1,4 +1,5 @@
 // The run of each row of a patch: its ends, and the columns of the picture between them, so that no other cell of the row is looked at.
+#![tactic(auto)]
 
 ghost use Rattle.std.specs.Prelude.{◌≡◌, ◌-◌, ◌<◌, ◌≤◌, ◌^◌, min, max};
 ghost use Rattle.params.specs.Limits.{maxSide};
@@ -8,14 +9,14 @@ ghost use Rattle.descriptor_run.specs.Run.{shifted as shiftedOf, columns as colu
 use descriptor_patch::Patch;
 
 // The ends of a row's run of columns, as distances from the position.
-#[derive(Drop)]
+#[derive(Clone, Copy)]
 pub struct Ends {
     pub lo: f32,
     pub hi: f32,
 }
 
 // Columns from `first` to below `past`.
-#[derive(Drop)]
+#[derive(Clone, Copy)]
 pub struct Run {
     pub first: usize,
     pub past: usize,

@@ -1,11 +1,12 @@
 // Where a sample lands in the grid, and its eight shares.
+#![tactic(auto)]
 
 ghost use Rattle.std.specs.Prelude.{◌≡◌};
 ghost use Rattle.descriptor_shares.specs.Sharing.{shares_of, spread_of};
 ghost use Rattle.descriptor_shares.specs.Reach.{Near, splitOf, Lent, Settled, Inside};
 
 // A sample's eight shares: by row, column and slot of the grid, each the nearer one (0) or the next (1).
-#[derive(Drop)]
+#[derive(Clone, Copy)]
 pub struct Shares {
     pub v000: f32,
     pub v001: f32,
@@ -18,7 +19,7 @@ pub struct Shares {
 }
 
 // Where a sample's shares go: row and column of the 6 by 6 cells, and the first of its two slots.
-#[derive(Drop)]
+#[derive(Clone, Copy)]
 pub struct Spread {
     pub row: usize,
     pub col: usize,
@@ -27,14 +28,14 @@ pub struct Spread {
 }
 
 // A number by the whole number at or below it: that one's digits, and how far the number lies past it.
-#[derive(Drop)]
+#[derive(Clone, Copy)]
 pub struct Split {
     pub bits: u32,
     pub past: f32,
 }
 
 // A sample with its row and its column split.
-#[derive(Drop)]
+#[derive(Clone, Copy)]
 pub struct Landed {
     pub sample: descriptor_patch::Sample,
     pub row: Split,

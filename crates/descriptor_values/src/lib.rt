@@ -1,4 +1,6 @@
 // From a descriptor's histogram to its 128 values.
+#![tactic(auto)]
+
 ghost use Rattle.std.specs.Prelude.{◌≡◌, ℕ, ◌+◌, ◌*◌, ◌/◌, ◌%◌, ◌<◌};
 ghost use Rattle.ieee.specs.F32.{fused};
 ghost use Rattle.params.specs.Limits.{valueCount};

@@ -1,4 +1,5 @@
 // The patch about a position, and its 128 values as words.
+#![tactic(auto)]
 
 ghost use Rattle.std.specs.Prelude.{◌≡◌, map, length};
 ghost use Rattle.ieee.specs.F32.{bits_of};
@@ -12,7 +13,7 @@ use descriptor_patch::Patch;
 use picture::Size;
 
 // Where a descriptor is asked for: a position in cells of the picture, the scale there, and the angle in degrees that the patch is turned by.
-#[derive(Drop)]
+#[derive(Clone, Copy)]
 pub struct Spot {
     pub x: f32,
     pub y: f32,

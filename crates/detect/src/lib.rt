@@ -1,4 +1,5 @@
 // Detection: the keypoints of one layer of a stack of difference planes, counted and written as words.
+#![tactic(auto)]
 
 ghost use Rattle.std.specs.Prelude.{◌≡◌, false, cond, ◌≤◌, length};
 ghost use Rattle.params.specs.Limits.{maxLayers};

@@ -1,4 +1,5 @@
 // What a cell gives: the keypoint that it is refined to, where it is a candidate, and else nothing.
+#![tactic(auto)]
 
 ghost use Rattle.std.specs.Prelude.{◌≡◌, length};
 ghost use Rattle.detect_refine.specs.Place.{Searched, Placed};

@@ -1,4 +1,5 @@
 // A cell of one layer of a stack of difference planes: whether it is loud, and the search among its neighbours.
+#![tactic(auto)]
 
 ghost use Rattle.std.specs.Prelude.{◌≡◌, length};
 ghost use Rattle.ieee.specs.F32.{◌<ᶠ◌};

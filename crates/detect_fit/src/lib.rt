@@ -1,4 +1,5 @@
 // The quadratic fit about a cell of the difference stack: the samples that it reads, its derivatives, and how far its extremum lies from the cell.
+#![tactic(auto)]
 
 ghost use Rattle.std.specs.Prelude.{◌≡◌, length};
 ghost use Rattle.detect_fit.specs.Fit.{patch_of, gradientOf, bendOf, mulSub, outer, detOf, offset_of};
@@ -7,7 +8,7 @@ ghost use Rattle.detect_fit.specs.Place.{Amid, Around, nearOf};
 use picture::Shape;
 
 // A cell and its four nearest in its plane: left, right, up and down.
-#[derive(Drop)]
+#[derive(Clone, Copy)]
 pub struct Near {
     pub m: f32,
     pub l: f32,
@@ -17,7 +18,7 @@ pub struct Near {
 }
 
 // The nineteen samples that the fit reads: the middle plane's nine, and five of the plane before and of the plane after.
-#[derive(Drop)]
+#[derive(Clone, Copy)]
 pub struct Patch {
     pub im: f32,
     pub il: f32,
@@ -41,7 +42,7 @@ pub struct Patch {
 }
 
 // The first derivatives along columns, rows and planes.
-#[derive(Drop)]
+#[derive(Clone, Copy)]
 pub struct Gradient {
     pub dx: f32,
     pub dy: f32,
@@ -49,7 +50,7 @@ pub struct Gradient {
 }
 
 // The second derivatives.
-#[derive(Drop)]
+#[derive(Clone, Copy)]
 pub struct Bend {
     pub xx: f32,
     pub yy: f32,
@@ -60,7 +61,7 @@ pub struct Bend {
 }
 
 // How far the extremum of the fit lies from the cell, in planes, rows and columns.
-#[derive(Drop)]
+#[derive(Clone, Copy)]
 pub struct Offset {
     pub xi: f32,
     pub xr: f32,

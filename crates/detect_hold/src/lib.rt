@@ -1,4 +1,5 @@
 // What is held of a layer's keypoints until it is known that all fit, and what is written from it.
+#![tactic(auto)]
 
 ghost use Rattle.std.specs.Prelude.{◌≡◌, true, false, ◌+◌, ◌-◌, ◌*◌, ◌^◌, ◌<◌, ◌≤◌, length};
 ghost use Rattle.std.proofs.lemmas.List.Edits.{sets};
@@ -19,7 +20,7 @@ use params::KEYPOINT_WORDS;
 use picture::Shape;
 
 // What the rows above `row` gave, as far as the cells of their keypoints could be held: so many. Whether all samples of the stack are good.
-#[derive(Drop)]
+#[derive(Clone, Copy)]
 pub struct Front {
     pub row: usize,
     pub count: usize,

@@ -1,4 +1,5 @@
 // A keypoint of a cell that settled: the tests of contrast and edge, and its fields.
+#![tactic(auto)]
 
 ghost use Rattle.std.specs.Prelude.{◌≡◌, ◌^◌, ◌≤◌, true, pos};
 ghost use Rattle.ieee.specs.F32.{absOf, ◌<ᶠ◌, float};
@@ -11,7 +12,7 @@ use detect_fit::{Offset, Patch};
 use params::Settings;
 
 // A cell of a stack: plane, row and column.
-#[derive(Drop)]
+#[derive(Clone, Copy)]
 pub struct Cell {
     pub p: usize,
     pub r: usize,
@@ -19,7 +20,7 @@ pub struct Cell {
 }
 
 // What is searched, and with what: one layer of a stack, whose octave it is, and the threshold that follows from the settings.
-#[derive(Drop)]
+#[derive(Clone, Copy)]
 pub struct Search {
     pub layer: usize,
     pub octave: u32,
@@ -28,7 +29,7 @@ pub struct Search {
 }
 
 // A refined keypoint. Its whole numbers are never negative, so they stand as the words that they go out as.
-#[derive(Drop)]
+#[derive(Clone, Copy)]
 pub struct RawKeypoint {
     pub x: f32,
     pub y: f32,

@@ -1,4 +1,5 @@
 // The first look at the cells of a row, which every candidate passes, so that only the cells that it leaves are searched among their neighbours.
+#![tactic(auto)]
 
 ghost use Rattle.std.specs.Prelude.{◌≡◌, false, cond, ◌+◌, ◌≤◌, length, replicate};
 ghost use Rattle.std.proofs.lemmas.List.Edits.{sets};
@@ -19,7 +20,7 @@ pub const BLOCK: usize = 64;
 pub const GROUP: usize = 16;
 
 // Cells of one row, from column lo to below hi.
-#[derive(Drop)]
+#[derive(Clone, Copy)]
 pub struct Run {
     pub row: usize,
     pub lo: usize,

@@ -1,4 +1,5 @@
 // The refinement of a candidate: the moves by the offsets of the fit, and what it gives where it settles.
+#![tactic(auto)]
 
 ghost use Rattle.std.specs.Prelude.{◌≡◌, true, ◌≤◌, length};
 ghost use Rattle.params.specs.Limits.{maxSide, maxLayers, maxOctave};
@@ -11,20 +12,20 @@ use detect_fit::{Offset, Patch};
 use detect_keypoint::{Cell, RawKeypoint, Search};
 use picture::Shape;
 
-#[derive(Drop)]
+#[derive(Clone, Copy)]
 pub enum Moved {
     Out,
     In(usize),
 }
 
-#[derive(Drop)]
+#[derive(Clone, Copy)]
 pub enum Step {
     Lost,
     Stay(Offset),
     Go(Cell),
 }
 
-#[derive(Drop)]
+#[derive(Clone, Copy)]
 pub enum Refined {
     Dropped,
     At(RawKeypoint),

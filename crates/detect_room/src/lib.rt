@@ -1,4 +1,5 @@
 // What is written of a layer's keypoints: the words of all where they fit in what is lent, and else nothing.
+#![tactic(auto)]
 
 ghost use Rattle.std.specs.Prelude.{◌≡◌, ◌*◌, ◌<◌, length};
 ghost use Rattle.params.specs.Limits.{border};

@@ -1,4 +1,5 @@
 // What a row of cells gives, as words, written as far as there is room.
+#![tactic(auto)]
 
 ghost use Rattle.std.specs.Prelude.{◌≡◌, ◌+◌, ◌-◌, ◌*◌, ◌^◌, ◌<◌, ◌≤◌, min, length, take};
 ghost use Rattle.std.proofs.lemmas.List.Edits.{sets};
@@ -16,7 +17,7 @@ use params::MAX_SIDE;
 use picture::Shape;
 
 // What the search of a row gives: how many words, and whether the samples of the row below are good in every plane.
-#[derive(Drop)]
+#[derive(Clone, Copy)]
 pub struct Row {
     pub words: usize,
     pub good: bool,

@@ -1,4 +1,5 @@
 // Whether the samples of a stack's rows are in range in every plane: a column of cells, a span of a row, whole rows.
+#![tactic(auto)]
 
 ghost use Rattle.std.specs.Prelude.{◌≡◌, ◌+◌, ◌*◌, ◌<◌, ◌≤◌, length};
 ghost use Rattle.detect_samples.specs.Rows.{usual, spanGood, rowsGood};

@@ -1,4 +1,5 @@
 // The threshold of detection: which magnitude a cell has to exceed. Rule D1.
+#![tactic(auto)]
 
 ghost use Rattle.std.specs.Prelude.{◌≡◌, ◌≤◌, true, false, pos};
 ghost use Rattle.std.specs.Float.{fin, binary64};
@@ -11,7 +12,7 @@ ghost use Rattle.detect_threshold.specs.Threshold.{levelOf, thresholdOf, thresho
 use params::MAX_LAYERS;
 
 // What the threshold's entry answers: the threshold, or a refusal by the number of rule A2.
-#[derive(Drop)]
+#[derive(Clone, Copy)]
 pub enum Threshold {
     Given(f32),
     Refused(u32),

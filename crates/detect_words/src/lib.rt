@@ -1,4 +1,5 @@
 // What is left of a keypoint, as words: its ten, or the one word of the cell where it began, written as far as there is room.
+#![tactic(auto)]
 
 ghost use Rattle.std.specs.Prelude.{◌≡◌, ◌^◌, ◌<◌, ◌≤◌, length, set, take};
 ghost use Rattle.std.proofs.lemmas.List.Edits.{sets};
@@ -11,7 +12,7 @@ use detect_refine::Refined;
 use params::{KEYPOINT_WORDS, MAX_SIDE};
 
 // Where the search writes: from the place `from` on, and of each keypoint that it finds one word, that of the cell where it began, or else its ten words.
-#[derive(Drop)]
+#[derive(Clone, Copy)]
 pub struct Place {
     pub from: usize,
     pub cells: bool,

@@ -1,5 +1,7 @@
 // Routines that stand in for the source's own: powers of two and the exponential.
 // docs/ROUTINES.md has their steps, specs/ the same as definitions, specs/Rules.antt what is proved of those.
+#![tactic(auto)]
+
 mod pairs;
 
 ghost use Rattle.std.specs.Prelude.{◌≡◌, true, ◌&&◌, ◌+◌, ◌/◌, ◌%◌, ◌<◌, ◌≤◌};

@@ -1,5 +1,7 @@
 // The magnitude of a pair, which stands in for the source's own.
 // docs/ROUTINES.md has its steps, specs/ the same as definitions, specs/Rules.antt what is proved of those.
+#![tactic(auto)]
+
 mod cubics;
 
 ghost use Rattle.std.specs.Prelude.{◌≡◌, true};

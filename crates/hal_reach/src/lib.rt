@@ -1,4 +1,5 @@
 // The range of the angle and of the magnitude, which is that of the slopes of good samples.
+#![tactic(auto)]
 
 ghost use Rattle.std.specs.Prelude.{◌≡◌};
 ghost use Rattle.hal_reach.specs.Reach.{inAngle};

@@ -1,5 +1,6 @@
 // Routines that stand in for the source's own: sine and cosine of degrees.
 // docs/ROUTINES.md has their steps, specs/ the same as definitions, specs/Rules.antt what is proved of those.
+#![tactic(auto)]
 
 ghost use Rattle.std.specs.Prelude.{◌≡◌};
 ghost use Rattle.hal_turn.specs.Turn.{holdOf, negatedOf, quarterSineOf, sinOf, cosOf};

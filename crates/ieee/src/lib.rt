@@ -1,6 +1,8 @@
 // What IEEE 754-2019 has and the language lacks, on binary32, for every bit pattern: bits, the absolute value, whether a value is finite. Each public function is the
 // operation of `specs/F32.antt` that its contract names. Rules I8, I9; fused multiply-add and narrowing (I1, I2, I4) are in `ieee_fused`, roots (I3) in `ieee_root`,
 // whole numbers (I5 to I7) in `ieee_whole`.
+#![tactic(auto)]
+
 ghost use Rattle.std.specs.Prelude.{◌≡◌};
 ghost use Rattle.std.specs.Float.{binary64};
 ghost use Rattle.std.specs.Float.Ieee.{of_bits};

@@ -2,6 +2,8 @@
 // names, or a step of the short path that `ieee_length` takes too. Rules I1, I2, I4.
 // Both have a short path for the common case. Where that cannot answer, the general path works on whole significands in a u64, normalised by their leading zeros, and
 // rounds once, in `packing::pack`.
+#![tactic(auto)]
+
 ghost use Rattle.std.specs.Prelude.{◌≡◌, true};
 ghost use Rattle.std.specs.Float.{binary32, binary64};
 ghost use Rattle.std.specs.Float.Ieee.{of_bits};

@@ -1,1 +1,2 @@
 // Laws of rounding; specs/ states them. No code.
+#![tactic(auto)]

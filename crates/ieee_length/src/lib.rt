@@ -1,5 +1,7 @@
 // The length of a pair of binary32s: the root of the fused x * x + (y * y), rounded as IEEE 754-2019 has it, for every bit pattern. Rule F8.
 // A lent table of cubics guesses the root, and an exact test accepts it; without a table, and where the guess fails, the sum's root is taken as `ieee_root` has it.
+#![tactic(auto)]
+
 ghost use Rattle.std.specs.Prelude.{◌≡◌, ◌+◌, ◌*◌, ◌^◌, ◌<◌, ◌≤◌, true, ◌&&◌, from_bits, nat_le, nat_lt};
 ghost use Rattle.std.specs.Float.{binary64};
 ghost use Rattle.std.specs.Float.Ieee.Scale.{finite};

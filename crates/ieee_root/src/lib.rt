@@ -1,6 +1,8 @@
 // The square root of a binary32, rounded as IEEE 754-2019 has it, for every bit pattern. Rule I3.
 // A guess answers for the common case, and an exact test accepts it. Where that cannot answer, the general path takes the root of the whole significand in a u64, and
 // rounds once, in `packing::pack`.
+#![tactic(auto)]
+
 ghost use Rattle.std.specs.Prelude.{◌≡◌, ◌+◌, ◌*◌, ◌<◌, ◌≤◌, T};
 ghost use Rattle.std.specs.Float.{binary32};
 ghost use Rattle.std.specs.Float.Ieee.{of_bits};

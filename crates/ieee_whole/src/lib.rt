@@ -1,5 +1,7 @@
 // A binary32 to a whole number, for every bit pattern: floor, rounding to the nearest, and the casts to an i32. Each public function is the operation of `ieee`'s page F32
 // that its contract names, or two of them in one. Rules I5 to I7.
+#![tactic(auto)]
+
 ghost use Rattle.std.specs.Prelude.{◌≡◌, false, ◌*◌, ◌^◌, ◌<◌, ◌≤◌, min};
 ghost use Rattle.std.specs.Float.{binary32};
 ghost use Rattle.std.specs.Float.Ieee.{round, to_signed};
@@ -9,7 +11,7 @@ ghost use Rattle.ieee.specs.F32.{floorOf, rounded, toI32};
 ghost use Rattle.ieee_whole.specs.Parts.{beforeCut, wholeSize, whole};
 
 // Where a number between two whole ones goes: toward zero, toward minus infinity, or to the nearest, a tie to the even one.
-#[derive(Drop)]
+#[derive(Clone, Copy)]
 enum Way {
     Zero,
     Down,

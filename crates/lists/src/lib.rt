@@ -1,1 +1,2 @@
 // Definitions and laws over lists, for contracts and loops: nothing to run.
+#![tactic(auto)]

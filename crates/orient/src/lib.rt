@@ -1,4 +1,5 @@
 // The orientation of a keypoint: an oriented keypoint for each dominant direction of the gradients about its cell.
+#![tactic(auto)]
 
 ghost use Rattle.std.specs.Prelude.{◌≡◌, ◌≤◌, length};
 ghost use Rattle.params.specs.Limits.{maxOctave};

@@ -1,4 +1,5 @@
 // The tally of a window: its cells run by run, and the tally that is lent from sample to sample.
+#![tactic(auto)]
 
 ghost use Rattle.std.specs.Prelude.{◌≡◌, ◌+◌, ◌*◌, ◌<◌, ◌≤◌};
 ghost use Rattle.params.specs.Limits.{maxSide};

@@ -1,1 +1,2 @@
 // Laws of orientation's angles: nothing to run.
+#![tactic(auto)]

@@ -1,4 +1,5 @@
 // From the tally of 36 bins to the angles of a keypoint: smoothing, the strict peaks, and the parabola through each.
+#![tactic(auto)]
 
 ghost use Rattle.std.specs.Prelude.{◌≡◌, ◌<◌, ◌≤◌};
 ghost use Rattle.orient_tally.specs.Sample.{bins};
@@ -6,7 +7,7 @@ ghost use Rattle.orient_peaks.specs.Peaks.{around, smoothAt, smoothed, largerOf,
 ghost use Rattle.orient_peaks.specs.Found.{held_of};
 
 // The angles found, in the first `count` places; the other places hold +0.
-#[derive(Drop)]
+#[derive(Clone, Copy)]
 pub struct Angles {
     pub all: [f32; 36],
     pub count: usize,

@@ -1,4 +1,5 @@
 // The tally of 36 bins about a keypoint: the sample of a cell, and the tally that it is added to where it lies.
+#![tactic(auto)]
 
 ghost use Rattle.std.specs.Prelude.{◌≡◌, true, ◌+◌, ◌*◌, ◌<◌, ◌≤◌, pos};
 ghost use Rattle.params.specs.Limits.{maxSide};
@@ -18,13 +19,13 @@ ghost use Rattle.orient_tally.specs.Runs.{sampleIn};
 use orient_window::Window;
 
 // The tally: a sum of weighted magnitudes for each 10 degrees of direction.
-#[derive(Drop)]
+#[derive(Clone, Copy)]
 pub struct Tally {
     pub bins: [f32; 36],
 }
 
 // What one cell gives. A late sample is added by the fused form.
-#[derive(Drop)]
+#[derive(Clone, Copy)]
 pub struct Sample {
     pub bin: usize,
     pub weight: f32,
@@ -33,7 +34,7 @@ pub struct Sample {
 }
 
 // Cells of row y, one after the other from a column on, that are all early or all late.
-#[derive(Drop)]
+#[derive(Clone, Copy)]
 pub struct Run {
     pub win: Window,
     pub y: usize,
@@ -42,7 +43,7 @@ pub struct Run {
 }
 
 // The tally of a window, and the number of cells read for it.
-#[derive(Drop)]
+#[derive(Clone, Copy)]
 pub struct Gathered {
     pub tally: Tally,
     pub read: usize,

@@ -1,4 +1,5 @@
 // The window about a keypoint: the cells that are read, and the test of what they read.
+#![tactic(auto)]
 
 ghost use Rattle.std.specs.Prelude.{◌≡◌, ◌+◌, ◌-◌, ◌<◌, ◌≤◌, true, length};
 ghost use Rattle.params.specs.Limits.{maxSide, scaleLow, scaleHigh};
@@ -11,7 +12,7 @@ use picture::Size;
 use samples::Area;
 
 // The cells about the cell (row, col) of a picture that are read: so many rows from the top one, so many columns from the left one.
-#[derive(Drop)]
+#[derive(Clone, Copy)]
 pub struct Window {
     pub size: Size,
     pub row: usize,

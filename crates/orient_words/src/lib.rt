@@ -1,4 +1,5 @@
 // The oriented keypoints of the angles found about a keypoint, as words: six each, all or none.
+#![tactic(auto)]
 
 ghost use Rattle.std.specs.Prelude.{◌≡◌, map, ◌+◌, ◌*◌, ◌≤◌, length, take};
 ghost use Rattle.lists.specs.Pasted.{pasted};
@@ -11,7 +12,7 @@ use orient_peaks::Angles;
 use params::Answer;
 
 // A keypoint with an angle, in degrees.
-#[derive(Drop)]
+#[derive(Clone, Copy)]
 pub struct OrientedKeypoint {
     pub x: f32,
     pub y: f32,
@@ -22,14 +23,14 @@ pub struct OrientedKeypoint {
 }
 
 // The number and the count, and beside them the number of cells read.
-#[derive(Drop)]
+#[derive(Clone, Copy)]
 pub struct OrientAnswer {
     pub answer: Answer,
     pub samples: usize,
 }
 
 // The angles about a keypoint, and the number of cells read for them.
-#[derive(Drop)]
+#[derive(Clone, Copy)]
 pub struct Directions {
     pub angles: Angles,
     pub read: usize,

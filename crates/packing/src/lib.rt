@@ -1,6 +1,8 @@
 // Floats taken apart and put together: a finite float as its sign, significand and exponent, and `pack`, the one function that rounds an exact result and packs it.
 // Every exponent is a natural number: an f32 is m * 2^x over 2^149, an f64 over 2^1074. (149 = 126 + 23 and 1074 = 1022 + 52: the smallest normal number's exponent and
 // the digits behind its leading one.) 2139095040 = 0x7f80_0000 is the infinity's pattern. The bounds 4096, 2000 and 1024 on an exponent only say that no sum wraps.
+#![tactic(auto)]
+
 ghost use Rattle.std.specs.Prelude.{◌≡◌, Bool, true, cond, ℕ, ◌+◌, ◌-◌, ◌*◌, ◌%◌, ◌^◌, ◌<◌, ◌≤◌};
 ghost use Rattle.std.specs.Float.{binary32};
 ghost use Rattle.std.specs.Float.Ieee.{round, sum, of_bits, top};
@@ -84,7 +86,7 @@ pub fn pack(s: bool, m: u64, x: u32) -> f32
 }
 
 // A finite float: its sign, and its size, significand * 2^exponent units of the format's smallest value.
-#[derive(Drop)]
+#[derive(Clone, Copy)]
 pub struct Parts {
     pub sign: bool,
     pub significand: u64,

@@ -1,11 +1,12 @@
 // Settings, what an entry answers, and the tests of the refusal table that more than one entry makes.
+#![tactic(auto)]
 
 ghost use Rattle.std.specs.Prelude.{◌≡◌};
 ghost use Rattle.params.specs.Table.{shapeWrong, layersWrong, within, contrastWrong, settingsWrong};
 ghost use Rattle.params.specs.Answers.{number_of, countOf};
 
 // What a frame is searched with.
-#[derive(Drop)]
+#[derive(Clone, Copy)]
 pub struct Settings {
     pub contrast: f64,
     pub edge: f64,
@@ -14,7 +15,7 @@ pub struct Settings {
 }
 
 // What an entry answers: done, with the count written; short of room, with the count needed; or refused, by the number of rule A2.
-#[derive(Drop)]
+#[derive(Clone, Copy)]
 pub enum Answer {
     Done(usize),
     Short(usize),

@@ -1,4 +1,5 @@
 // A stack of planes and a picture, as lists of samples: how a sample and a slope are read.
+#![tactic(auto)]
 
 ghost use Rattle.std.specs.Prelude.{◌≡◌, ◌<◌, ◌≤◌, length};
 ghost use Rattle.params.specs.Limits.{maxSide};
@@ -7,7 +8,7 @@ ghost use Rattle.picture.specs.Stack.{sample};
 ghost use Rattle.picture.specs.Place.{Inside, Within, Around};
 
 // So many planes, one after the other, each so many rows of so many samples.
-#[derive(Drop)]
+#[derive(Clone, Copy)]
 pub struct Shape {
     pub width: usize,
     pub height: usize,
@@ -15,14 +16,14 @@ pub struct Shape {
 }
 
 // A picture is so many rows of so many samples.
-#[derive(Drop)]
+#[derive(Clone, Copy)]
 pub struct Size {
     pub width: usize,
     pub height: usize,
 }
 
 // The differences across a cell.
-#[derive(Drop)]
+#[derive(Clone, Copy)]
 pub struct Slope {
     pub dx: f32,
     pub dy: f32,

@@ -1,4 +1,6 @@
 // The maker of records: the words of a sheet's record, of a raw keypoint, an oriented one and a descriptor's answer. Whether it is blank is told by the samples alone.
+#![tactic(auto)]
+
 ghost use Rattle.std.specs.Prelude.{◌≡◌, ◌+◌, ◌≤◌, ◌++◌, map, length};
 ghost use Rattle.lists.specs.Pasted.{pasted};
 ghost use Rattle.params.specs.Limits.{valueCount};

@@ -1,1 +1,2 @@
 // The road from stack to sheet: no stage refuses what the stage before made.
+#![tactic(auto)]

@@ -1,5 +1,7 @@
 // Replays places of pictures with the published Rust's answers (host/record/src/descriptor.rs says how they are laid out) through `compute_descriptor`, and says how many
 // cases, descriptors and words were compared and how many differ.
+#![tactic(auto)]
+
 ghost use Rattle.std.specs.Prelude.{◌≤◌};
 
 use descriptor::Described;
@@ -16,7 +18,7 @@ const PATTERN: u32 = 0xa5a5_a5a5;
 const ROOM: usize = 256;
 
 // A case's head.
-#[derive(Drop)]
+#[derive(Clone, Copy)]
 struct Case {
     size: Size,
     spot: Spot,

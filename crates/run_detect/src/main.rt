@@ -1,5 +1,7 @@
 // Replays stacks with the published Rust's answers (host/record/src/detection.rs says how they are laid out) through `find_extrema`, and says how many cases, keypoints and
 // words were compared and how many differ.
+#![tactic(auto)]
+
 ghost use Rattle.std.specs.Prelude.{◌<◌, ◌≤◌};
 
 use params::Settings;
@@ -10,7 +12,7 @@ const MARK: u32 = 0x4243_4c31;
 const PATTERN: u32 = 0xa5a5_a5a5;
 
 // A case's head.
-#[derive(Drop)]
+#[derive(Clone, Copy)]
 struct Case {
     shape: Shape,
     layer: usize,

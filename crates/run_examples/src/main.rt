@@ -1,4 +1,6 @@
 // The marked examples, rules E1 to E10, run through the public functions. Floats are shown by their bits; what is expected is what the rule says of the example.
+#![tactic(auto)]
+
 ghost use Rattle.std.specs.Prelude.{◌≡◌, ◌<◌, ◌≤◌};
 ghost use Rattle.params.specs.Limits.{valueCount};
 
@@ -15,7 +17,7 @@ use picture::{Shape, Size};
 const NOTHING: usize = 999_999;
 
 // Bits that came out, and those that are expected.
-#[derive(Drop)]
+#[derive(Clone, Copy)]
 struct Pair {
     got: u32,
     expected: u32,

@@ -2,6 +2,8 @@
 // the proved entry.
 // The file has 8 planes of 44 rows of 56 samples, by their bits, least significant byte first: the five difference planes, then the Gaussian planes of the layers 1 to 3
 // (data/README.md says how they were made). What is printed: a line for each record as the reader gives it, and the sheet's bytes, the header first and then a record a line.
+#![tactic(auto)]
+
 ghost use Rattle.std.specs.Prelude.{◌≡◌, ◌+◌, ◌<◌, ◌≤◌, length};
 ghost use Rattle.sheet.specs.Words.{readWords};
 ghost use Rattle.run_extract.specs.Sizes.{mostFound, mostRecords, recordsWords, sheetBytes, pictureSamples, columns};

@@ -1,6 +1,8 @@
 // Holds the routines to the true values that an independent program worked out (host/vectors/hal.py): the angle within 0.01 degree, the others within 2^-16 of the value,
 // sine and cosine of 1. Says of each routine how many points were tried and how many lie outside the bound. A record is five words of 32 bits, most significant byte first:
 // what is asked, x and y by their f32 bits, and the value as an f64's bits.
+#![tactic(auto)]
+
 ghost use Rattle.std.specs.Prelude.{◌<◌};
 
 // The row of what is not asked.

@@ -1,5 +1,7 @@
 // Replays vectors that an independent C program made (host/vectors/ieee.c) through the public functions of `ieee`, and says of each operation how many were tried and how
 // many differ. A record is five words of 32 bits, most significant byte first: the operation, three operands and the answer, floats by their bits.
+#![tactic(auto)]
+
 ghost use Rattle.std.specs.Prelude.{◌<◌};
 
 // The rows of what is no operation, and of all.

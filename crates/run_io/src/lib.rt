@@ -1,5 +1,7 @@
 // What the programs share: the file that each opens, and what it says, a text with the numbers that it has places for. (One text for all lines is proved far sooner than
 // a call for each of them.)
+#![tactic(auto)]
+
 ghost use Rattle.std.specs.Prelude.{◌+◌, ◌^◌, ◌<◌, ◌≤◌};
 
 use libc::STDOUT_FILENO;

@@ -1,5 +1,7 @@
 // Replays keypoints with the published Rust's answers (host/record/src/orientation.rs says how they are laid out) through `assign_orientations`, and says how many cases,
 // oriented keypoints and words were compared and how many differ.
+#![tactic(auto)]
+
 ghost use Rattle.std.specs.Prelude.{◌≤◌};
 
 use detect_keypoint::RawKeypoint;
@@ -10,7 +12,7 @@ const MARK: u32 = 0x4243_4c32;
 const PATTERN: u32 = 0xa5a5_a5a5;
 
 // A case's head.
-#[derive(Drop)]
+#[derive(Clone, Copy)]
 struct Case {
     size: Size,
     keypoint: RawKeypoint,

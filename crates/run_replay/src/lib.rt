@@ -1,5 +1,7 @@
 // What the programs share that replay a list of the published Rust's answers: its words, least significant byte first, read one after the other, the samples and the
 // lent words of a case, what is counted, and the report. A file that is too short, too long, or has what does not fit the buffers is told as such.
+#![tactic(auto)]
+
 ghost use Rattle.std.specs.Prelude.{◌<◌, ◌≤◌};
 
 use params::Answer;

@@ -1,5 +1,7 @@
 // Replays cases that an independent program made (host/vectors/sheet.py says how they are laid out) through `write_sheet`, `read_sheet` and `make_record`, and says how many were
 // tried and how many differ. What is lent is longer than the room and filled with a pattern, which has to stand behind the expected output.
+#![tactic(auto)]
+
 ghost use Rattle.std.specs.Prelude.{◌<◌, ◌≤◌};
 
 use run_vectors::{byte_at, half_at, long_at, word_at};
@@ -12,7 +14,7 @@ const PATTERN_BYTE: u8 = 165;
 const PATTERN_WORD: u32 = 0xa5a5_a5a5;
 
 // A case's head.
-#[derive(Drop)]
+#[derive(Clone, Copy)]
 struct Case {
     kind: u8,
     number: u32,

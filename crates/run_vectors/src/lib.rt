@@ -1,9 +1,11 @@
 // What the programs share that go through the vectors of an independent program: numbers of so many bytes, most significant byte first, records of five words, and what
 // is counted of them.
+#![tactic(auto)]
+
 ghost use Rattle.std.specs.Prelude.{◌<◌, ◌≤◌};
 
 // A record's words, and how many of its 20 bytes the file has.
-#[derive(Drop)]
+#[derive(Clone, Copy)]
 pub struct Record {
     pub got: usize,
     pub op: u32,

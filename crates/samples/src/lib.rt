@@ -1,4 +1,5 @@
 // Whether samples are in range: one, the four neighbours of a cell, a run, an area of a picture, all.
+#![tactic(auto)]
 
 ghost use Rattle.std.specs.Prelude.{◌≡◌, ◌+◌, ◌<◌, ◌≤◌, min, length};
 ghost use Rattle.params.specs.Table.{goodSample, allGood};
@@ -17,7 +18,7 @@ const LIMIT: f32 = 1048576.0;
 const BLOCK: usize = 1024;
 
 // The cells from row `top` to before row `bottom` and from column `left` to before column `right`.
-#[derive(Drop)]
+#[derive(Clone, Copy)]
 pub struct Area {
     pub top: usize,
     pub bottom: usize,

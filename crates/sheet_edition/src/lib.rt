@@ -1,9 +1,11 @@
 // An edition of the sheet as the code goes by it: one value, chosen by the edition's number, from which every width and every size is taken.
+#![tactic(auto)]
+
 ghost use Rattle.std.specs.Prelude.{◌≡◌};
 ghost use Rattle.sheet.specs.Layout.{layout_of};
 ghost use Rattle.sheet_edition.specs.Edition.{editionOf, Known};
 
-#[derive(Drop)]
+#[derive(Clone, Copy)]
 pub struct Edition {
     // what the header starts with
     pub number: u64,

@@ -1,4 +1,6 @@
 // A number and its bytes; and the fields of a sheet's header, and of one record before its values, of any edition: as one number, cut out of it again, and tested.
+#![tactic(auto)]
+
 ghost use Rattle.std.specs.Prelude.{◌≡◌, ◌&&◌, ◌+◌, ◌*◌, ◌^◌, ◌<◌, ◌≤◌, leb, length, take, drop};
 ghost use Rattle.lists.specs.Pasted.{pasted};
 ghost use Rattle.sheet.specs.Pack.{bytes, number, value, fields, sound};
@@ -12,7 +14,7 @@ ghost use Rattle.sheet_fields.specs.Fields.{headerList, HeaderFits, headValues, 
 use sheet_edition::Edition;
 
 // The fields of a header, width and height less 1, the rule less 1, and its zero bits.
-#[derive(Drop)]
+#[derive(Clone, Copy)]
 pub struct Header {
     pub edition: u64,
     pub width: u64,
@@ -24,7 +26,7 @@ pub struct Header {
 }
 
 // The whole numbers of a record, its blank bit, and its zero bits.
-#[derive(Drop)]
+#[derive(Clone, Copy)]
 pub struct Head {
     pub row: u64,
     pub column: u64,
@@ -36,7 +38,7 @@ pub struct Head {
 }
 
 // The floats of a record, by their bits.
-#[derive(Drop)]
+#[derive(Clone, Copy)]
 pub struct Floats {
     pub x: u64,
     pub y: u64,

@@ -1,1 +1,2 @@
 // The sheet's ranges of bits, and the rules on floats that they render: nothing to run.
+#![tactic(auto)]

@@ -1,4 +1,6 @@
 // The sheet's reader, of each edition: the bytes of a sheet tested against every rule, and its records given as words.
+#![tactic(auto)]
+
 ghost use Rattle.std.specs.Prelude.{◌≡◌, ◌+◌, ◌*◌, ◌≤◌, length, drop};
 ghost use mathlib.Core.List.{flat_map};
 ghost use Rattle.lists.specs.Pasted.{pasted};

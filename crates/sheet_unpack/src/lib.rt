@@ -1,4 +1,6 @@
 // One record out of a sheet's bytes, of any edition: its fields, whether it keeps the rules, and its words.
+#![tactic(auto)]
+
 ghost use Rattle.std.specs.Prelude.{◌≡◌, cond, ◌∷◌, [], ◌+◌, ◌-◌, ◌<◌, ◌≤◌, length, get_or, take, drop};
 ghost use Rattle.lists.specs.Pasted.{pasted};
 ghost use Rattle.params.specs.Limits.{valueCount};
@@ -124,7 +126,7 @@ fn take_values(e: Edition, bytes: &[u8], out: &mut [u32], to: usize)
 }
 
 // Five words in a row.
-#[derive(Drop)]
+#[derive(Clone, Copy)]
 struct Five {
     a: u32,
     b: u32,

@@ -1,4 +1,6 @@
 // The sheet's writer, of each edition: frame and records tested, and a sheet's bytes made of them.
+#![tactic(auto)]
+
 ghost use Rattle.std.specs.Prelude.{◌≡◌, ℕ, ◌+◌, ◌*◌, ◌<◌, ◌≤◌, length, take, drop};
 ghost use mathlib.Core.List.{flat_map};
 ghost use Rattle.lists.specs.Pasted.{pasted};

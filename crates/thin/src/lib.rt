@@ -1,4 +1,6 @@
 // Even cover for a frame: of its keypoints, the positions that it keeps at a quota.
+#![tactic(auto)]
+
 ghost use Rattle.std.specs.Prelude.{◌≡◌, true, ◌&&◌, ℕ, ◌≤◌, ◌<◌, length, get_or};
 ghost use Rattle.std.specs.Float.Ieee.Scale.{finite};
 ghost use Rattle.lists.specs.Ranges.{every};
@@ -75,7 +77,7 @@ fn keep(words: &[u32], r: Region, q: usize, depth: u32, out: &mut [u32]) -> Answ
 }
 
 // The frame's sides, as floats.
-#[derive(Drop)]
+#[derive(Clone, Copy)]
 pub struct Sides {
     pub zero: f32,
     pub width: f32,

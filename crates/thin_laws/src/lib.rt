@@ -1,1 +1,2 @@
 // Laws of even cover: nothing to run.
+#![tactic(auto)]

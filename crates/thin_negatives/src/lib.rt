@@ -1,1 +1,2 @@
 // Thinning a negative's keypoints: nothing to run.
+#![tactic(auto)]

@@ -1,1 +1,2 @@
 // The order of floats by their bits: nothing to run.
+#![tactic(auto)]

@@ -1,4 +1,6 @@
 // What a region keeps: all of it, the best of it, or what its four quarters keep, for which thinning calls itself.
+#![tactic(auto)]
+
 ghost use Rattle.std.specs.Prelude.{◌≡◌, false, ◌&&◌, ◌+◌, ◌^◌, ◌≤◌, ◌<◌, length};
 ghost use Rattle.counts.specs.Counts.{counted};
 ghost use Rattle.thin_rule.specs.Rule.{pointsIn, keeps, kept};

@@ -1,4 +1,6 @@
 // A region of a frame: its quarters and their shares, which keypoints lie in it, and how strong they are.
+#![tactic(auto)]
+
 ghost use Rattle.std.specs.Prelude.{◌≡◌, cond, ◌^◌, ◌<◌, ◌≤◌, ltb};
 ghost use Rattle.ieee.specs.F32.{float};
 ghost use Rattle.params.specs.Limits.{maxSide, maxKeypoints};
@@ -9,7 +11,7 @@ ghost use Rattle.thin_rule.specs.Strength.{strength, edge_at, edgesOf, edged, Or
 use params::KEYPOINT_WORDS;
 
 // The columns from left to below right, the rows from top to below bottom.
-#[derive(Drop)]
+#[derive(Clone, Copy)]
 pub struct Region {
     pub left: u32,
     pub right: u32,
@@ -18,7 +20,7 @@ pub struct Region {
 }
 
 // A region's edges, each as the bits of its float.
-#[derive(Drop)]
+#[derive(Clone, Copy)]
 pub struct Edges {
     pub left: u32,
     pub right: u32,

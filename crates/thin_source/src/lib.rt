@@ -1,4 +1,6 @@
 // A region's keypoints, looked for in a source: counted, written out, cut at a strength, held in a run, and parted for its quarters.
+#![tactic(auto)]
+
 ghost use Rattle.std.specs.Prelude.{◌≡◌, false, cond, ◌&&◌, ◌+◌, ◌^◌, ◌≤◌, ◌<◌, leb, ltb, length, set};
 ghost use Rattle.params.specs.Limits.{maxKeypoints};
 ghost use Rattle.counts.specs.Counts.{counted};
@@ -15,7 +17,7 @@ use thin_rule::{Edges, Region};
 const FEW: usize = 8;
 
 // The places of a source: each is a position itself, or holds one.
-#[derive(Drop)]
+#[derive(Clone, Copy)]
 pub struct Source {
     pub all: bool,
     pub from: usize,
@@ -23,14 +25,14 @@ pub struct Source {
 }
 
 // The least and the largest strength of a list, or less and more.
-#[derive(Drop)]
+#[derive(Clone, Copy)]
 pub struct Reach {
     pub low: u64,
     pub high: u64,
 }
 
 // Where the four parts of a run begin, and where it ends.
-#[derive(Drop)]
+#[derive(Clone, Copy)]
 pub struct Bounds {
     pub first: usize,
     pub second: usize,
@@ -40,7 +42,7 @@ pub struct Bounds {
 }
 
 // How many keypoints a region has, and the source for all that is asked of it further.
-#[derive(Drop)]
+#[derive(Clone, Copy)]
 pub struct Found {
     pub many: usize,
     pub source: Source,

@@ -1,4 +1,6 @@
 // A keypoint and an oriented keypoint of the words that they went out as, and the descriptor's inputs as words. Any other number of words stands for a keypoint that no entry takes.
+#![tactic(auto)]
+
 ghost use Rattle.std.specs.Prelude.{◌≡◌, length};
 ghost use Rattle.std.specs.Float.{nan};
 ghost use Rattle.params.specs.Limits.{keypointWords};

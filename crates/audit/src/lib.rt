@@ -2,12 +2,12 @@
 #![tactic(auto)]
 
 ghost use Rattle.std.specs.Prelude.{◌≡◌, true, false, length};
-ghost use Rattle.params.specs.Table.{allGood};
-ghost use Rattle.sheet.specs.Sheet.{bytesRight};
-ghost use Rattle.sheet.specs.Reads.{layoutIn};
-ghost use Rattle.audit_rule.specs.Entry.{formFault, checkAnswer};
+ghost use Rattle.params.specs.Table.{all_good};
+ghost use Rattle.sheet.specs.Sheet.{bytes_right};
+ghost use Rattle.sheet.specs.Reads.{layout_in};
+ghost use Rattle.audit_rule.specs.Entry.{form_fault, check_answer};
 ghost use Rattle.audit_rule.specs.Fine.{Fine};
-ghost use Rattle.audit_rule.specs.Left.{answerLeft};
+ghost use Rattle.audit_rule.specs.Left.{answer_left};
 
 use audit_keypoint::Task;
 use audit_verdict::Checked;
@@ -20,7 +20,7 @@ const HEADER_BYTES: usize = 8;
 
 // The first check that fails of those before the samples, or 0.
 fn form_fault(dogs: usize, gausses: usize, t: Shape, octave: u32, s: Settings, base: Size) -> u32
-    ensures { result ≡ formFault dogs gausses t octave s base }
+    ensures { result ≡ form_fault dogs gausses t octave s base }
 {
     if params::shape_wrong(t.width, t.height) | params::shape_wrong(base.width, base.height) {
         return 1;
@@ -52,8 +52,8 @@ fn of_no_sheet(
     sheet: &[u8],
 ) -> Checked
     requires fine { Fine (length dog.now) (length gauss.now) t octave s base }
-    requires dog_value { (allGood dog.now ≡ true) × (bytesRight (layoutIn sheet.now) sheet.now ≡ false) }
-    ensures { result ≡ answerLeft dog.now gauss.now t octave s base sheet.now }
+    requires dog_value { (all_good dog.now ≡ true) × (bytes_right (layout_in sheet.now) sheet.now ≡ false) }
+    ensures { result ≡ answer_left dog.now gauss.now t octave s base sheet.now }
 {
     let k = Task {
         shape: t,
@@ -80,8 +80,8 @@ fn of_sheet(
     sheet: &[u8],
 ) -> Checked
     requires fine { Fine (length dog.now) (length gauss.now) t octave s base }
-    requires dog_value { (allGood dog.now ≡ true) × (bytesRight (layoutIn sheet.now) sheet.now ≡ true) }
-    ensures { result ≡ answerLeft dog.now gauss.now t octave s base sheet.now }
+    requires dog_value { (all_good dog.now ≡ true) × (bytes_right (layout_in sheet.now) sheet.now ≡ true) }
+    ensures { result ≡ answer_left dog.now gauss.now t octave s base sheet.now }
 {
     let e = sheet_fields::edition_in(sheet);
     let h = sheet_fields::header_in(e, sheet);
@@ -118,7 +118,7 @@ pub fn check_sheet(
     base: Size,
     sheet: &[u8],
 ) -> Checked
-    ensures { result ≡ checkAnswer dog.now gauss.now t octave s base sheet.now }
+    ensures { result ≡ check_answer dog.now gauss.now t octave s base sheet.now }
 {
     let f = form_fault(dog.len(), gauss.len(), t, octave, s, base);
     if f != 0 {

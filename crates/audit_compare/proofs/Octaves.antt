@@ -6,28 +6,28 @@ use Prim.Native.Nat.{ℕ}
 use borrow.Author.Tests.{eq-eqb, ne_eqb}
 use lib.Dec.{lit<}
 use lib.ListN.{get_or}
-use Rattle.sheet.specs.Layout.{Layout, recordSize}
-use Rattle.sheet.specs.Sheet.{parts, allPass}
-use Rattle.sheet.proofs.Parts.{pass-map}
-use Rattle.sheet_fields.specs.Fields.{bytesWords}
-use Rattle.audit_compare.specs.Difference.{octavePlace, fields_of, ofOctave}
-use Rattle.audit_compare.specs.Standing.{statedIn}
-use Rattle.audit_compare.proofs.Fields.{field-front}
-use Rattle.audit_compare.proofs.Stated.{words-length}
+use Rattle.sheet.specs.Layout.{Layout, record_size}
+use Rattle.sheet.specs.Sheet.{parts, all_pass}
+use Rattle.sheet.proofs.Parts.{pass_map}
+use Rattle.sheet_fields.specs.Fields.{bytes_words}
+use Rattle.audit_compare.specs.Difference.{octave_place, fields_of, of_octave}
+use Rattle.audit_compare.specs.Standing.{stated_in}
+use Rattle.audit_compare.proofs.Fields.{field_front}
+use Rattle.audit_compare.proofs.Stated.{words_length}
 
 -- of a record's bytes
-abbrev pub octaveRight : Layout → ℕ → List ℕ → Bool
-octaveRight l octave bs = ofOctave octave (fields_of l (bytesWords l bs))
+abbrev pub octave_right : Layout → ℕ → List ℕ → Bool
+octave_right l octave bs = of_octave octave (fields_of l (bytes_words l bs))
 
-pub octaves-are : (l : Layout) (octave n : ℕ) (body : List ℕ) → allPass (octaveRight l octave) (parts (recordSize l) n body) ≡ allPass (ofOctave octave) (statedIn l n body)
-octaves-are l octave n body = sym (pass-map (ofOctave octave) (λ b. fields_of l (bytesWords l b)) (parts (recordSize l) n body))
+pub octaves_are : (l : Layout) (octave n : ℕ) (body : List ℕ) → all_pass (octave_right l octave) (parts (record_size l) n body) ≡ all_pass (of_octave octave) (stated_in l n body)
+octaves_are l octave n body = sym (pass_map (of_octave octave) (λ b. fields_of l (bytes_words l b)) (parts (record_size l) n body))
 
-module _ (l : Layout) (octave : ℕ) (bs w : List ℕ) (e : w ≡ bytesWords l bs) where
-  stated : get_or (fields_of l (bytesWords l bs)) octavePlace 0 ≡ get_or w octavePlace 0
-  stated = field-front l (bytesWords l bs) (words-length l bs) octavePlace (lit< tt) ∙ ap (λ (v : List ℕ). get_or v octavePlace 0) (sym e)
+module _ (l : Layout) (octave : ℕ) (bs w : List ℕ) (e : w ≡ bytes_words l bs) where
+  stated : get_or (fields_of l (bytes_words l bs)) octave_place 0 ≡ get_or w octave_place 0
+  stated = field_front l (bytes_words l bs) (words_length l bs) octave_place (lit< tt) ∙ ap (λ (v : List ℕ). get_or v octave_place 0) (sym e)
 
-  pub octave-good : get_or w octavePlace 0 ≡ octave → octaveRight l octave bs ≡ true
-  octave-good h = eq-eqb _ _ (stated ∙ h)
+  pub octave_good : get_or w octave_place 0 ≡ octave → octave_right l octave bs ≡ true
+  octave_good h = eq-eqb _ _ (stated ∙ h)
 
-  pub octave-bad : (get_or w octavePlace 0 ≡ octave → ⊥) → octaveRight l octave bs ≡ false
-  octave-bad n = ne_eqb _ _ (λ h. n (sym stated ∙ h))
+  pub octave_bad : (get_or w octave_place 0 ≡ octave → ⊥) → octave_right l octave bs ≡ false
+  octave_bad n = ne_eqb _ _ (λ h. n (sym stated ∙ h))

@@ -2,13 +2,13 @@
 #![tactic(auto)]
 
 ghost use Rattle.std.specs.Prelude.{◌≡◌, ◌*◌, ◌<◌, ◌≤◌, length, get_or, take, drop};
-ghost use Rattle.sheet.specs.Layout.{recordSize};
-ghost use Rattle.sheet.specs.Sheet.{allPass};
-ghost use Rattle.sheet.specs.Words.{readWords};
-ghost use Rattle.sheet_edition.specs.Edition.{layoutFor, Known};
-ghost use Rattle.sheet_fields.specs.Fields.{bytesWords};
-ghost use Rattle.audit_compare.specs.Difference.{firstDifference, fields_of, ofOctave};
-ghost use Rattle.audit_compare.specs.Standing.{statedIn, differenceAt, compared};
+ghost use Rattle.sheet.specs.Layout.{record_size};
+ghost use Rattle.sheet.specs.Sheet.{all_pass};
+ghost use Rattle.sheet.specs.Words.{read_words};
+ghost use Rattle.sheet_edition.specs.Edition.{layout_for, Known};
+ghost use Rattle.sheet_fields.specs.Fields.{bytes_words};
+ghost use Rattle.audit_compare.specs.Difference.{first_difference, fields_of, of_octave};
+ghost use Rattle.audit_compare.specs.Standing.{stated_in, difference_at, compared};
 
 use sheet_edition::Edition;
 
@@ -40,8 +40,8 @@ pub struct Standing {
 // A field of a record's 139 words, by its place in the sheet. Its zero bits are 0, and so is the blank bit where there is none.
 fn field_at(e: Edition, words: &[u32], i: usize) -> u32
     requires fact_1 { Known e }
-    requires fact_2 { (length words.now ≡ readWords) × (i < 140) }
-    ensures { result ≡ get_or (fields_of (layoutFor e) words.now) i 0 }
+    requires fact_2 { (length words.now ≡ read_words) × (i < 140) }
+    ensures { result ≡ get_or (fields_of (layout_for e) words.now) i 0 }
 {
     if i < BLANK {
         return words[i];
@@ -58,8 +58,8 @@ fn field_at(e: Edition, words: &[u32], i: usize) -> u32
 // The number, from 1, of the first field in which two records of 139 words differ, or 0.
 fn first_difference(e: Edition, one: &[u32], other: &[u32]) -> u32
     requires fact_1 { Known e }
-    requires fact_2 { (length one.now ≡ readWords) × (length other.now ≡ readWords) }
-    ensures { result ≡ firstDifference (fields_of (layoutFor e) one.now) (fields_of (layoutFor e) other.now) }
+    requires fact_2 { (length one.now ≡ read_words) × (length other.now ≡ read_words) }
+    ensures { result ≡ first_difference (fields_of (layout_for e) one.now) (fields_of (layout_for e) other.now) }
 {
     let mut i = 0;
     while i < FIELDS {
@@ -74,8 +74,8 @@ fn first_difference(e: Edition, one: &[u32], other: &[u32]) -> u32
 // The words of the record at a place of a sheet, of whose bytes `body` are those behind the header.
 fn words_at(e: Edition, body: &[u8], n: usize, i: usize) -> [u32; READ_WORDS]
     requires fact_1 { Known e }
-    requires fact_2 { (recordSize (layoutFor e) * n ≤ length body.now) × (i < n) }
-    ensures { result ≡ bytesWords (layoutFor e) (take (recordSize (layoutFor e)) (drop (recordSize (layoutFor e) * i) body.now)) }
+    requires fact_2 { (record_size (layout_for e) * n ≤ length body.now) × (i < n) }
+    ensures { result ≡ bytes_words (layout_for e) (take (record_size (layout_for e)) (drop (record_size (layout_for e) * i) body.now)) }
 {
     let mut words = [0u32; READ_WORDS];
     let from = e.bytes * i;
@@ -87,8 +87,8 @@ fn words_at(e: Edition, body: &[u8], n: usize, i: usize) -> [u32; READ_WORDS]
 // The first field in which a record and the sheet's at a place differ, 0 for none; `MISSING` where the sheet has none there.
 fn difference_at(e: Edition, body: &[u8], n: usize, i: usize, made: &[u32]) -> u32
     requires fact_1 { Known e }
-    requires fact_2 { (recordSize (layoutFor e) * n ≤ length body.now) × (length made.now ≡ readWords) }
-    ensures { result ≡ differenceAt (layoutFor e) (statedIn (layoutFor e) n body.now) i made.now }
+    requires fact_2 { (record_size (layout_for e) * n ≤ length body.now) × (length made.now ≡ read_words) }
+    ensures { result ≡ difference_at (layout_for e) (stated_in (layout_for e) n body.now) i made.now }
 {
     if i >= n {
         return MISSING;
@@ -100,8 +100,8 @@ fn difference_at(e: Edition, body: &[u8], n: usize, i: usize, made: &[u32]) -> u
 // How far the records agree after one more.
 pub fn compared(e: Edition, body: &[u8], n: usize, st: Standing, made: &[u32]) -> Standing
     requires fact_1 { Known e }
-    requires fact_2 { (recordSize (layoutFor e) * n ≤ length body.now) × (length made.now ≡ readWords) }
-    ensures { result ≡ compared (layoutFor e) (statedIn (layoutFor e) n body.now) st made.now }
+    requires fact_2 { (record_size (layout_for e) * n ≤ length body.now) × (length made.now ≡ read_words) }
+    ensures { result ≡ compared (layout_for e) (stated_in (layout_for e) n body.now) st made.now }
 {
     if st.field != 0 {
         return st;
@@ -124,8 +124,8 @@ pub fn compared(e: Edition, body: &[u8], n: usize, st: Standing, made: &[u32]) -
 // Whether every record is of an octave.
 pub fn octaves_right(e: Edition, body: &[u8], n: usize, octave: u32) -> bool
     requires fact_1 { Known e }
-    requires fact_2 { recordSize (layoutFor e) * n ≤ length body.now }
-    ensures { result ≡ allPass (ofOctave octave) (statedIn (layoutFor e) n body.now) }
+    requires fact_2 { record_size (layout_for e) * n ≤ length body.now }
+    ensures { result ≡ all_pass (of_octave octave) (stated_in (layout_for e) n body.now) }
 {
     let mut i = 0;
     while i < n {

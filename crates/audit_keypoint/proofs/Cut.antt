@@ -10,29 +10,29 @@ use lib.Seq.{drop-drop, take_at, drop_at}
 use Rattle.sheet.specs.Sheet.{parts}
 
 -- lists of k elements each, joined, with anything after them
-pub parts-front {ℓ} : {A : Type ℓ} (k : ℕ) (f : A → List ℕ) → ((x : A) → length (f x) ≡ k) → (xs : List A) (rest : List ℕ) → parts k (length xs) (flat_map f xs ++ rest) ≡ map f xs
+pub parts_front {ℓ} : {A : Type ℓ} (k : ℕ) (f : A → List ℕ) → ((x : A) → length (f x) ≡ k) → (xs : List A) (rest : List ℕ) → parts k (length xs) (flat_map f xs ++ rest) ≡ map f xs
 unfolding parts flat_map
-parts-front k f e [] rest = refl
-parts-front k f e (x ∷ xs) rest =
-    rw (append_assoc, take_at (f x) (flat_map f xs ++ rest) k (e x), drop_at (f x) (flat_map f xs ++ rest) k (e x), parts-front k f e xs rest)
+parts_front k f e [] rest = refl
+parts_front k f e (x ∷ xs) rest =
+    rw (append_assoc, take_at (f x) (flat_map f xs ++ rest) k (e x), drop_at (f x) (flat_map f xs ++ rest) k (e x), parts_front k f e xs rest)
 
 -- the same of any function that joins them
-pub parts-joined {ℓ} : {A : Type ℓ} (k : ℕ) (f : A → List ℕ) → ((x : A) → length (f x) ≡ k) → (w : List A → List ℕ) → ((xs : List A) → w xs ≡ flat_map f xs) → (xs : List A) (rest : List ℕ) →
+pub parts_joined {ℓ} : {A : Type ℓ} (k : ℕ) (f : A → List ℕ) → ((x : A) → length (f x) ≡ k) → (w : List A → List ℕ) → ((xs : List A) → w xs ≡ flat_map f xs) → (xs : List A) (rest : List ℕ) →
     parts k (length xs) (w xs ++ rest) ≡ map f xs
-parts-joined k f e w j xs rest = ap (λ (ws : List ℕ). parts k (length xs) (ws ++ rest)) (j xs) ∙ parts-front k f e xs rest
+parts_joined k f e w j xs rest = ap (λ (ws : List ℕ). parts k (length xs) (ws ++ rest)) (j xs) ∙ parts_front k f e xs rest
 
-fold-suc {ℓ} : {S : Type ℓ} (f : S → List ℕ → S) (st : S) (k n : ℕ) (ws : List ℕ) → foldl f st (parts k (suc n) ws) ≡ f (foldl f st (parts k n ws)) (take k (drop (k * n) ws))
+fold_suc {ℓ} : {S : Type ℓ} (f : S → List ℕ → S) (st : S) (k n : ℕ) (ws : List ℕ) → foldl f st (parts k (suc n) ws) ≡ f (foldl f st (parts k n ws)) (take k (drop (k * n) ws))
 unfolding parts
-fold-suc f st k zero ws = rw mul-zero
-fold-suc f st k (suc n) ws =
+fold_suc f st k zero ws = rw mul-zero
+fold_suc f st k (suc n) ws =
     let m : k * suc n ≡ k + k * n = rw mul-suc (omega arith) in
-    fold-suc f (f st (take k ws)) k n (drop k ws) ∙ rw (m, drop-drop (k * n) k ws)
+    fold_suc f (f st (take k ws)) k n (drop k ws) ∙ rw (m, drop-drop (k * n) k ws)
 
 -- one part more
 pub fold_next {ℓ} : {S : Type ℓ} (f : S → List ℕ → S) (st : S) (k n : ℕ) (ws : List ℕ) → foldl f st (parts k (n + 1) ws) ≡ f (foldl f st (parts k n ws)) (take k (drop (k * n) ws))
-fold_next f st k n ws = rw add-one (fold-suc f st k n ws)
+fold_next f st k n ws = rw add-one (fold_suc f st k n ws)
 
 -- of none
-pub fold-none {ℓ} : {S : Type ℓ} (f : S → List ℕ → S) (st : S) (k : ℕ) (ws : List ℕ) → foldl f st (parts k 0 ws) ≡ st
+pub fold_none {ℓ} : {S : Type ℓ} (f : S → List ℕ → S) (st : S) (k : ℕ) (ws : List ℕ) → foldl f st (parts k 0 ws) ≡ st
 unfolding parts
-fold-none f st k ws = refl
+fold_none f st k ws = refl

@@ -5,25 +5,25 @@ use mathlib.Core.List.{List}
 use native.Mathlib.Omega.{arith}
 use lib.ListN.{take, drop}
 use lib.Ieee.{Float}
-use Rattle.orient_words.specs.Oriented.{orientedWords}
+use Rattle.orient_words.specs.Oriented.{oriented_words}
 use Rattle.sheet.specs.Sheet.{parts}
 use Rattle.audit_compare.specs.declared.Standing.{Standing}
-use Rattle.audit_keypoint.specs.Steps.{Given, directionStep, directionSteps}
-use Rattle.audit_keypoint.proofs.Cut.{fold-none, fold_next}
+use Rattle.audit_keypoint.specs.Steps.{Given, direction_step, direction_steps}
+use Rattle.audit_keypoint.proofs.Cut.{fold_none, fold_next}
 
 module _ (g : Given) (img : List Float) (kw ws : List ℕ) (st : Standing) where
   -- after the first j
-  abbrev pub stepsTo : ℕ → Standing
-  stepsTo j = directionSteps g img kw st (parts orientedWords j ws)
+  abbrev pub steps_to : ℕ → Standing
+  steps_to j = direction_steps g img kw st (parts oriented_words j ws)
 
-  pub steps-none : st ≡ stepsTo 0
-  unfolding directionSteps
-  steps-none = sym (fold-none (directionStep g img kw) st orientedWords ws)
+  pub steps_none : st ≡ steps_to 0
+  unfolding direction_steps
+  steps_none = sym (fold_none (direction_step g img kw) st oriented_words ws)
 
   -- the words of the direction j go from 6 × j to 6 × j + 6
-  pub steps_next : (j : ℕ) (now r : Standing) → now ≡ stepsTo j →
-      r ≡ directionStep g img kw now (take (orientedWords * j + orientedWords - orientedWords * j) (drop (orientedWords * j) ws)) → r ≡ stepsTo (j + 1)
-  unfolding directionSteps
+  pub steps_next : (j : ℕ) (now r : Standing) → now ≡ steps_to j →
+      r ≡ direction_step g img kw now (take (oriented_words * j + oriented_words - oriented_words * j) (drop (oriented_words * j) ws)) → r ≡ steps_to (j + 1)
+  unfolding direction_steps
   steps_next j now r e q =
-      let m : orientedWords * j + orientedWords - orientedWords * j ≡ orientedWords = omega arith in
-      q ∙ rw (m, e, fold_next (directionStep g img kw) st orientedWords j ws)
+      let m : oriented_words * j + oriented_words - oriented_words * j ≡ oriented_words = omega arith in
+      q ∙ rw (m, e, fold_next (direction_step g img kw) st oriented_words j ws)

@@ -10,30 +10,30 @@ use borrow.Author.Tests.{le-leb, lt-leb, not-true, not-false}
 use lib.ListN.{take, drop}
 use lib.Ieee.{Float}
 use Rattle.detect_keypoint.specs.declared.RawKeypoint.{RawKeypoint}
-use Rattle.words.specs.Keypoint.{keypointIn}
+use Rattle.words.specs.Keypoint.{keypoint_in}
 use Rattle.audit_compare.specs.Standing.{refused}
 use Rattle.audit_compare.specs.declared.Standing.{Standing}
-use Rattle.audit_keypoint.specs.Pictures.{planeSize, pictureIn}
-use Rattle.audit_keypoint.specs.Steps.{Given, turnStep, keypointStep}
+use Rattle.audit_keypoint.specs.Pictures.{plane_size, picture_in}
+use Rattle.audit_keypoint.specs.Steps.{Given, turn_step, keypoint_step}
 
 -- the plane of a layer lies among the planes
-pub plane-inside : (layer planes size len : ℕ) → layer ≤ planes → len ≡ (planes + 1) * size → layer * size + size ≤ len
-plane-inside layer planes size len h e = rw (e, add-one, ← suc-mul) (mul-le-mul_right size (suc-le-suc_iff.1 h))
+pub plane_inside : (layer planes size len : ℕ) → layer ≤ planes → len ≡ (planes + 1) * size → layer * size + size ≤ len
+plane_inside layer planes size len h e = rw (e, add-one, ← suc-mul) (mul-le-mul_right size (suc-le-suc_iff.1 h))
 
 module _ (gauss : List Float) (g : Given) (st : Standing) (kw : List ℕ) where
-  pub keypoint-over : not st.good ≡ true → st ≡ keypointStep gauss g st kw
-  unfolding keypointStep
-  keypoint-over e = rw (not-true st.good e)
+  pub keypoint_over : not st.good ≡ true → st ≡ keypoint_step gauss g st kw
+  unfolding keypoint_step
+  keypoint_over e = rw (not-true st.good e)
 
-  module _ (good : not st.good ≡ false) (k : RawKeypoint) (read : k ≡ keypointIn kw) where
-    pub keypoint-above : g.shape.planes < k.layer → (r : Standing) → r ≡ refused → r ≡ keypointStep gauss g st kw
-    unfolding keypointStep
-    keypoint-above h r q = q ∙ rw (not-false st.good good, ← read, lt-leb k.layer g.shape.planes h)
+  module _ (good : not st.good ≡ false) (k : RawKeypoint) (read : k ≡ keypoint_in kw) where
+    pub keypoint_above : g.shape.planes < k.layer → (r : Standing) → r ≡ refused → r ≡ keypoint_step gauss g st kw
+    unfolding keypoint_step
+    keypoint_above h r q = q ∙ rw (not-false st.good good, ← read, lt-leb k.layer g.shape.planes h)
 
-    pub keypoint-turned : k.layer ≤ g.shape.planes → (r : Standing) →
-        r ≡ turnStep g (take (k.layer * planeSize g.shape + planeSize g.shape - k.layer * planeSize g.shape) (drop (k.layer * planeSize g.shape) gauss)) st kw →
-        r ≡ keypointStep gauss g st kw
-    unfolding keypointStep pictureIn
-    keypoint-turned h r q =
-        let m : k.layer * planeSize g.shape + planeSize g.shape - k.layer * planeSize g.shape ≡ planeSize g.shape = omega arith in
+    pub keypoint_turned : k.layer ≤ g.shape.planes → (r : Standing) →
+        r ≡ turn_step g (take (k.layer * plane_size g.shape + plane_size g.shape - k.layer * plane_size g.shape) (drop (k.layer * plane_size g.shape) gauss)) st kw →
+        r ≡ keypoint_step gauss g st kw
+    unfolding keypoint_step picture_in
+    keypoint_turned h r q =
+        let m : k.layer * plane_size g.shape + plane_size g.shape - k.layer * plane_size g.shape ≡ plane_size g.shape = omega arith in
         q ∙ rw (m, not-false st.good good, ← read, le-leb k.layer g.shape.planes h)

@@ -8,26 +8,26 @@ use lib.Dec.{eqb}
 use lib.ListN.{length}
 use Rattle.detect_keypoint.specs.declared.RawKeypoint.{RawKeypoint}
 use Rattle.orient_words.specs.declared.OrientedKeypoint.{OrientedKeypoint}
-use Rattle.record.specs.Record.{recordOf}
-use Rattle.record.specs.Make.{makeNumber, makeLeft}
-use Rattle.sheet.specs.Words.{readWords}
+use Rattle.record.specs.Record.{record_of}
+use Rattle.record.specs.Make.{make_number, make_left}
+use Rattle.sheet.specs.Words.{read_words}
 use Rattle.sheet.specs.Layout.{Layout}
 use Rattle.audit_compare.specs.Standing.{refused, compared}
 use Rattle.audit_compare.specs.declared.Standing.{Standing}
 
 module _ (k : RawKeypoint) (o : OrientedKeypoint) (values : List ℕ) (samples : ℕ) (l : Layout) (stated : List (List ℕ)) (st : Standing) (number : ℕ) where
   abbrev After : Standing → Type 0
-  After r = r ≡ cond (eqb (makeNumber k o values samples readWords) 0) (compared l stated st (recordOf k o values samples)) refused
+  After r = r ≡ cond (eqb (make_number k o values samples read_words) 0) (compared l stated st (record_of k o values samples)) refused
 
-  pub made-refused : number ≡ makeNumber k o values samples readWords → (number ≡ 0 → ⊥) → (r : Standing) → r ≡ refused → After r
-  made-refused e n r q = q ∙ rw (← e, ne_eqb number 0 n)
+  pub made_refused : number ≡ make_number k o values samples read_words → (number ≡ 0 → ⊥) → (r : Standing) → r ≡ refused → After r
+  made_refused e n r q = q ∙ rw (← e, ne_eqb number 0 n)
 
-  module _ (out made : List ℕ) (room : length out ≡ readWords) (e : number ≡ makeNumber k o values samples (length out)) (z : number ≡ 0) (left : made ≡ makeLeft k o values samples out) where
-    record-left : made ≡ recordOf k o values samples
-    unfolding makeLeft
-    record-left = left ∙ rw (sym e ∙ z)
+  module _ (out made : List ℕ) (room : length out ≡ read_words) (e : number ≡ make_number k o values samples (length out)) (z : number ≡ 0) (left : made ≡ make_left k o values samples out) where
+    record_left : made ≡ record_of k o values samples
+    unfolding make_left
+    record_left = left ∙ rw (sym e ∙ z)
 
-    pub made-compared : (r : Standing) → r ≡ compared l stated st made → After r
-    made-compared r q =
-        let n = sym (ap (λ (m : ℕ). makeNumber k o values samples m) room) ∙ sym e ∙ z in
-        q ∙ rw (record-left, eq-eqb (makeNumber k o values samples readWords) 0 n)
+    pub made_compared : (r : Standing) → r ≡ compared l stated st made → After r
+    made_compared r q =
+        let n = sym (ap (λ (m : ℕ). make_number k o values samples m) room) ∙ sym e ∙ z in
+        q ∙ rw (record_left, eq-eqb (make_number k o values samples read_words) 0 n)

@@ -3,8 +3,8 @@ use Rattle.std.specs.Prelude.{ℕ, ◌*◌, List, take, drop, Float}
 use Rattle.picture.specs.declared.Shape.{Shape}
 
 -- the cells of a plane
-abbrev pub planeSize : Shape → ℕ
-planeSize t = t.height * t.width
+abbrev pub plane_size : Shape → ℕ
+plane_size t = t.height * t.width
 
-unfoldable pub pictureIn : List Float → Shape → ℕ → List Float
-pictureIn gauss t layer = take (planeSize t) (drop (layer * planeSize t) gauss)
+unfoldable pub picture_in : List Float → Shape → ℕ → List Float
+picture_in gauss t layer = take (plane_size t) (drop (layer * plane_size t) gauss)

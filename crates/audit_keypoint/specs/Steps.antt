@@ -5,49 +5,49 @@ use Rattle.picture.specs.declared.Shape.{Shape}
 use Rattle.picture.specs.declared.Size.{Size}
 use Rattle.detect_keypoint.specs.declared.RawKeypoint.{RawKeypoint}
 use Rattle.orient_words.specs.Oriented.{words_of}
-use Rattle.orient.specs.Entry.{orientFault, orientedList}
-use Rattle.descriptor_inputs.specs.Inputs.{inputsOf}
+use Rattle.orient.specs.Entry.{orient_fault, oriented_list}
+use Rattle.descriptor_inputs.specs.Inputs.{inputs_of}
 use Rattle.descriptor_inputs.specs.declared.Inputs.{Inputs}
-use Rattle.descriptor_run.specs.Cells.{samplesOf}
-use Rattle.descriptor_words.specs.Words.{turnAt, wordsAt}
+use Rattle.descriptor_run.specs.Cells.{samples_of}
+use Rattle.descriptor_words.specs.Words.{turn_at, words_at}
 use Rattle.descriptor_words.specs.declared.Spot.{Spot}
-use Rattle.descriptor.specs.Entry.{faultOf}
-use Rattle.words.specs.Keypoint.{keypointIn}
-use Rattle.words.specs.Oriented.{orientedIn}
-use Rattle.record.specs.Record.{recordOf}
-use Rattle.record.specs.Make.{makeNumber}
+use Rattle.descriptor.specs.Entry.{fault_of}
+use Rattle.words.specs.Keypoint.{keypoint_in}
+use Rattle.words.specs.Oriented.{oriented_in}
+use Rattle.record.specs.Record.{record_of}
+use Rattle.record.specs.Make.{make_number}
 use Rattle.sheet.specs.Layout.{Layout}
-use Rattle.sheet.specs.Words.{readWords}
-use Rattle.sheet_edition.specs.Edition.{layoutFor}
-use Rattle.audit_compare.specs.Standing.{statedIn, refused, compared}
+use Rattle.sheet.specs.Words.{read_words}
+use Rattle.sheet_edition.specs.Edition.{layout_for}
+use Rattle.audit_compare.specs.Standing.{stated_in, refused, compared}
 use Rattle.audit_compare.specs.declared.Standing.{Standing}
-use Rattle.audit_keypoint.specs.Pictures.{pictureIn}
+use Rattle.audit_keypoint.specs.Pictures.{picture_in}
 use Rattle.audit_keypoint.specs.declared.Task.{Task}
 
 -- ---- a direction: the picture, the octave, and the words of the keypoint and of its direction
 
 module _ (img : List Float) (z : Size) (octave : ℕ) (kw ow : List ℕ) where
-  abbrev pub inputsFor : Inputs
-  inputsFor = inputsOf (orientedIn ow) (pos octave)
+  abbrev pub inputs_for : Inputs
+  inputs_for = inputs_of (oriented_in ow) (pos octave)
 
-  abbrev pub spotFor : Spot
-  spotFor = record { x = inputsFor.x; y = inputsFor.y; scale = inputsFor.scale; angle = inputsFor.angle }
+  abbrev pub spot_for : Spot
+  spot_for = record { x = inputs_for.x; y = inputs_for.y; scale = inputs_for.scale; angle = inputs_for.angle }
 
-  abbrev pub valuesFor : List ℕ
-  valuesFor = wordsAt img z spotFor
+  abbrev pub values_for : List ℕ
+  values_for = words_at img z spot_for
 
-  abbrev pub samplesFor : ℕ
-  samplesFor = length (samplesOf img (turnAt z spotFor))
+  abbrev pub samples_for : ℕ
+  samples_for = length (samples_of img (turn_at z spot_for))
 
   -- no stage refuses it
   unfoldable pub served : Bool
   served =
-      eqb inputsFor.number 0
-      && (eqb (faultOf img z spotFor) 0 && eqb (makeNumber (keypointIn kw) (orientedIn ow) valuesFor samplesFor readWords) 0)
+      eqb inputs_for.number 0
+      && (eqb (fault_of img z spot_for) 0 && eqb (make_number (keypoint_in kw) (oriented_in ow) values_for samples_for read_words) 0)
 
   -- its record
   unfoldable pub made_of : List ℕ
-  made_of = recordOf (keypointIn kw) (orientedIn ow) valuesFor samplesFor
+  made_of = record_of (keypoint_in kw) (oriented_in ow) values_for samples_for
 
 -- ---- what the records are compared with: the fields of a sheet's records
 
@@ -62,33 +62,33 @@ given_of body k =
     record {
       shape = k.shape;
       octave = k.octave;
-      layout = layoutFor k.edition;
-      stated = statedIn (layoutFor k.edition) k.count body;
+      layout = layout_for k.edition;
+      stated = stated_in (layout_for k.edition) k.count body;
     }
 
 abbrev pub size_for : Shape → Size
 size_for t = record { width = t.width; height = t.height }
 
 -- after one more direction: nothing is made after a refusal
-unfoldable pub directionStep : Given → List Float → List ℕ → Standing → List ℕ → Standing
-directionStep g img kw st ow =
+unfoldable pub direction_step : Given → List Float → List ℕ → Standing → List ℕ → Standing
+direction_step g img kw st ow =
     cond st.good
     (cond (served img (size_for g.shape) g.octave kw ow) (compared g.layout g.stated st (made_of img (size_for g.shape) g.octave kw ow)) refused)
     st
 
 -- after those of a list, each by its words
-unfoldable pub directionSteps : Given → List Float → List ℕ → Standing → List (List ℕ) → Standing
-directionSteps g img kw st ows = foldl (directionStep g img kw) st ows
+unfoldable pub direction_steps : Given → List Float → List ℕ → Standing → List (List ℕ) → Standing
+direction_steps g img kw st ows = foldl (direction_step g img kw) st ows
 
 -- after a keypoint, on the picture of its layer
-unfoldable pub turnStep : Given → List Float → Standing → List ℕ → Standing
-turnStep g img st kw =
-    cond (eqb (orientFault img (size_for g.shape) (keypointIn kw)) 0)
-    (directionSteps g img kw st (map words_of (orientedList img (size_for g.shape) (keypointIn kw))))
+unfoldable pub turn_step : Given → List Float → Standing → List ℕ → Standing
+turn_step g img st kw =
+    cond (eqb (orient_fault img (size_for g.shape) (keypoint_in kw)) 0)
+    (direction_steps g img kw st (map words_of (oriented_list img (size_for g.shape) (keypoint_in kw))))
     refused
 
-unfoldable pub keypointStep : List Float → Given → Standing → List ℕ → Standing
-keypointStep gauss g st kw =
+unfoldable pub keypoint_step : List Float → Given → Standing → List ℕ → Standing
+keypoint_step gauss g st kw =
     cond st.good
-    (cond (leb (keypointIn kw).layer g.shape.planes) (turnStep g (pictureIn gauss g.shape (keypointIn kw).layer) st kw) refused)
+    (cond (leb (keypoint_in kw).layer g.shape.planes) (turn_step g (picture_in gauss g.shape (keypoint_in kw).layer) st kw) refused)
     st

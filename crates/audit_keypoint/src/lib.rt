@@ -2,15 +2,15 @@
 #![tactic(auto)]
 
 ghost use Rattle.std.specs.Prelude.{◌≡◌, cond, ◌*◌, ◌≤◌, eqb, length};
-ghost use Rattle.orient_words.specs.Oriented.{orientedWords};
-ghost use Rattle.words.specs.Keypoint.{keypointIn};
-ghost use Rattle.words.specs.Oriented.{orientedIn};
-ghost use Rattle.record.specs.Record.{recordOf};
-ghost use Rattle.record.specs.Make.{makeNumber};
+ghost use Rattle.orient_words.specs.Oriented.{oriented_words};
+ghost use Rattle.words.specs.Keypoint.{keypoint_in};
+ghost use Rattle.words.specs.Oriented.{oriented_in};
+ghost use Rattle.record.specs.Record.{record_of};
+ghost use Rattle.record.specs.Make.{make_number};
 ghost use Rattle.sheet.specs.Sheet.{parts};
-ghost use Rattle.sheet.specs.Words.{readWords};
+ghost use Rattle.sheet.specs.Words.{read_words};
 ghost use Rattle.audit_compare.specs.Standing.{refused, compared};
-ghost use Rattle.audit_keypoint.specs.Steps.{given_of, directionStep, directionSteps, turnStep, keypointStep};
+ghost use Rattle.audit_keypoint.specs.Steps.{given_of, direction_step, direction_steps, turn_step, keypoint_step};
 ghost use Rattle.audit_keypoint.specs.Ready.{Stated, Pictured};
 
 use audit_compare::Standing;
@@ -51,8 +51,8 @@ fn add_made(
     st: Standing,
 ) -> Standing
     requires { Stated (length body.now) k }
-    ensures { result ≡ cond (eqb (makeNumber (keypointIn keypoint.now) (orientedIn oriented.now) values.now samples readWords) 0)
-        (compared (given_of body.now k).layout (given_of body.now k).stated st (recordOf (keypointIn keypoint.now) (orientedIn oriented.now) values.now samples))
+    ensures { result ≡ cond (eqb (make_number (keypoint_in keypoint.now) (oriented_in oriented.now) values.now samples read_words) 0)
+        (compared (given_of body.now k).layout (given_of body.now k).stated st (record_of (keypoint_in keypoint.now) (oriented_in oriented.now) values.now samples))
         refused }
 {
     let mut made = [0u32; 139];
@@ -72,7 +72,7 @@ fn add_direction(
     was: Standing,
 ) -> Standing
     requires { Stated (length body.now) k }
-    ensures { result ≡ directionStep (given_of body.now k) img.now keypoint.now was oriented.now }
+    ensures { result ≡ direction_step (given_of body.now k) img.now keypoint.now was oriented.now }
 {
     if !was.good {
         return was;
@@ -111,8 +111,8 @@ fn add_directions(
     st: Standing,
 ) -> Standing
     requires stated { Stated (length body.now) k }
-    requires n_in_bounds { orientedWords * n ≤ length oriented.now }
-    ensures { result ≡ directionSteps (given_of body.now k) img.now keypoint.now st (parts orientedWords n oriented.now) }
+    requires n_in_bounds { oriented_words * n ≤ length oriented.now }
+    ensures { result ≡ direction_steps (given_of body.now k) img.now keypoint.now st (parts oriented_words n oriented.now) }
 {
     let mut now = st;
     for j in 0..n {
@@ -126,7 +126,7 @@ fn add_directions(
 // After those of a keypoint, on a picture of the octave.
 fn add_turned(img: &[f32], body: &[u8], k: Task, keypoint: &[u32], st: Standing) -> Standing
     requires { Stated (length body.now) k }
-    ensures { result ≡ turnStep (given_of body.now k) img.now st keypoint.now }
+    ensures { result ≡ turn_step (given_of body.now k) img.now st keypoint.now }
 {
     let mut out = [0u32; 108];
     let t = k.shape;
@@ -146,7 +146,7 @@ fn add_turned(img: &[f32], body: &[u8], k: Task, keypoint: &[u32], st: Standing)
 pub fn add_keypoint(gauss: &[f32], body: &[u8], k: Task, keypoint: &[u32], st: Standing) -> Standing
     requires stated { Stated (length body.now) k }
     requires pictured { Pictured (length gauss.now) k }
-    ensures { result ≡ keypointStep gauss.now (given_of body.now k) st keypoint.now }
+    ensures { result ≡ keypoint_step gauss.now (given_of body.now k) st keypoint.now }
 {
     if !st.good {
         return st;

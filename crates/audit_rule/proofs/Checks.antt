@@ -5,12 +5,12 @@ use mathlib.Core.Bool.{false}
 use mathlib.Core.List.{List}
 use lib.ListN.{length}
 use lib.Ieee.{Float}
-use Rattle.params.specs.Table.{firstFault, allGood}
+use Rattle.params.specs.Table.{first_fault, all_good}
 use Rattle.params.specs.declared.Settings.{Settings}
 use Rattle.picture.specs.declared.Shape.{Shape}
 use Rattle.picture.specs.declared.Size.{Size}
-use Rattle.audit_rule.specs.Entry.{formFault, planesFault, unless, checkAnswer}
-use Rattle.audit_rule.specs.Left.{answerLeft}
+use Rattle.audit_rule.specs.Entry.{form_fault, planes_fault, unless, check_answer}
+use Rattle.audit_rule.specs.Left.{answer_left}
 use Rattle.audit_verdict.specs.declared.Checked.{Checked}
 use Rattle.audit_verdict.specs.declared.Checked.TheVariants.{Refused}
 
@@ -18,18 +18,18 @@ refuses : (f : ℕ) (x : Checked) → (f ≡ 0 → ⊥) → unless f x ≡ Refus
 refuses zero x n = absurd (n refl)
 refuses (suc f) x n = refl
 
-module _ (dog gauss : List Float) (t : Shape) (octave : ℕ) (s : Settings) (base : Size) (bs : List ℕ) (f : ℕ) (is : f ≡ formFault (length dog) (length gauss) t octave s base) where
-  in-turn : checkAnswer dog gauss t octave s base bs ≡ unless f (answerLeft dog gauss t octave s base bs)
-  unfolding checkAnswer answerLeft
-  in-turn = ap (λ (k : ℕ). unless k (answerLeft dog gauss t octave s base bs)) (sym is)
+module _ (dog gauss : List Float) (t : Shape) (octave : ℕ) (s : Settings) (base : Size) (bs : List ℕ) (f : ℕ) (is : f ≡ form_fault (length dog) (length gauss) t octave s base) where
+  in_turn_lem : check_answer dog gauss t octave s base bs ≡ unless f (answer_left dog gauss t octave s base bs)
+  unfolding check_answer answer_left
+  in_turn_lem = ap (λ (k : ℕ). unless k (answer_left dog gauss t octave s base bs)) (sym is)
 
-  pub form-refused : (f ≡ 0 → ⊥) → Refused f ≡ checkAnswer dog gauss t octave s base bs
-  form-refused n = sym (in-turn ∙ refuses f (answerLeft dog gauss t octave s base bs) n)
+  pub form_refused : (f ≡ 0 → ⊥) → Refused f ≡ check_answer dog gauss t octave s base bs
+  form_refused n = sym (in_turn_lem ∙ refuses f (answer_left dog gauss t octave s base bs) n)
 
   module _ (none : f ≡ 0) where
-    pub form-passed : answerLeft dog gauss t octave s base bs ≡ checkAnswer dog gauss t octave s base bs
-    form-passed = sym (in-turn ∙ ap (λ (k : ℕ). unless k (answerLeft dog gauss t octave s base bs)) none)
+    pub form_passed : answer_left dog gauss t octave s base bs ≡ check_answer dog gauss t octave s base bs
+    form_passed = sym (in_turn_lem ∙ ap (λ (k : ℕ). unless k (answer_left dog gauss t octave s base bs)) none)
 
-    pub stack-refused : allGood dog ≡ false → Refused 6 ≡ checkAnswer dog gauss t octave s base bs
-    unfolding answerLeft planesFault firstFault
-    stack-refused e = sym (sym form-passed ∙ rw e)
+    pub stack_refused : all_good dog ≡ false → Refused 6 ≡ check_answer dog gauss t octave s base bs
+    unfolding answer_left planes_fault first_fault
+    stack_refused e = sym (sym form_passed ∙ rw e)

@@ -8,29 +8,29 @@ use lib.Dec.{eqb, leb}
 use Rattle.lists.specs.Ranges.{joined}
 use Rattle.sheet.specs.Layout.{Layout}
 use Rattle.road.specs.Road.{Among}
-use Rattle.audit_compare.specs.Standing.{refused, differenceAt, moved, compared}
+use Rattle.audit_compare.specs.Standing.{refused, difference_at, moved, compared}
 use Rattle.audit_compare.specs.declared.Standing.{Standing}
 use Rattle.audit_rule.specs.Entry.{all_of}
 
 -- a record that is compared refuses nothing
-moved-good : (i d : ℕ) → (moved i d).good ≡ true
-moved-good i d = either (eqb d 0)
+moved_good : (i d : ℕ) → (moved i d).good ≡ true
+moved_good i d = either (eqb d 0)
   where
     either : (b : Bool) → (cond {A = Standing} b (record { place = i + 1; field = 0; good = true }) (record { place = i; field = d; good = true })).good ≡ true
     either true = refl
     either false = refl
 
-compared-good : (l : Layout) (stated : List (List ℕ)) (st : Standing) (r : List ℕ) → st.good ≡ true → (compared l stated st r).good ≡ true
+compared_good : (l : Layout) (stated : List (List ℕ)) (st : Standing) (r : List ℕ) → st.good ≡ true → (compared l stated st r).good ≡ true
 unfolding compared
-compared-good l stated st r g = either (eqb st.field 0)
+compared_good l stated st r g = either (eqb st.field 0)
   where
-    either : (b : Bool) → (cond b (moved st.place (differenceAt l stated st.place r)) st).good ≡ true
-    either true = moved-good st.place (differenceAt l stated st.place r)
+    either : (b : Bool) → (cond b (moved st.place (difference_at l stated st.place r)) st).good ≡ true
+    either true = moved_good st.place (difference_at l stated st.place r)
     either false = g
 
-pub all-good : (l : Layout) (stated : List (List ℕ)) (rs : List (List ℕ)) (st : Standing) → st.good ≡ true → (foldl (compared l stated) st rs).good ≡ true
-all-good l stated [] st g = g
-all-good l stated (r ∷ rs) st g = all-good l stated rs (compared l stated st r) (compared-good l stated st r g)
+pub all_good_lem : (l : Layout) (stated : List (List ℕ)) (rs : List (List ℕ)) (st : Standing) → st.good ≡ true → (foldl (compared l stated) st rs).good ≡ true
+all_good_lem l stated [] st g = g
+all_good_lem l stated (r ∷ rs) st g = all_good_lem l stated rs (compared l stated st r) (compared_good l stated st r g)
 
 module _ {A : Type 0} (l : Layout) (stated : List (List ℕ)) (step : Standing → A → Standing) (test : A → Bool) (records : A → List (List ℕ)) (stops : (x : A) → step refused x ≡ refused) where
   abbrev after : Standing → List (List ℕ) → Standing
@@ -47,7 +47,7 @@ module _ {A : Type 0} (l : Layout) (stated : List (List ℕ)) (step : Standing �
   pub run : (xs : List A) → ((x : A) → Among x xs → Steps x) → (st : Standing) → st.good ≡ true → foldl step st xs ≡ cond (all_of test xs) (after st (flat_map records xs)) refused
   unfolding flat_map all_of
   run [] each st g = refl
-  run (x ∷ xs) each st g = ap (λ (a : Standing). foldl step a xs) (each x (Memᴰ.head refl) st g) ∙ go (test x) (run xs (λ y m. each y (Memᴰ.tail m)) (after st (records x)) (all-good l stated (records x) st g))
+  run (x ∷ xs) each st g = ap (λ (a : Standing). foldl step a xs) (each x (Memᴰ.head refl) st g) ∙ go (test x) (run xs (λ y m. each y (Memᴰ.tail m)) (after st (records x)) (all_good_lem l stated (records x) st g))
     where
       go : (b : Bool) → foldl step (after st (records x)) xs ≡ cond (all_of test xs) (after (after st (records x)) (flat_map records xs)) refused
           → foldl step (cond b (after st (records x)) refused) xs ≡ cond (b && all_of test xs) (after st (records x ++ flat_map records xs)) refused
@@ -57,10 +57,10 @@ module _ {A : Type 0} (l : Layout) (stated : List (List ℕ)) (step : Standing �
       go false rest = stay xs
 
 -- one record for each
-pub flat-one : {A : Type 0} (f : A → List ℕ) (xs : List A) → flat_map (λ x. f x ∷ []) xs ≡ map f xs
+pub flat_one : {A : Type 0} (f : A → List ℕ) (xs : List A) → flat_map (λ x. f x ∷ []) xs ≡ map f xs
 unfolding flat_map
-flat-one f [] = refl
-flat-one f (x ∷ xs) = ap {B = List (List ℕ)} (λ r. f x ∷ r) (flat-one f xs)
+flat_one f [] = refl
+flat_one f (x ∷ xs) = ap {B = List (List ℕ)} (λ r. f x ∷ r) (flat_one f xs)
 
 -- the parts of a range, each flattened
 flat_append : {A : Type 0} (f : A → List (List ℕ)) (xs ys : List A) → flat_map f (xs ++ ys) ≡ flat_map f xs ++ flat_map f ys
@@ -68,10 +68,10 @@ unfolding flat_map
 flat_append f [] ys = refl
 flat_append f (x ∷ xs) ys = ap {B = List (List ℕ)} (λ r. f x ++ r) (flat_append f xs ys) ∙ sym (append_assoc (f x) (flat_map f xs) (flat_map f ys))
 
-pub flat-joined : {A : Type 0} (f : A → List (List ℕ)) (lo hi : ℕ) (part : ℕ → List A) → flat_map f (joined lo hi part) ≡ joined lo hi (λ i. flat_map f (part i))
+pub flat_joined : {A : Type 0} (f : A → List (List ℕ)) (lo hi : ℕ) (part : ℕ → List A) → flat_map f (joined lo hi part) ≡ joined lo hi (λ i. flat_map f (part i))
 unfolding joined flat_map
-flat-joined f lo zero part = refl
-flat-joined f lo (suc hi) part = either (leb lo hi) (flat-joined f lo hi part)
+flat_joined f lo zero part = refl
+flat_joined f lo (suc hi) part = either (leb lo hi) (flat_joined f lo hi part)
   where
     either : (b : Bool) → flat_map f (joined lo hi part) ≡ joined lo hi (λ i. flat_map f (part i))
         → flat_map f (cond b (joined lo hi part ++ part hi) []) ≡ cond b (joined lo hi (λ i. flat_map f (part i)) ++ flat_map f (part hi)) []

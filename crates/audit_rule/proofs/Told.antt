@@ -10,40 +10,40 @@ use borrow.Author.Tests.{lt-ltb, le-ltb, ne_eqb}
 use lib.Dec.{eqb}
 use lib.ListN.{length, get_or, take, drop, length-append, length-take}
 use lib.Seq.{drop-drop, get_or-drop}
-use Rattle.params.specs.Answers.{onFault}
+use Rattle.params.specs.Answers.{on_fault}
 use Rattle.sheet.specs.Layout.{Layout}
-use Rattle.sheet.specs.Words.{plainWords, headWords, filled, takenWords}
-use Rattle.audit_compare.specs.Difference.{differsFrom, firstDifference, fields_of}
-use Rattle.audit_compare.specs.Standing.{missing, start, moved, differenceAt, compared}
+use Rattle.sheet.specs.Words.{plain_words, head_words, filled, taken_words}
+use Rattle.audit_compare.specs.Difference.{differs_from, first_difference, fields_of}
+use Rattle.audit_compare.specs.Standing.{missing, start, moved, difference_at, compared}
 use Rattle.audit_compare.specs.declared.Standing.{Standing}
-use Rattle.audit_verdict.specs.Verdict.{recordsVerdict}
-use Rattle.audit_verdict.specs.Told.{toldBy}
+use Rattle.audit_verdict.specs.Verdict.{records_verdict}
+use Rattle.audit_verdict.specs.Told.{told_by}
 use Rattle.audit_verdict.specs.declared.Checked.{Checked}
 use Rattle.audit_verdict.specs.declared.Checked.TheVariants.{Accepted, Differs, Missing, LeftOver}
 
 -- ---- no field has the number that stands for a missing record
 
-filled-short : (w : List ℕ) → length (filled w) < missing
+filled_short : (w : List ℕ) → length (filled w) < missing
 unfolding filled
-filled-short w =
-    let n = length-take headWords w in
-    let m = length-take (plainWords - headWords) (drop headWords w) in
+filled_short w =
+    let n = length-take head_words w in
+    let m = length-take (plain_words - head_words) (drop head_words w) in
     rw length-append (omega arith)
 
-differs-below : (at : ℕ) (xs ys : List ℕ) → 1 ≤ at → differsFrom at xs ys < at + length xs
-unfolding differsFrom
-differs-below at [] ys h = omega arith
-differs-below at (x ∷ xs) [] h = omega arith
-differs-below at (x ∷ xs) (y ∷ ys) h = either (eqb x y) (differs-below (suc at) xs ys (omega arith))
+differs_below : (at : ℕ) (xs ys : List ℕ) → 1 ≤ at → differs_from at xs ys < at + length xs
+unfolding differs_from
+differs_below at [] ys h = omega arith
+differs_below at (x ∷ xs) [] h = omega arith
+differs_below at (x ∷ xs) (y ∷ ys) h = either (eqb x y) (differs_below (suc at) xs ys (omega arith))
   where
-    either : (b : Bool) → differsFrom (suc at) xs ys < suc at + length xs → cond b (differsFrom (suc at) xs ys) at < at + suc (length xs)
+    either : (b : Bool) → differs_from (suc at) xs ys < suc at + length xs → cond b (differs_from (suc at) xs ys) at < at + suc (length xs)
     either true less = omega arith
     either false less = omega arith
 
-no-missing : (l : Layout) (r b : List ℕ) → firstDifference (fields_of l r) b < missing
-no-missing l r b =
-    let p = differs-below 1 (fields_of l r) b (omega arith) in
-    let q = filled-short (take (takenWords l) r) in
+no_missing : (l : Layout) (r b : List ℕ) → first_difference (fields_of l r) b < missing
+no_missing l r b =
+    let p = differs_below 1 (fields_of l r) b (omega arith) in
+    let q = filled_short (take (taken_words l) r) in
     omega arith
 
 -- ---- the standings
@@ -62,61 +62,61 @@ module _ (l : Layout) (stated : List (List ℕ)) where
   stays i d (r ∷ rs) = ap (λ (st : Standing). foldl (compared l stated) st rs) (step_stays i d r) ∙ stays i d rs
 
   -- one more record, where none differs yet: none is left, or its difference from the sheet's
-  step : (i d : ℕ) (r : List ℕ) → differenceAt l stated i r ≡ d → compared l stated (standing i 0) r ≡ moved i d
+  step : (i d : ℕ) (r : List ℕ) → difference_at l stated i r ≡ d → compared l stated (standing i 0) r ≡ moved i d
   unfolding compared
   step i d r e = ap (moved i) e
 
-  past : (i : ℕ) (r : List ℕ) → length stated ≤ i → differenceAt l stated i r ≡ missing
-  unfolding differenceAt
+  past : (i : ℕ) (r : List ℕ) → length stated ≤ i → difference_at l stated i r ≡ missing
+  unfolding difference_at
   past i r h = rw (le-ltb i (length stated) h)
 
-  inside : (i : ℕ) (r b : List ℕ) → i < length stated → get_or stated i [] ≡ b → differenceAt l stated i r ≡ firstDifference (fields_of l r) b
-  unfolding differenceAt
+  inside : (i : ℕ) (r b : List ℕ) → i < length stated → get_or stated i [] ≡ b → difference_at l stated i r ≡ first_difference (fields_of l r) b
+  unfolding difference_at
   inside i r b h e = rw (lt-ltb i (length stated) h, e)
 
   -- what a standing tells
-  told-all : (i : ℕ) → length stated ≤ i → toldBy (length stated) (standing i 0) ≡ Accepted
-  unfolding toldBy
-  told-all i h = rw (le-ltb i (length stated) h)
+  told_all : (i : ℕ) → length stated ≤ i → told_by (length stated) (standing i 0) ≡ Accepted
+  unfolding told_by
+  told_all i h = rw (le-ltb i (length stated) h)
 
-  told-left : (i : ℕ) → i < length stated → toldBy (length stated) (standing i 0) ≡ LeftOver i
-  unfolding toldBy
-  told-left i h = rw (lt-ltb i (length stated) h)
+  told_left : (i : ℕ) → i < length stated → told_by (length stated) (standing i 0) ≡ LeftOver i
+  unfolding told_by
+  told_left i h = rw (lt-ltb i (length stated) h)
 
-  told-missing : (i : ℕ) → toldBy (length stated) (standing i missing) ≡ Missing i
-  unfolding toldBy
-  told-missing i = refl
+  told_missing : (i : ℕ) → told_by (length stated) (standing i missing) ≡ Missing i
+  unfolding told_by
+  told_missing i = refl
 
-  told-differs : (i d : ℕ) → suc d < missing → toldBy (length stated) (standing i (suc d)) ≡ Differs i (suc d)
-  unfolding toldBy
-  told-differs i d h = rw (ne_eqb (suc d) 0 (λ z. omega arith), ne_eqb (suc d) missing (λ z. omega arith))
+  told_differs : (i d : ℕ) → suc d < missing → told_by (length stated) (standing i (suc d)) ≡ Differs i (suc d)
+  unfolding told_by
+  told_differs i d h = rw (ne_eqb (suc d) 0 (λ z. omega arith), ne_eqb (suc d) missing (λ z. omega arith))
 
   abbrev after : Standing → List (List ℕ) → Checked
-  after st rs = toldBy (length stated) (foldl (compared l stated) st rs)
+  after st rs = told_by (length stated) (foldl (compared l stated) st rs)
 
   -- with a difference of a record, from what follows without one
-  one : (i d : ℕ) (rs : List (List ℕ)) (rest : Checked) → d < missing → after (standing (suc i) 0) rs ≡ rest → after (moved i d) rs ≡ onFault d rest (Differs i d)
+  one : (i d : ℕ) (rs : List (List ℕ)) (rest : Checked) → d < missing → after (standing (suc i) 0) rs ≡ rest → after (moved i d) rs ≡ on_fault d rest (Differs i d)
   one i zero rs rest h e = ap (λ (k : ℕ). after (standing k 0) rs) (add-one i) ∙ e
   one i (suc d) rs rest h e =
-      ap (λ (st : Standing). after st rs) moved-is ∙ ap (toldBy (length stated)) (stays i d rs) ∙ told-differs i d h
+      ap (λ (st : Standing). after st rs) moved_is ∙ ap (told_by (length stated)) (stays i d rs) ∙ told_differs i d h
     where
-      moved-is : moved i (suc d) ≡ standing i (suc d)
-      moved-is = rw (ne_eqb (suc d) 0 (λ z. omega arith))
+      moved_is : moved i (suc d) ≡ standing i (suc d)
+      moved_is = rw (ne_eqb (suc d) 0 (λ z. omega arith))
 
   -- from a place on, where the rest of the sheet's records is known
-  from : (i : ℕ) (rs rest : List (List ℕ)) → drop i stated ≡ rest → i + length rest ≡ length stated → after (standing i 0) rs ≡ recordsVerdict i (map (fields_of l) rs) rest
-  unfolding recordsVerdict
-  from i [] [] e n = told-all i (omega arith)
-  from i [] (b ∷ rest) e n = told-left i (omega arith)
+  from : (i : ℕ) (rs rest : List (List ℕ)) → drop i stated ≡ rest → i + length rest ≡ length stated → after (standing i 0) rs ≡ records_verdict i (map (fields_of l) rs) rest
+  unfolding records_verdict
+  from i [] [] e n = told_all i (omega arith)
+  from i [] (b ∷ rest) e n = told_left i (omega arith)
   from i (r ∷ rs) [] e n =
       ap (λ (st : Standing). after st rs) (step i missing r (past i r (omega arith)))
-      ∙ ap (toldBy (length stated)) (stays i (missing - 1) rs)
-      ∙ told-missing i
+      ∙ ap (told_by (length stated)) (stays i (missing - 1) rs)
+      ∙ told_missing i
   from i (r ∷ rs) (b ∷ rest) e n =
       let here : get_or stated i [] ≡ b = ap (λ (k : ℕ). get_or stated k []) (sym (add-zero i)) ∙ sym (get_or-drop i stated 0 []) ∙ ap (λ (xs : List (List ℕ)). get_or xs 0 []) e in
       let next : drop (suc i) stated ≡ rest = ap (λ (k : ℕ). drop k stated) (sym (add-one i)) ∙ sym (drop-drop 1 i stated) ∙ ap (drop 1) e in
-      ap (λ (st : Standing). after st rs) (step i (firstDifference (fields_of l r) b) r (inside i r b (omega arith) here))
-      ∙ one i (firstDifference (fields_of l r) b) rs _ (no-missing l r b) (from (suc i) rs rest next (omega arith))
+      ap (λ (st : Standing). after st rs) (step i (first_difference (fields_of l r) b) r (inside i r b (omega arith) here))
+      ∙ one i (first_difference (fields_of l r) b) rs _ (no_missing l r b) (from (suc i) rs rest next (omega arith))
 
-pub told : (l : Layout) (rs stated : List (List ℕ)) → toldBy (length stated) (foldl (compared l stated) start rs) ≡ recordsVerdict 0 (map (fields_of l) rs) stated
+pub told : (l : Layout) (rs stated : List (List ℕ)) → told_by (length stated) (foldl (compared l stated) start rs) ≡ records_verdict 0 (map (fields_of l) rs) stated
 told l rs stated = from l stated 0 rs stated refl (omega arith)

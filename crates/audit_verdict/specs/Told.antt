@@ -6,8 +6,8 @@ use Rattle.audit_verdict.specs.declared.Checked.{Checked}
 use Rattle.audit_verdict.specs.declared.Checked.TheVariants.{Accepted, Differs, Missing, LeftOver}
 
 -- of a sheet of n records
-unfoldable pub toldBy : ℕ → Standing → Checked
-toldBy n st =
+unfoldable pub told_by : ℕ → Standing → Checked
+told_by n st =
     cond (eqb st.field 0)
     (cond (ltb st.place n) (LeftOver st.place) Accepted)
     (cond (eqb st.field missing) (Missing st.place) (Differs st.place st.field))

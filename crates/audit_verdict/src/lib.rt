@@ -3,13 +3,13 @@
 
 ghost use Rattle.std.specs.Prelude.{◌≡◌, true, ◌≤◌};
 ghost use Rattle.sheet.specs.Pack.{sound};
-ghost use Rattle.sheet.specs.Layout.{headerSlots, headerValues};
+ghost use Rattle.sheet.specs.Layout.{header_slots, header_values};
 ghost use Rattle.sheet.specs.Writes.{frame_of};
-ghost use Rattle.sheet_edition.specs.Edition.{layoutFor, Known};
-ghost use Rattle.sheet_fields.specs.Fields.{headerList};
-ghost use Rattle.audit_compare.specs.Difference.{firstDifference};
-ghost use Rattle.audit_verdict.specs.Verdict.{number_of, verdictOf, placeOf, fieldOf};
-ghost use Rattle.audit_verdict.specs.Told.{toldBy};
+ghost use Rattle.sheet_edition.specs.Edition.{layout_for, Known};
+ghost use Rattle.sheet_fields.specs.Fields.{header_list};
+ghost use Rattle.audit_compare.specs.Difference.{first_difference};
+ghost use Rattle.audit_verdict.specs.Verdict.{number_of, verdict_of, place_of, field_of};
+ghost use Rattle.audit_verdict.specs.Told.{told_by};
 
 use audit_compare::{MISSING, Standing};
 use picture::Size;
@@ -31,9 +31,9 @@ pub enum Checked {
 // The field in which a header that keeps the rules differs from that of a frame: only width, height and layers can. 0 for none.
 pub fn header_difference(e: Edition, h: Header, base: Size, layers: usize) -> u32
     requires known_1 { Known e }
-    requires known_2 { sound (headerSlots (layoutFor e)) (headerList h) ≡ true }
+    requires known_2 { sound (header_slots (layout_for e)) (header_list h) ≡ true }
     requires le_width { (1 ≤ base.width) × (1 ≤ base.height) }
-    ensures { result ≡ firstDifference (headerValues (layoutFor e) (frame_of base.width base.height layers) h.count) (headerList h) }
+    ensures { result ≡ first_difference (header_values (layout_for e) (frame_of base.width base.height layers) h.count) (header_list h) }
 {
     let wide = base.width - 1;
     let high = base.height - 1;
@@ -51,7 +51,7 @@ pub fn header_difference(e: Edition, h: Header, base: Size, layers: usize) -> u3
 
 // What the standing tells when all records are made, of a sheet of n records.
 pub fn told(n: usize, st: Standing) -> Checked
-    ensures { result ≡ toldBy n st }
+    ensures { result ≡ told_by n st }
 {
     if st.field == 0 {
         if st.place < n {
@@ -81,7 +81,7 @@ pub fn number_of(a: Checked) -> u32
 }
 
 pub fn verdict_of(a: Checked) -> u32
-    ensures { result ≡ verdictOf a }
+    ensures { result ≡ verdict_of a }
 {
     match a {
         Checked::Refused(_) => 0,
@@ -94,7 +94,7 @@ pub fn verdict_of(a: Checked) -> u32
 }
 
 pub fn place_of(a: Checked) -> usize
-    ensures { result ≡ placeOf a }
+    ensures { result ≡ place_of a }
 {
     match a {
         Checked::Refused(_) => 0,
@@ -107,7 +107,7 @@ pub fn place_of(a: Checked) -> usize
 }
 
 pub fn field_of(a: Checked) -> u32
-    ensures { result ≡ fieldOf a }
+    ensures { result ≡ field_of a }
 {
     match a {
         Checked::Refused(_) => 0,

@@ -4,13 +4,13 @@ use mathlib.Core.Path.{◌≡◌, sym, ◌∙◌}
 use mathlib.Core.List.{List, foldl}
 use native.Mathlib.Omega.{arith}
 use lib.ListN.{take, drop}
-use Rattle.params.specs.Limits.{keypointWords}
+use Rattle.params.specs.Limits.{keypoint_words}
 use Rattle.sheet.specs.Sheet.{parts}
 use Rattle.audit_compare.specs.declared.Standing.{Standing}
 use Rattle.audit_keypoint.proofs.Cut.{fold_next}
 
-pub part-next : (ws : List ℕ) (i : ℕ) (f : Standing → List ℕ → Standing) (st x y : Standing) → x ≡ foldl f st (parts keypointWords i ws) →
-    y ≡ f x (take (keypointWords * i + keypointWords - keypointWords * i) (drop (keypointWords * i) ws)) → y ≡ foldl f st (parts keypointWords (i + 1) ws)
-part-next ws i f st x y e q =
-    let ten : keypointWords * i + keypointWords - keypointWords * i ≡ keypointWords = omega arith in
-    q ∙ rw (ten, e) (sym (fold_next f st keypointWords i ws))
+pub part_next : (ws : List ℕ) (i : ℕ) (f : Standing → List ℕ → Standing) (st x y : Standing) → x ≡ foldl f st (parts keypoint_words i ws) →
+    y ≡ f x (take (keypoint_words * i + keypoint_words - keypoint_words * i) (drop (keypoint_words * i) ws)) → y ≡ foldl f st (parts keypoint_words (i + 1) ws)
+part_next ws i f st x y e q =
+    let ten : keypoint_words * i + keypoint_words - keypoint_words * i ≡ keypoint_words = omega arith in
+    q ∙ rw (ten, e) (sym (fold_next f st keypoint_words i ws))

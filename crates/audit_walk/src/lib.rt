@@ -3,15 +3,15 @@
 
 ghost use Rattle.std.specs.Prelude.{◌≡◌, ◌-◌, ◌*◌, ◌<◌, ◌≤◌, length};
 ghost use mathlib.Core.List.{foldl};
-ghost use Rattle.params.specs.Limits.{border, keypointWords};
+ghost use Rattle.params.specs.Limits.{border, keypoint_words};
 ghost use Rattle.sheet.specs.Sheet.{parts};
 ghost use Rattle.detect_refine.specs.Place.{Searched};
 ghost use Rattle.detect_extrema.specs.Neighbours.{tied};
 ghost use Rattle.detect_extrema.specs.Scan.{row_of, keypoints};
 ghost use Rattle.audit_compare.specs.Standing.{start};
-ghost use Rattle.audit_keypoint.specs.Steps.{given_of, keypointStep};
+ghost use Rattle.audit_keypoint.specs.Steps.{given_of, keypoint_step};
 ghost use Rattle.audit_keypoint.specs.Ready.{Stated, Pictured};
-ghost use Rattle.audit_walk.specs.Walk.{passed, octaveFound, Searchable};
+ghost use Rattle.audit_walk.specs.Walk.{passed, octave_found, Searchable};
 
 use audit_compare::Standing;
 use audit_keypoint::Task;
@@ -28,8 +28,8 @@ const KEYPOINT: usize = 10;
 fn add_found(gauss: &[f32], body: &[u8], k: Task, found: &[u32], n: usize, st: Standing) -> Standing
     requires stated { Stated (length body.now) k }
     requires pictured { Pictured (length gauss.now) k }
-    requires n_in_bounds { keypointWords * n ≤ length found.now }
-    ensures { result ≡ foldl (keypointStep gauss.now (given_of body.now k)) st (parts keypointWords n found.now) }
+    requires n_in_bounds { keypoint_words * n ≤ length found.now }
+    ensures { result ≡ foldl (keypoint_step gauss.now (given_of body.now k)) st (parts keypoint_words n found.now) }
 {
     let mut now = st;
     for i in 0..n {
@@ -107,7 +107,7 @@ pub fn walk(dog: &[f32], gauss: &[f32], body: &[u8], k: Task, s: Settings) -> St
     requires searchable { Searchable (length dog.now) k.shape k.octave s }
     requires stated { Stated (length body.now) k }
     requires pictured { Pictured (length gauss.now) k }
-    ensures { result ≡ passed gauss.now (given_of body.now k) start (octaveFound dog.now k.shape k.octave s) }
+    ensures { result ≡ passed gauss.now (given_of body.now k) start (octave_found dog.now k.shape k.octave s) }
 {
     let mut now = Standing {
         place: 0,

@@ -5,8 +5,8 @@ use Rattle.picture.specs.declared.Shape.{Shape}
 use Rattle.picture.specs.declared.Size.{Size}
 use Rattle.descriptor_words.specs.declared.Spot.{Spot}
 
-abbrev pub settingsOf : Float → Float → Float → ℕ → Settings
-settingsOf contrast edge sigma layers = record { contrast = contrast; edge = edge; sigma = sigma; layers = layers }
+abbrev pub settings_of : Float → Float → Float → ℕ → Settings
+settings_of contrast edge sigma layers = record { contrast = contrast; edge = edge; sigma = sigma; layers = layers }
 
 abbrev pub shape_of : ℕ → ℕ → ℕ → Shape
 shape_of width height planes = record { width = width; height = height; planes = planes }

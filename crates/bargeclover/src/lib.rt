@@ -6,27 +6,27 @@
 ghost use Rattle.std.specs.Prelude.{◌≡◌, length};
 ghost use Rattle.std.specs.Float.Ieee.{of_bits};
 ghost use Rattle.std.specs.Float.{binary64};
-ghost use Rattle.ieee.specs.F32.{f32, bits_of, fused, rootOf, narrowed, floorOf, rounded, toI32};
-ghost use Rattle.params.specs.Answers.{number_of, countOf};
-ghost use Rattle.detect_threshold.specs.Threshold.{thresholdAnswer, thresholdNumber, thresholdValue};
-ghost use Rattle.detect.specs.Entry.{extremaAnswer, extremaOut};
-ghost use Rattle.orient.specs.Entry.{orientAnswer, orientOut};
-ghost use Rattle.descriptor_inputs.specs.Inputs.{inputsOf};
-ghost use Rattle.descriptor.specs.Entry.{number_of as describedNumber, countOf as describedCount, usedOf, describedOf, describedOut};
-ghost use Rattle.thin.specs.Entry.{thinAnswer, thinOut};
-ghost use Rattle.sheet.specs.Writes.{frame_of, writeAnswer, writeOut};
-ghost use Rattle.sheet.specs.Reads.{readAnswer, readOut};
-ghost use Rattle.record.specs.Make.{makeNumber, makeLeft};
-ghost use Rattle.audit_rule.specs.Entry.{checkAnswer};
-ghost use Rattle.audit_verdict.specs.Verdict.{number_of as checkNumber, verdictOf, placeOf, fieldOf};
-ghost use Rattle.words.specs.Keypoint.{keypointIn};
-ghost use Rattle.words.specs.Oriented.{orientedIn};
-ghost use Rattle.bargeclover.specs.Given.{settingsOf, shape_of, size_of, spot_of};
-ghost use Rattle.words.specs.Inputs.{inputsNumber, inputsLeft};
-ghost use Rattle.hal.specs.Exp.{exp2Of, expOf};
-ghost use Rattle.hal_turn.specs.Turn.{sinOf, cosOf};
-ghost use Rattle.hal_angle.specs.Angle.{angleOf};
-ghost use Rattle.hal_magnitude.specs.Magnitude.{magnitudeOf};
+ghost use Rattle.ieee.specs.F32.{f32, bits_of, fused, root_of, narrowed, floor_of, rounded, to_i32};
+ghost use Rattle.params.specs.Answers.{number_of, count_of};
+ghost use Rattle.detect_threshold.specs.Threshold.{threshold_answer, threshold_number, threshold_value};
+ghost use Rattle.detect.specs.Entry.{extrema_answer, extrema_out};
+ghost use Rattle.orient.specs.Entry.{orient_answer, orient_out};
+ghost use Rattle.descriptor_inputs.specs.Inputs.{inputs_of};
+ghost use Rattle.descriptor.specs.Entry.{number_of as describedNumber, count_of as describedCount, used_of, described_of, described_out};
+ghost use Rattle.thin.specs.Entry.{thin_answer, thin_out};
+ghost use Rattle.sheet.specs.Writes.{frame_of, write_answer, write_out};
+ghost use Rattle.sheet.specs.Reads.{read_answer, read_out};
+ghost use Rattle.record.specs.Make.{make_number, make_left};
+ghost use Rattle.audit_rule.specs.Entry.{check_answer};
+ghost use Rattle.audit_verdict.specs.Verdict.{number_of as checkNumber, verdict_of, place_of, field_of};
+ghost use Rattle.words.specs.Keypoint.{keypoint_in};
+ghost use Rattle.words.specs.Oriented.{oriented_in};
+ghost use Rattle.bargeclover.specs.Given.{settings_of, shape_of, size_of, spot_of};
+ghost use Rattle.words.specs.Inputs.{inputs_number, inputs_left};
+ghost use Rattle.hal.specs.Exp.{exp2_of, exp_of};
+ghost use Rattle.hal_turn.specs.Turn.{sin_of, cos_of};
+ghost use Rattle.hal_angle.specs.Angle.{angle_of};
+ghost use Rattle.hal_magnitude.specs.Magnitude.{magnitude_of};
 
 use descriptor_words::Spot;
 use params::Settings;
@@ -36,42 +36,42 @@ use picture::{Shape, Size};
 
 #[unsafe(no_mangle)]
 pub extern "C" fn bargeclover_exp2(x: u32) -> u32
-    ensures { result ≡ bits_of (exp2Of (f32 x)) }
+    ensures { result ≡ bits_of (exp2_of (f32 x)) }
 {
     ieee::bits_of(hal::exp2(ieee::of_bits(x)))
 }
 
 #[unsafe(no_mangle)]
 pub extern "C" fn bargeclover_exp(x: u32) -> u32
-    ensures { result ≡ bits_of (expOf (f32 x)) }
+    ensures { result ≡ bits_of (exp_of (f32 x)) }
 {
     ieee::bits_of(hal::exp(ieee::of_bits(x)))
 }
 
 #[unsafe(no_mangle)]
 pub extern "C" fn bargeclover_sin(degrees: u32) -> u32
-    ensures { result ≡ bits_of (sinOf (f32 degrees)) }
+    ensures { result ≡ bits_of (sin_of (f32 degrees)) }
 {
     ieee::bits_of(hal_turn::sin(ieee::of_bits(degrees)))
 }
 
 #[unsafe(no_mangle)]
 pub extern "C" fn bargeclover_cos(degrees: u32) -> u32
-    ensures { result ≡ bits_of (cosOf (f32 degrees)) }
+    ensures { result ≡ bits_of (cos_of (f32 degrees)) }
 {
     ieee::bits_of(hal_turn::cos(ieee::of_bits(degrees)))
 }
 
 #[unsafe(no_mangle)]
 pub extern "C" fn bargeclover_angle(dx: u32, dy: u32) -> u32
-    ensures { result ≡ bits_of (angleOf (f32 dx) (f32 dy)) }
+    ensures { result ≡ bits_of (angle_of (f32 dx) (f32 dy)) }
 {
     ieee::bits_of(hal_angle::angle(ieee::of_bits(dx), ieee::of_bits(dy)))
 }
 
 #[unsafe(no_mangle)]
 pub extern "C" fn bargeclover_magnitude(dx: u32, dy: u32) -> u32
-    ensures { result ≡ bits_of (magnitudeOf (f32 dx) (f32 dy)) }
+    ensures { result ≡ bits_of (magnitude_of (f32 dx) (f32 dy)) }
 {
     ieee::bits_of(hal_magnitude::magnitude(ieee::of_bits(dx), ieee::of_bits(dy)))
 }
@@ -87,7 +87,7 @@ pub extern "C" fn bargeclover_fma(a: u32, b: u32, c: u32) -> u32
 
 #[unsafe(no_mangle)]
 pub extern "C" fn bargeclover_sqrt(x: u32) -> u32
-    ensures { result ≡ bits_of (rootOf (f32 x)) }
+    ensures { result ≡ bits_of (root_of (f32 x)) }
 {
     ieee::bits_of(ieee_root::sqrt(ieee::of_bits(x)))
 }
@@ -101,7 +101,7 @@ pub extern "C" fn bargeclover_narrow(x: u64) -> u32
 
 #[unsafe(no_mangle)]
 pub extern "C" fn bargeclover_floor(x: u32) -> u32
-    ensures { result ≡ bits_of (floorOf (f32 x)) }
+    ensures { result ≡ bits_of (floor_of (f32 x)) }
 {
     ieee::bits_of(ieee_whole::floor(ieee::of_bits(x)))
 }
@@ -115,7 +115,7 @@ pub extern "C" fn bargeclover_round(x: u32) -> u32
 
 #[unsafe(no_mangle)]
 pub extern "C" fn bargeclover_to_i32(x: u32) -> i32
-    ensures { result ≡ toI32 (f32 x) }
+    ensures { result ≡ to_i32 (f32 x) }
 {
     ieee_whole::to_i32(ieee::of_bits(x))
 }
@@ -128,8 +128,8 @@ pub extern "C" fn bargeclover_threshold(
     layers: usize,
     threshold_bits: &mut u32,
 ) -> u32
-    ensures value { result ≡ thresholdNumber (thresholdAnswer contrast layers) }
-    ensures threshold_bits_after { threshold_bits.new ≡ bits_of (thresholdValue (thresholdAnswer contrast layers)) }
+    ensures value { result ≡ threshold_number (threshold_answer contrast layers) }
+    ensures threshold_bits_after { threshold_bits.new ≡ bits_of (threshold_value (threshold_answer contrast layers)) }
 {
     let t = detect_threshold::extrema_threshold(contrast, layers);
     *threshold_bits = ieee::bits_of(detect_threshold::threshold_value(t));
@@ -153,9 +153,9 @@ pub extern "C" fn bargeclover_find_extrema(
     out: &mut [u32],
     count: &mut usize,
 ) -> u32
-    ensures value { result ≡ number_of (extremaAnswer dog.now (shape_of width height planes) layer octave (settingsOf contrast edge sigma layers) (length out.old)) }
-    ensures count_after { count.new ≡ countOf (extremaAnswer dog.now (shape_of width height planes) layer octave (settingsOf contrast edge sigma layers) (length out.old)) }
-    ensures out_after { out.new ≡ extremaOut dog.now (shape_of width height planes) layer octave (settingsOf contrast edge sigma layers) out.old }
+    ensures value { result ≡ number_of (extrema_answer dog.now (shape_of width height planes) layer octave (settings_of contrast edge sigma layers) (length out.old)) }
+    ensures count_after { count.new ≡ count_of (extrema_answer dog.now (shape_of width height planes) layer octave (settings_of contrast edge sigma layers) (length out.old)) }
+    ensures out_after { out.new ≡ extrema_out dog.now (shape_of width height planes) layer octave (settings_of contrast edge sigma layers) out.old }
 {
     let s = Settings {
         contrast: contrast,
@@ -185,10 +185,10 @@ pub extern "C" fn bargeclover_assign_orientations(
     count: &mut usize,
     samples: &mut usize,
 ) -> u32
-    ensures value { result ≡ number_of (orientAnswer img.now (size_of width height) (keypointIn keypoint.now) (length out.old)).answer }
-    ensures count_after { count.new ≡ countOf (orientAnswer img.now (size_of width height) (keypointIn keypoint.now) (length out.old)).answer }
-    ensures samples_after { samples.new ≡ (orientAnswer img.now (size_of width height) (keypointIn keypoint.now) (length out.old)).samples }
-    ensures out_after { out.new ≡ orientOut img.now (size_of width height) (keypointIn keypoint.now) out.old }
+    ensures value { result ≡ number_of (orient_answer img.now (size_of width height) (keypoint_in keypoint.now) (length out.old)).answer }
+    ensures count_after { count.new ≡ count_of (orient_answer img.now (size_of width height) (keypoint_in keypoint.now) (length out.old)).answer }
+    ensures samples_after { samples.new ≡ (orient_answer img.now (size_of width height) (keypoint_in keypoint.now) (length out.old)).samples }
+    ensures out_after { out.new ≡ orient_out img.now (size_of width height) (keypoint_in keypoint.now) out.old }
 {
     let k = words::keypoint_in(keypoint);
     let s = Size {
@@ -210,8 +210,8 @@ pub extern "C" fn bargeclover_descriptor_inputs(
     octave: i32,
     out: &mut [u32],
 ) -> u32
-    ensures value { result ≡ inputsNumber (inputsOf (orientedIn oriented.now) octave) (length out.old) }
-    ensures out_after { out.new ≡ inputsLeft (inputsOf (orientedIn oriented.now) octave) out.old }
+    ensures value { result ≡ inputs_number (inputs_of (oriented_in oriented.now) octave) (length out.old) }
+    ensures out_after { out.new ≡ inputs_left (inputs_of (oriented_in oriented.now) octave) out.old }
 {
     let i = descriptor_inputs::descriptor_inputs(words::oriented_in(oriented), octave);
     words::give_inputs(i, out)
@@ -232,10 +232,10 @@ pub extern "C" fn bargeclover_compute_descriptor(
     count: &mut usize,
     samples: &mut usize,
 ) -> u32
-    ensures value { result ≡ describedNumber (describedOf img.now (size_of width height) (spot_of x y scale angle) (length out.old)) }
-    ensures count_after { count.new ≡ describedCount (describedOf img.now (size_of width height) (spot_of x y scale angle) (length out.old)) }
-    ensures samples_after { samples.new ≡ usedOf (describedOf img.now (size_of width height) (spot_of x y scale angle) (length out.old)) }
-    ensures out_after { out.new ≡ describedOut img.now (size_of width height) (spot_of x y scale angle) out.old }
+    ensures value { result ≡ describedNumber (described_of img.now (size_of width height) (spot_of x y scale angle) (length out.old)) }
+    ensures count_after { count.new ≡ describedCount (described_of img.now (size_of width height) (spot_of x y scale angle) (length out.old)) }
+    ensures samples_after { samples.new ≡ used_of (described_of img.now (size_of width height) (spot_of x y scale angle) (length out.old)) }
+    ensures out_after { out.new ≡ described_out img.now (size_of width height) (spot_of x y scale angle) out.old }
 {
     let s = Size {
         width: width,
@@ -265,9 +265,9 @@ pub extern "C" fn bargeclover_thin(
     out: &mut [u32],
     count: &mut usize,
 ) -> u32
-    ensures value { result ≡ number_of (thinAnswer words.now width height quota depth (length out.old)) }
-    ensures count_after { count.new ≡ countOf (thinAnswer words.now width height quota depth (length out.old)) }
-    ensures out_after { out.new ≡ thinOut words.now width height quota depth out.old }
+    ensures value { result ≡ number_of (thin_answer words.now width height quota depth (length out.old)) }
+    ensures count_after { count.new ≡ count_of (thin_answer words.now width height quota depth (length out.old)) }
+    ensures out_after { out.new ≡ thin_out words.now width height quota depth out.old }
 {
     let a = thin::thin_frame(width, height, words, quota, depth, out);
     *count = params::count_of(a);
@@ -284,8 +284,8 @@ pub extern "C" fn bargeclover_make_record(
     samples: usize,
     out: &mut [u32],
 ) -> u32
-    ensures value { result ≡ makeNumber (keypointIn keypoint.now) (orientedIn oriented.now) values.now samples (length out.old) }
-    ensures out_after { out.new ≡ makeLeft (keypointIn keypoint.now) (orientedIn oriented.now) values.now samples out.old }
+    ensures value { result ≡ make_number (keypoint_in keypoint.now) (oriented_in oriented.now) values.now samples (length out.old) }
+    ensures out_after { out.new ≡ make_left (keypoint_in keypoint.now) (oriented_in oriented.now) values.now samples out.old }
 {
     record::make_record(keypoint, oriented, values, samples, out)
 }
@@ -300,9 +300,9 @@ pub extern "C" fn bargeclover_write_sheet(
     out: &mut [u8],
     count: &mut usize,
 ) -> u32
-    ensures value { result ≡ number_of (writeAnswer edition (frame_of width height layers) words.now (length out.old)) }
-    ensures count_after { count.new ≡ countOf (writeAnswer edition (frame_of width height layers) words.now (length out.old)) }
-    ensures out_after { out.new ≡ writeOut edition (frame_of width height layers) words.now out.old }
+    ensures value { result ≡ number_of (write_answer edition (frame_of width height layers) words.now (length out.old)) }
+    ensures count_after { count.new ≡ count_of (write_answer edition (frame_of width height layers) words.now (length out.old)) }
+    ensures out_after { out.new ≡ write_out edition (frame_of width height layers) words.now out.old }
 {
     let a = sheet_write::write_sheet(edition, width, height, layers, words, out);
     *count = params::count_of(a);
@@ -319,13 +319,13 @@ pub extern "C" fn bargeclover_read_sheet(
     height: &mut usize,
     layers: &mut usize,
 ) -> u32
-    ensures value { result ≡ number_of (readAnswer sheet.now (length out.old)).answer }
-    ensures count_after { count.new ≡ countOf (readAnswer sheet.now (length out.old)).answer }
-    ensures edition_after { edition.new ≡ (readAnswer sheet.now (length out.old)).edition }
-    ensures width_after { width.new ≡ (readAnswer sheet.now (length out.old)).width }
-    ensures height_after { height.new ≡ (readAnswer sheet.now (length out.old)).height }
-    ensures layers_after { layers.new ≡ (readAnswer sheet.now (length out.old)).layers }
-    ensures out_after { out.new ≡ readOut sheet.now out.old }
+    ensures value { result ≡ number_of (read_answer sheet.now (length out.old)).answer }
+    ensures count_after { count.new ≡ count_of (read_answer sheet.now (length out.old)).answer }
+    ensures edition_after { edition.new ≡ (read_answer sheet.now (length out.old)).edition }
+    ensures width_after { width.new ≡ (read_answer sheet.now (length out.old)).width }
+    ensures height_after { height.new ≡ (read_answer sheet.now (length out.old)).height }
+    ensures layers_after { layers.new ≡ (read_answer sheet.now (length out.old)).layers }
+    ensures out_after { out.new ≡ read_out sheet.now out.old }
 {
     let r = sheet_read::read_sheet(sheet, out);
     let a = r.answer;
@@ -358,10 +358,10 @@ pub extern "C" fn bargeclover_check_sheet(
     place: &mut usize,
     field: &mut u32,
 ) -> u32
-    ensures value { result ≡ checkNumber (checkAnswer dog.now gauss.now (shape_of width height planes) octave (settingsOf contrast edge sigma layers) (size_of wide high) sheet.now) }
-    ensures verdict_after { verdict.new ≡ verdictOf (checkAnswer dog.now gauss.now (shape_of width height planes) octave (settingsOf contrast edge sigma layers) (size_of wide high) sheet.now) }
-    ensures place_after { place.new ≡ placeOf (checkAnswer dog.now gauss.now (shape_of width height planes) octave (settingsOf contrast edge sigma layers) (size_of wide high) sheet.now) }
-    ensures field_after { field.new ≡ fieldOf (checkAnswer dog.now gauss.now (shape_of width height planes) octave (settingsOf contrast edge sigma layers) (size_of wide high) sheet.now) }
+    ensures value { result ≡ checkNumber (check_answer dog.now gauss.now (shape_of width height planes) octave (settings_of contrast edge sigma layers) (size_of wide high) sheet.now) }
+    ensures verdict_after { verdict.new ≡ verdict_of (check_answer dog.now gauss.now (shape_of width height planes) octave (settings_of contrast edge sigma layers) (size_of wide high) sheet.now) }
+    ensures place_after { place.new ≡ place_of (check_answer dog.now gauss.now (shape_of width height planes) octave (settings_of contrast edge sigma layers) (size_of wide high) sheet.now) }
+    ensures field_after { field.new ≡ field_of (check_answer dog.now gauss.now (shape_of width height planes) octave (settings_of contrast edge sigma layers) (size_of wide high) sheet.now) }
 {
     let s = Settings {
         contrast,

@@ -3,16 +3,16 @@ use Rattle.std.specs.Prelude.{cond, Float}
 use Rattle.ieee.specs.F32.{◌<ᶠ◌, ◌≤ᶠ◌, ◌=ᶠ◌}
 
 -- a, unless it is a not-a-number
-abbrev pub numberOr : Float → Float → Float
-numberOr a b = cond (a =ᶠ a) a b
+abbrev pub number_or : Float → Float → Float
+number_or a b = cond (a =ᶠ a) a b
 
 -- the larger; beside a not-a-number, the other. Of two zeros Rust leaves open which; this takes the second
 unfoldable pub max_of : Float → Float → Float
-max_of a b = cond (a ≤ᶠ b) b (numberOr a b)
+max_of a b = cond (a ≤ᶠ b) b (number_or a b)
 
-unfoldable pub minOf : Float → Float → Float
-minOf a b = cond (b ≤ᶠ a) b (numberOr a b)
+unfoldable pub min_of : Float → Float → Float
+min_of a b = cond (b ≤ᶠ a) b (number_or a b)
 
 -- x held in lo to hi
-unfoldable pub clampOf : Float → Float → Float → Float
-clampOf x lo hi = cond (x <ᶠ lo) lo (cond (hi <ᶠ x) hi x)
+unfoldable pub clamp_of : Float → Float → Float → Float
+clamp_of x lo hi = cond (x <ᶠ lo) lo (cond (hi <ᶠ x) hi x)

@@ -2,11 +2,11 @@
 #![tactic(auto)]
 
 ghost use Rattle.std.specs.Prelude.{◌≡◌};
-ghost use Rattle.bounds.specs.Bounds.{numberOr, max_of, minOf, clampOf};
+ghost use Rattle.bounds.specs.Bounds.{number_or, max_of, min_of, clamp_of};
 
 // The first of two, or the second where the first is a not-a-number.
 fn number_or(a: f32, b: f32) -> f32
-    ensures { result ≡ numberOr a b }
+    ensures { result ≡ number_or a b }
 {
     if a == a { a } else { b }
 }
@@ -18,13 +18,13 @@ pub fn max(a: f32, b: f32) -> f32
 }
 
 pub fn min(a: f32, b: f32) -> f32
-    ensures { result ≡ minOf a b }
+    ensures { result ≡ min_of a b }
 {
     if b <= a { b } else { number_or(a, b) }
 }
 
 pub fn clamp(x: f32, lo: f32, hi: f32) -> f32
-    ensures { result ≡ clampOf x lo hi }
+    ensures { result ≡ clamp_of x lo hi }
 {
     if x < lo {
         lo

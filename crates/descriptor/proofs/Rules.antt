@@ -5,54 +5,54 @@ use mathlib.Core.Bool.{true, false, ◌||◌}
 use mathlib.Core.List.{List}
 use lib.ListN.{get_or}
 use lib.Ieee.{Float, nan}
-use Rattle.lists.proofs.Each.{each-weaker}
-use Rattle.ieee.specs.Numbers.{nought, wholeTurn}
-use Rattle.params.specs.Limits.{valueCount, scaleLow, scaleHigh}
+use Rattle.lists.proofs.Each.{each_weaker}
+use Rattle.ieee.specs.Numbers.{nought, whole_turn}
+use Rattle.params.specs.Limits.{value_count, scale_low, scale_high}
 use Rattle.params.specs.Table.{within}
 use Rattle.picture.specs.declared.Size.{Size}
 use Rattle.hal_turn.specs.Turn.{in_turn}
-use Rattle.descriptor_run.specs.Cells.{samplesOf}
+use Rattle.descriptor_run.specs.Cells.{samples_of}
 use Rattle.descriptor_patch.specs.Rules.{Fair}
-use Rattle.descriptor_run.proofs.Rules.{used-rule}
+use Rattle.descriptor_run.proofs.Rules.{used_rule}
 use Rattle.descriptor_patch.specs.declared.Sample.{Sample}
 use Rattle.descriptor_patch.specs.declared.Patch.{Patch}
 use Rattle.descriptor_grid.specs.Grid.{gathered}
 use Rattle.descriptor_laws.specs.GridRules.{Counts}
-use Rattle.descriptor_laws.proofs.GridRules.{grid-rule}
+use Rattle.descriptor_laws.proofs.GridRules.{grid_rule}
 use Rattle.descriptor_laws.specs.ValuesRules.{Byte}
-use Rattle.descriptor_laws.proofs.ValuesRules.{value-rule}
-use Rattle.descriptor_words.specs.Words.{turnAt, valuesAt}
+use Rattle.descriptor_laws.proofs.ValuesRules.{value_rule}
+use Rattle.descriptor_words.specs.Words.{turn_at, values_at}
 use Rattle.descriptor_words.specs.Accepted.{Ready}
 use Rattle.descriptor_words.specs.declared.Spot.{Spot}
-use Rattle.descriptor_words.proofs.Filled.{in-turn}
-use Rattle.descriptor.specs.Place.{spotWrong, turnWrong}
-use Rattle.descriptor.specs.Entry.{faultOf}
+use Rattle.descriptor_words.proofs.Filled.{in_turn_lem}
+use Rattle.descriptor.specs.Place.{spot_wrong, turn_wrong}
+use Rattle.descriptor.specs.Entry.{fault_of}
 use Rattle.descriptor.specs.Rules.{Inside, DescriptorRule}
-use Rattle.descriptor.proofs.Checks.{fault-fine}
+use Rattle.descriptor.proofs.Checks.{fault_fine}
 
-accepted : (s : Size) (p : Spot) → Inside s p → within scaleLow scaleHigh p.scale ≡ true → within nought wholeTurn p.angle ≡ true → (spotWrong s p || turnWrong p) ≡ false
-unfolding spotWrong turnWrong
-accepted s p i scale angle = rw (i.x-ends, i.y-ends, i.column, i.row, scale, angle)
+accepted : (s : Size) (p : Spot) → Inside s p → within scale_low scale_high p.scale ≡ true → within nought whole_turn p.angle ≡ true → (spot_wrong s p || turn_wrong p) ≡ false
+unfolding spot_wrong turn_wrong
+accepted s p i scale angle = rw (i.x_ends, i.y_ends, i.column, i.row, scale, angle)
 
 -- ---- each sample counts
 pub counts_of : (angle : Float) (s : Sample) → in_turn angle ≡ true → Fair s → Counts angle s
 counts_of angle s t f = record { lands = record { row = f.row; col = f.col; turn = t; slopes = f.slopes }; fall = f.fall }
 
-module _ (img : List Float) (s : Size) (p : Spot) (fine : faultOf img s p ≡ 0) where
+module _ (img : List Float) (s : Size) (p : Spot) (fine : fault_of img s p ≡ 0) where
   abbrev t : Patch
-  t = turnAt s p
+  t = turn_at s p
 
   known : Ready img s p
-  known = fault-fine s p img fine
+  known = fault_fine s p img fine
 
   turns : in_turn p.angle ≡ true
-  turns = in-turn p.angle known.aimed.angled
+  turns = in_turn_lem p.angle known.aimed.angled
 
-  whole : (n : ℕ) → n < valueCount → Byte (get_or (valuesAt img s p) n nan)
-  unfolding valuesAt
+  whole : (n : ℕ) → n < value_count → Byte (get_or (values_at img s p) n nan)
+  unfolding values_at
   whole n l =
-      value-rule.whole (gathered p.angle (samplesOf img t))
-      (grid-rule.held p.angle (samplesOf img t) (each-weaker (λ a f. counts_of p.angle a turns f) (used-rule.samples img t known.good))) n l
+      value_rule.whole (gathered p.angle (samples_of img t))
+      (grid_rule.held p.angle (samples_of img t) (each_weaker (λ a f. counts_of p.angle a turns f) (used_rule.samples img t known.good))) n l
 
-pub descriptor-rule : DescriptorRule
-descriptor-rule = record { whole = whole; accepted = accepted }
+pub descriptor_rule : DescriptorRule
+descriptor_rule = record { whole = whole; accepted = accepted }

@@ -4,12 +4,12 @@
 use Rattle.std.specs.Prelude.{ℕ, ◌*◌, ◌<◌, ◌≡◌, true, List, [], length, get_or, replicate, Float}
 use Rattle.std.specs.Float.{nan}
 use Rattle.ieee.specs.F32.{◌=ᶠ◌}
-use Rattle.params.specs.Limits.{valueCount}
+use Rattle.params.specs.Limits.{value_count}
 use Rattle.picture.specs.declared.Size.{Size}
 use Rattle.descriptor_run.specs.Cells.{reads_of}
-use Rattle.descriptor_words.specs.Words.{turnAt}
+use Rattle.descriptor_words.specs.Words.{turn_at}
 use Rattle.descriptor_words.specs.declared.Spot.{Spot}
-use Rattle.descriptor.specs.Entry.{faultOf, usedOf, describedOf, describedOut}
+use Rattle.descriptor.specs.Entry.{fault_of, used_of, described_of, described_out}
 
 -- all samples of a list are equal as numbers: +0 beside −0 is level too
 abbrev pub Level : List Float → Type 0
@@ -17,21 +17,21 @@ Level l = (i j : ℕ) → i < length l → j < length l → (get_or l i nan =ᶠ
 
 -- 128 times the bits of +0
 abbrev pub zeros : List ℕ
-zeros = replicate valueCount 0
+zeros = replicate value_count 0
 
 -- a call, and the words lent for it
 module _ (img : List Float) (s : Size) (p : Spot) (out : List ℕ) where
   -- what is read of the picture: the four neighbours of each sample of the patch
   abbrev pub read : List Float
-  read = reads_of img (turnAt s p)
+  read = reads_of img (turn_at s p)
 
   -- the number of samples that is answered
   abbrev pub samples : ℕ
-  samples = usedOf (describedOf img s p (length out))
+  samples = used_of (described_of img s p (length out))
 
   -- the lent words afterwards
   abbrev pub left : List ℕ
-  left = describedOut img s p out
+  left = described_out img s p out
 
   pub record Told : Type 0 where
     -- where nothing is read: no sample, and zeros
@@ -45,4 +45,4 @@ module _ (img : List Float) (s : Size) (p : Spot) (out : List ℕ) where
 
 pub record NothingRule : Type 0 where
   -- for every call that is accepted, with the 128 places that it asks for
-  pub told : (img : List Float) (s : Size) (p : Spot) (out : List ℕ) → faultOf img s p ≡ 0 → length out ≡ valueCount → Told img s p out
+  pub told : (img : List Float) (s : Size) (p : Spot) (out : List ℕ) → fault_of img s p ≡ 0 → length out ≡ value_count → Told img s p out

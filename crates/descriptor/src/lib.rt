@@ -3,8 +3,8 @@
 
 ghost use Rattle.std.specs.Prelude.{◌≡◌, length};
 ghost use Rattle.descriptor_words.specs.Accepted.{Ready};
-ghost use Rattle.descriptor.specs.Place.{onSide, spotWrong, turnWrong};
-ghost use Rattle.descriptor.specs.Entry.{number_of, countOf, usedOf, faultOf, describedOf, describedOut};
+ghost use Rattle.descriptor.specs.Place.{on_side, spot_wrong, turn_wrong};
+ghost use Rattle.descriptor.specs.Entry.{number_of, count_of, used_of, fault_of, described_of, described_out};
 
 use descriptor_words::Spot;
 use picture::Size;
@@ -24,7 +24,7 @@ pub enum Described {
 
 // Whether z is a cell of a side of n.
 fn on_side(n: usize, z: i32) -> bool
-    ensures { result ≡ onSide n z }
+    ensures { result ≡ on_side n z }
 {
     if z < 0 {
         return false;
@@ -34,7 +34,7 @@ fn on_side(n: usize, z: i32) -> bool
 
 // The position is not finite, or its cell lies outside the picture.
 fn spot_wrong(s: Size, p: Spot) -> bool
-    ensures { result ≡ spotWrong s p }
+    ensures { result ≡ spot_wrong s p }
 {
     !(ieee::is_finite(p.x)
         & (ieee::is_finite(p.y)
@@ -44,14 +44,14 @@ fn spot_wrong(s: Size, p: Spot) -> bool
 
 // The scale is outside 0.125 to 64, or the angle outside 0 to 360.
 fn turn_wrong(p: Spot) -> bool
-    ensures { result ≡ turnWrong p }
+    ensures { result ≡ turn_wrong p }
 {
     !(((0.125 <= p.scale) & (p.scale <= 64.0)) & ((0.0 <= p.angle) & (p.angle <= 360.0)))
 }
 
 // The first fault in the order of the table, 0 for none; room is tested later.
 fn fault_of(img: &[f32], s: Size, p: Spot) -> u32
-    ensures value { result ≡ faultOf img.now s p }
+    ensures value { result ≡ fault_of img.now s p }
     ensures ready { result ≡ 0 → Ready img.now s p }
 {
     if params::shape_wrong(s.width, s.height) {
@@ -78,8 +78,8 @@ fn fault_of(img: &[f32], s: Size, p: Spot) -> u32
 // The 128 values of the patch about a position, each by its bits, and the number of its samples. The values are lent as words and not as floats: a lent word is all its
 // bits, so that a refusal leaves even the payload of a not-a-number as it stood.
 pub fn compute_descriptor(img: &[f32], s: Size, p: Spot, out: &mut [u32]) -> Described
-    ensures value { result ≡ describedOf img.now s p (length out.old) }
-    ensures out_after { out.new ≡ describedOut img.now s p out.old }
+    ensures value { result ≡ described_of img.now s p (length out.old) }
+    ensures out_after { out.new ≡ described_out img.now s p out.old }
 {
     let fault = fault_of(img, s, p);
     if fault != 0 {
@@ -106,7 +106,7 @@ pub fn number_of(a: Described) -> u32
 
 // The count beside it (rule A17).
 pub fn count_of(a: Described) -> usize
-    ensures { result ≡ countOf a }
+    ensures { result ≡ count_of a }
 {
     match a {
         Described::Done(_) => VALUES,
@@ -117,7 +117,7 @@ pub fn count_of(a: Described) -> usize
 
 // The samples that the values were made of (rule P18).
 pub fn used_of(a: Described) -> usize
-    ensures { result ≡ usedOf a }
+    ensures { result ≡ used_of a }
 {
     match a {
         Described::Done(n) => n,

@@ -8,72 +8,72 @@ use native.Mathlib.Omega.{arith}
 use lib.ListN.{length, length-append}
 use lib.Ieee.{Float}
 use Rattle.lists.specs.Ranges.{joined}
-use Rattle.lists.proofs.Ranges.{joined-start, joined-more, joined-bound}
-use Rattle.params.specs.Table.{allGood}
-use Rattle.params.specs.Limits.{maxSide}
-use Rattle.picture.specs.Picture.{fourAt, firstIn, pastIn}
-use Rattle.descriptor_patch.specs.Patch.{gridAt}
+use Rattle.lists.proofs.Ranges.{joined_start, joined_more, joined_bound}
+use Rattle.params.specs.Table.{all_good}
+use Rattle.params.specs.Limits.{max_side}
+use Rattle.picture.specs.Picture.{four_at, first_in, past_in}
+use Rattle.descriptor_patch.specs.Patch.{grid_at}
 use Rattle.descriptor_run.specs.Cells.{reads_of}
-use Rattle.descriptor_run.specs.Run.{runOf, overRun, row_of}
+use Rattle.descriptor_run.specs.Run.{run_of, over_run, row_of}
 use Rattle.descriptor_run.specs.declared.Run.{Run}
 use Rattle.descriptor_patch.specs.declared.Sample.{Sample}
 use Rattle.descriptor_patch.specs.declared.Patch.{Patch}
-use Rattle.descriptor_run.proofs.Runs.{over-cells}
-use Rattle.descriptor_run.proofs.Rules.{good-part}
+use Rattle.descriptor_run.proofs.Runs.{over_cells_lem}
+use Rattle.descriptor_run.proofs.Rules.{good_part}
 use Rattle.descriptor_shares.specs.Sharing.{spread_of}
-use Rattle.descriptor_grid.specs.Grid.{scattered, gatheredIn}
-use Rattle.descriptor_gather.specs.Gather.{sampleIn}
+use Rattle.descriptor_grid.specs.Grid.{scattered, gathered_in}
+use Rattle.descriptor_gather.specs.Gather.{sample_in}
 
-pub gathered-append : (angle : Float) (h : List Float) (xs ys : List Sample) → gatheredIn angle h (xs ++ ys) ≡ gatheredIn angle (gatheredIn angle h xs) ys
-unfolding gatheredIn
-gathered-append angle h [] ys = refl
-gathered-append angle h (x ∷ xs) ys = gathered-append angle (scattered h (spread_of angle x)) xs ys
+pub gathered_append : (angle : Float) (h : List Float) (xs ys : List Sample) → gathered_in angle h (xs ++ ys) ≡ gathered_in angle (gathered_in angle h xs) ys
+unfolding gathered_in
+gathered_append angle h [] ys = refl
+gathered_append angle h (x ∷ xs) ys = gathered_append angle (scattered h (spread_of angle x)) xs ys
 
 -- ss was gathered in h₀, which made it h, and counted
 pub record Holds (angle : Float) (h₀ : List Float) (ss : List Sample) (h : List Float) (n : ℕ) : Type 0 where
-  pub held : h ≡ gatheredIn angle h₀ ss
+  pub held : h ≡ gathered_in angle h₀ ss
   pub count : n ≡ length ss
 
-pub holds-used : (angle : Float) (h h' : List Float) (s s' : Sample) (g : Bool) → g ≡ true → s ≡ s' → h' ≡ scattered h (spread_of angle s) → Holds angle h (cond g (s' ∷ []) []) h' 1
-unfolding gatheredIn
-holds-used angle h h' s s' g p e q = rw (p, ← e) (record { held = q; count = refl })
+pub holds_used : (angle : Float) (h h' : List Float) (s s' : Sample) (g : Bool) → g ≡ true → s ≡ s' → h' ≡ scattered h (spread_of angle s) → Holds angle h (cond g (s' ∷ []) []) h' 1
+unfolding gathered_in
+holds_used angle h h' s s' g p e q = rw (p, ← e) (record { held = q; count = refl })
 
-pub holds-unused : (angle : Float) (h : List Float) (ss : List Sample) (g : Bool) → g ≡ false → Holds angle h (cond g ss []) h 0
-unfolding gatheredIn
-holds-unused angle h ss g p = rw p (record { held = refl; count = refl })
+pub holds_unused : (angle : Float) (h : List Float) (ss : List Sample) (g : Bool) → g ≡ false → Holds angle h (cond g ss []) h 0
+unfolding gathered_in
+holds_unused angle h ss g p = rw p (record { held = refl; count = refl })
 
-pub holds-none : (angle : Float) (h : List Float) (lo : ℕ) (f : ℕ → List Sample) → Holds angle h (joined lo lo f) h 0
-unfolding gatheredIn
-holds-none angle h lo f = rw (joined-start lo f) (record { held = refl; count = refl })
+pub holds_none : (angle : Float) (h : List Float) (lo : ℕ) (f : ℕ → List Sample) → Holds angle h (joined lo lo f) h 0
+unfolding gathered_in
+holds_none angle h lo f = rw (joined_start lo f) (record { held = refl; count = refl })
 
-pub holds_more : {angle : Float} {h₀ h h' : List Float} {n k : ℕ} (lo hi : ℕ) (f : ℕ → List Sample) → lo ≤ hi → Holds angle h₀ (joined lo hi f) h n → h' ≡ gatheredIn angle h (f hi) → k ≡ length (f hi) → Holds angle h₀ (joined lo (hi + 1) f) h' (n + k)
+pub holds_more : {angle : Float} {h₀ h h' : List Float} {n k : ℕ} (lo hi : ℕ) (f : ℕ → List Sample) → lo ≤ hi → Holds angle h₀ (joined lo hi f) h n → h' ≡ gathered_in angle h (f hi) → k ≡ length (f hi) → Holds angle h₀ (joined lo (hi + 1) f) h' (n + k)
 holds_more {angle} {h₀} {h} {h'} {n} {k} lo hi f l a p q =
-    rw (joined-more lo hi f l)
+    rw (joined_more lo hi f l)
     (record {
-      held = p ∙ rw (a.held, gathered-append angle h₀ (joined lo hi f) (f hi));
+      held = p ∙ rw (a.held, gathered_append angle h₀ (joined lo hi f) (f hi));
       count = rw (length-append, a.count, q);
     })
 
 -- ---- how many
 
-pub one-most : (g : Bool) (s : Sample) → length (cond g (s ∷ []) []) ≤ 1
-one-most true s = omega arith
-one-most false s = omega arith
+pub one_most : (g : Bool) (s : Sample) → length (cond g (s ∷ []) []) ≤ 1
+one_most true s = omega arith
+one_most false s = omega arith
 
-pub run-most : (img : List Float) (t : Patch) (r : ℕ) (e : Run) → length (overRun t r (sampleIn img t) e) ≤ e.past
-unfolding overRun
-run-most img t r e =
-    omega (arith, joined-bound 1 e.first e.past (λ c. cond (gridAt t r c) (sampleIn img t r c) []) (λ c. one-most (gridAt t r c) _), mul-one (e.past - e.first))
+pub run_most : (img : List Float) (t : Patch) (r : ℕ) (e : Run) → length (over_run t r (sample_in img t) e) ≤ e.past
+unfolding over_run
+run_most img t r e =
+    omega (arith, joined_bound 1 e.first e.past (λ c. cond (grid_at t r c) (sample_in img t r c) []) (λ c. one_most (grid_at t r c) _), mul-one (e.past - e.first))
 
-pub more_rows : {n k w : ℕ} (r : ℕ) → n ≤ maxSide * r → k ≤ w → w ≤ maxSide → n + k ≤ maxSide * (r + 1)
+pub more_rows : {n k w : ℕ} (r : ℕ) → n ≤ max_side * r → k ≤ w → w ≤ max_side → n + k ≤ max_side * (r + 1)
 more_rows r h l m = omega arith
 
-pub below-side : (at radius side r : ℕ) → r < pastIn at radius side → side ≤ maxSide → r < maxSide
-below-side at radius side r h k = omega arith
+pub below_side : (at radius side r : ℕ) → r < past_in at radius side → side ≤ max_side → r < max_side
+below_side at radius side r h k = omega arith
 
 -- ---- a row of the patch
 
-pub row-good : (img : List Float) (t : Patch) (r : ℕ) → allGood (reads_of img t) ≡ true → firstIn t.py t.radius ≤ r → r < pastIn t.py t.radius t.size.height
-    → allGood (overRun t r (fourAt img t.size.width) (runOf t r)) ≡ true
+pub row_good_lem : (img : List Float) (t : Patch) (r : ℕ) → all_good (reads_of img t) ≡ true → first_in t.py t.radius ≤ r → r < past_in t.py t.radius t.size.height
+    → all_good (over_run t r (four_at img t.size.width) (run_of t r)) ≡ true
 unfolding reads_of row_of
-row-good img t r g a b = good-part _ _ r _ (ap allGood (over-cells t (fourAt img t.size.width)) ∙ g) a b
+row_good_lem img t r g a b = good_part _ _ r _ (ap all_good (over_cells_lem t (four_at img t.size.width)) ∙ g) a b

@@ -2,16 +2,16 @@
 #![tactic(auto)]
 
 ghost use Rattle.std.specs.Prelude.{◌≡◌, true, cond, [], length};
-ghost use Rattle.params.specs.Table.{allGood};
-ghost use Rattle.picture.specs.Picture.{fourAt};
+ghost use Rattle.params.specs.Table.{all_good};
+ghost use Rattle.picture.specs.Picture.{four_at};
 ghost use Rattle.picture.specs.Place.{Around};
-ghost use Rattle.descriptor_patch.specs.Patch.{gridAt};
-ghost use Rattle.descriptor_run.specs.Cells.{reads_of, samplesOf};
-ghost use Rattle.descriptor_run.specs.Run.{overRun};
+ghost use Rattle.descriptor_patch.specs.Patch.{grid_at};
+ghost use Rattle.descriptor_run.specs.Cells.{reads_of, samples_of};
+ghost use Rattle.descriptor_run.specs.Run.{over_run};
 ghost use Rattle.descriptor_run.specs.Place.{Inner};
-ghost use Rattle.descriptor_grid.specs.Grid.{gatheredIn};
+ghost use Rattle.descriptor_grid.specs.Grid.{gathered_in};
 ghost use Rattle.descriptor_shares.specs.Reach.{Lent};
-ghost use Rattle.descriptor_gather.specs.Gather.{sampleIn, Patched};
+ghost use Rattle.descriptor_gather.specs.Gather.{sample_in, Patched};
 
 use descriptor_patch::{Patch, Rots};
 use descriptor_run::Run;
@@ -43,8 +43,8 @@ fn cell(
     hist: &mut [f32; 360],
     p: Point,
 ) -> usize
-    requires { Lent pairs.now cubics.now turns.now × (Patched (length img.now) p.patch × (Around (length img.now) p.patch.size p.row p.col × (allGood (cond (gridAt p.patch p.row p.col) (fourAt img.now p.patch.size.width p.row p.col) []) ≡ true))) }
-    ensures { (hist.new ≡ gatheredIn p.patch.angle hist.old (cond (gridAt p.patch p.row p.col) (sampleIn img.now p.patch p.row p.col) [])) × (result ≡ length (cond (gridAt p.patch p.row p.col) (sampleIn img.now p.patch p.row p.col) [])) }
+    requires { Lent pairs.now cubics.now turns.now × (Patched (length img.now) p.patch × (Around (length img.now) p.patch.size p.row p.col × (all_good (cond (grid_at p.patch p.row p.col) (four_at img.now p.patch.size.width p.row p.col) []) ≡ true))) }
+    ensures { (hist.new ≡ gathered_in p.patch.angle hist.old (cond (grid_at p.patch p.row p.col) (sample_in img.now p.patch p.row p.col) [])) × (result ≡ length (cond (grid_at p.patch p.row p.col) (sample_in img.now p.patch p.row p.col) [])) }
 {
     let t = p.patch;
     let row = descriptor_patch::rot_row(t, p.row, p.col);
@@ -77,8 +77,8 @@ fn row(
     hist: &mut [f32; 360],
     l: Line,
 ) -> usize
-    requires { Lent pairs.now cubics.now turns.now × (Patched (length img.now) l.patch × (Inner l.patch l.row l.run × (allGood (overRun l.patch l.row (fourAt img.now l.patch.size.width) l.run) ≡ true))) }
-    ensures { (hist.new ≡ gatheredIn l.patch.angle hist.old (overRun l.patch l.row (sampleIn img.now l.patch) l.run)) × (result ≡ length (overRun l.patch l.row (sampleIn img.now l.patch) l.run)) }
+    requires { Lent pairs.now cubics.now turns.now × (Patched (length img.now) l.patch × (Inner l.patch l.row l.run × (all_good (over_run l.patch l.row (four_at img.now l.patch.size.width) l.run) ≡ true))) }
+    ensures { (hist.new ≡ gathered_in l.patch.angle hist.old (over_run l.patch l.row (sample_in img.now l.patch) l.run)) × (result ≡ length (over_run l.patch l.row (sample_in img.now l.patch) l.run)) }
 {
     let t = l.patch;
     let r = l.row;
@@ -113,8 +113,8 @@ fn rows(
     hist: &mut [f32; 360],
     t: Patch,
 ) -> usize
-    requires { Lent pairs.now cubics.now turns.now × (Patched (length img.now) t × (allGood (reads_of img.now t) ≡ true)) }
-    ensures { (hist.new ≡ gatheredIn t.angle hist.old (samplesOf img.now t)) × (result ≡ length (samplesOf img.now t)) }
+    requires { Lent pairs.now cubics.now turns.now × (Patched (length img.now) t × (all_good (reads_of img.now t) ≡ true)) }
+    ensures { (hist.new ≡ gathered_in t.angle hist.old (samples_of img.now t)) × (result ≡ length (samples_of img.now t)) }
 {
     let end = picture::past_in(t.py, t.radius, t.size.height);
     let mut n: usize = 0;
@@ -140,8 +140,8 @@ fn rows(
 
 // Adds every sample of the patch to the histogram, in reading order, and counts them.
 pub fn gather(img: &[f32], t: Patch, hist: &mut [f32; 360]) -> usize
-    requires { Patched (length img.now) t × (allGood (reads_of img.now t) ≡ true) }
-    ensures { (hist.new ≡ gatheredIn t.angle hist.old (samplesOf img.now t)) × (result ≡ length (samplesOf img.now t)) }
+    requires { Patched (length img.now) t × (all_good (reads_of img.now t) ≡ true) }
+    ensures { (hist.new ≡ gathered_in t.angle hist.old (samples_of img.now t)) × (result ≡ length (samples_of img.now t)) }
 {
     let pairs = hal::pair_table();
     let cubics = hal_magnitude::cubic_table();

@@ -8,12 +8,12 @@ use Rattle.descriptor_patch.specs.declared.Sample.{Sample}
 use Rattle.descriptor_shares.specs.Sharing.{spread_of}
 use Rattle.descriptor_shares.specs.declared.Spread.{Spread}
 
-abbrev pub addAt : List Float → ℕ → Float → List Float
-addAt h i a = set h i (get_or h i nan ⊕ a)
+abbrev pub add_at : List Float → ℕ → Float → List Float
+add_at h i a = set h i (get_or h i nan ⊕ a)
 
 -- two slots side by side
 unfoldable pub pair_at : List Float → ℕ → Float → Float → List Float
-pair_at h i a b = addAt (addAt h i a) (i + 1) b
+pair_at h i a b = add_at (add_at h i a) (i + 1) b
 
 unfoldable pub when : Bool → List Float → ℕ → Float → Float → List Float
 when t h i a b = cond t (pair_at h i a b) h
@@ -38,9 +38,9 @@ scattered h p =
     (place (r + 1) (c + 1) o) s.v110 s.v111
 
 -- from an empty histogram, sample by sample
-unfoldable pub gatheredIn : Float → List Float → List Sample → List Float
-gatheredIn angle h [] = h
-gatheredIn angle h (s ∷ ss) = gatheredIn angle (scattered h (spread_of angle s)) ss
+unfoldable pub gathered_in : Float → List Float → List Sample → List Float
+gathered_in angle h [] = h
+gathered_in angle h (s ∷ ss) = gathered_in angle (scattered h (spread_of angle s)) ss
 
 unfoldable pub gathered : Float → List Sample → List Float
-gathered angle ss = gatheredIn angle (replicate places nought) ss
+gathered angle ss = gathered_in angle (replicate places nought) ss

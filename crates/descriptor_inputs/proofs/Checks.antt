@@ -12,10 +12,10 @@ use lib.Ieee.Scale.{finite}
 use mir.Syntax.{w32}
 use mir.Val.{SFits, to_z, of_z}
 use mir.ValLaws.{to_z-of_z}
-use Rattle.params.specs.Limits.{maxOctave}
-use Rattle.params.specs.Table.{firstFault}
+use Rattle.params.specs.Limits.{max_octave}
+use Rattle.params.specs.Table.{first_fault}
 use Rattle.orient_words.specs.declared.OrientedKeypoint.{OrientedKeypoint}
-use Rattle.descriptor_inputs.specs.Inputs.{octaveWrong, octaveOf, orientedWrong, inputsFault, given_of, refusedWith, inputsOf}
+use Rattle.descriptor_inputs.specs.Inputs.{octave_wrong, octave_of, oriented_wrong, inputs_fault, given_of, refused_with, inputs_of}
 
 -- ---- the response: only a not-a-number differs from itself
 same_sign : (s : Bool) → beq s s ≡ true
@@ -35,35 +35,35 @@ finite_number (inf s) h = refl
 finite_number (fin s m e) h = refl
 
 -- ---- the octave
-pub octave-test : (z : ℤ) → (lt_z z (pos 0) || lt_z (pos 15) z) ≡ octaveWrong z
-octave-test (pos n) = rw (le-ltb n 0 (omega arith))
-octave-test (negsuc n) = refl
+pub octave_test_lem : (z : ℤ) → (lt_z z (pos 0) || lt_z (pos 15) z) ≡ octave_wrong z
+octave_test_lem (pos n) = rw (le-ltb n 0 (omega arith))
+octave_test_lem (negsuc n) = refl
 
 -- a test of what was passed, read back from its bits
-pub octave-told : (b r : Bool) (z : ℤ) → SFits w32 z → r ≡ octaveWrong (to_z w32 (of_z w32 z)) → r ≡ b → octaveWrong z ≡ b
-octave-told b r z fits e f = rw (to_z-of_z w32 z fits) at (sym e ∙ f)
+pub octave_told : (b r : Bool) (z : ℤ) → SFits w32 z → r ≡ octave_wrong (to_z w32 (of_z w32 z)) → r ≡ b → octave_wrong z ≡ b
+octave_told b r z fits e f = rw (to_z-of_z w32 z fits) at (sym e ∙ f)
 
-pub octave-from : (z : ℤ) → octaveWrong z ≡ false → T (non_neg z)
-octave-from (pos n) e = tt
-octave-from (negsuc n) e = absurd (true≢false e)
+pub octave_from : (z : ℤ) → octave_wrong z ≡ false → T (non_neg z)
+octave_from (pos n) e = tt
+octave_from (negsuc n) e = absurd (true≢false e)
 
-pub octave-to : (z : ℤ) → octaveWrong z ≡ false → nat_abs z ≤ maxOctave
-octave-to (pos n) e = ltb-false maxOctave n e
-octave-to (negsuc n) e = absurd (true≢false e)
+pub octave_to : (z : ℤ) → octave_wrong z ≡ false → nat_abs z ≤ max_octave
+octave_to (pos n) e = ltb-false max_octave n e
+octave_to (negsuc n) e = absurd (true≢false e)
 
-pub octave-is : (z : ℤ) → octaveWrong z ≡ false → nat_abs z ≡ octaveOf z
-octave-is (pos n) e = refl
-octave-is (negsuc n) e = absurd (true≢false e)
+pub octave_is : (z : ℤ) → octave_wrong z ≡ false → nat_abs z ≡ octave_of z
+octave_is (pos n) e = refl
+octave_is (negsuc n) e = absurd (true≢false e)
 
 module _ (o : OrientedKeypoint) (z : ℤ) where
-  pub refused-octave : octaveWrong z ≡ true → refusedWith 4 ≡ inputsOf o z
-  unfolding inputsOf inputsFault firstFault
-  refused-octave e = rw e
+  pub refused_octave : octave_wrong z ≡ true → refused_with 4 ≡ inputs_of o z
+  unfolding inputs_of inputs_fault first_fault
+  refused_octave e = rw e
 
-  pub refused-keypoint : octaveWrong z ≡ false → orientedWrong o ≡ true → refusedWith 5 ≡ inputsOf o z
-  unfolding inputsOf inputsFault firstFault
-  refused-keypoint e f = rw (e, f)
+  pub refused_keypoint : octave_wrong z ≡ false → oriented_wrong o ≡ true → refused_with 5 ≡ inputs_of o z
+  unfolding inputs_of inputs_fault first_fault
+  refused_keypoint e f = rw (e, f)
 
-  pub accepted : octaveWrong z ≡ false → orientedWrong o ≡ false → given_of o (octaveOf z) ≡ inputsOf o z
-  unfolding inputsOf inputsFault firstFault
+  pub accepted : octave_wrong z ≡ false → oriented_wrong o ≡ false → given_of o (octave_of z) ≡ inputs_of o z
+  unfolding inputs_of inputs_fault first_fault
   accepted e f = rw (e, f)

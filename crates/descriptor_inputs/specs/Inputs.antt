@@ -3,52 +3,52 @@ use Rattle.std.specs.Prelude.{ℕ, ◌^◌, Bool, true, ◌&&◌, not, cond, [],
 use Rattle.std.specs.Float.{binary32}
 use Rattle.std.specs.Float.Ieee.{of_int, is_nan}
 use Rattle.std.specs.Float.Ieee.Scale.{finite}
-use Rattle.ieee.specs.F32.{◌⊖◌, ◌⊗◌, ◌⊘◌, ◌<ᶠ◌, ◌≤ᶠ◌, f32, absOf, float}
-use Rattle.ieee.specs.Numbers.{nought, half, one, wholeTurn, epsilon}
-use Rattle.params.specs.Limits.{maxOctave}
-use Rattle.params.specs.Table.{line, firstFault, within}
-use Rattle.params.specs.Answers.{onFault}
+use Rattle.ieee.specs.F32.{◌⊖◌, ◌⊗◌, ◌⊘◌, ◌<ᶠ◌, ◌≤ᶠ◌, f32, abs_of, float}
+use Rattle.ieee.specs.Numbers.{nought, half, one, whole_turn, epsilon}
+use Rattle.params.specs.Limits.{max_octave}
+use Rattle.params.specs.Table.{line, first_fault, within}
+use Rattle.params.specs.Answers.{on_fault}
 use Rattle.orient_words.specs.declared.OrientedKeypoint.{OrientedKeypoint}
 use Rattle.descriptor_inputs.specs.declared.Inputs.{Inputs}
 
 -- 4: octave not in 0 to 15 (rule A7)
-abbrev pub octaveWrong : ℤ → Bool
-octaveWrong (pos n) = ltb maxOctave n
-octaveWrong (negsuc n) = true
+abbrev pub octave_wrong : ℤ → Bool
+octave_wrong (pos n) = ltb max_octave n
+octave_wrong (negsuc n) = true
 
 -- 5 (rule A10): a position or a size that is not finite, a size below 0, an angle outside 0 to 360; and a response that is no number, for then it is no keypoint
-unfoldable pub orientedWrong : OrientedKeypoint → Bool
-orientedWrong o =
+unfoldable pub oriented_wrong : OrientedKeypoint → Bool
+oriented_wrong o =
     not
     (finite o.x
     && (finite o.y
     && (finite o.size
-    && ((nought ≤ᶠ o.size) && (within nought wholeTurn o.angle && not (is_nan o.response))))))
+    && ((nought ≤ᶠ o.size) && (within nought whole_turn o.angle && not (is_nan o.response))))))
 
-unfoldable pub inputsFault : OrientedKeypoint → ℤ → ℕ
-inputsFault o octave = firstFault (line 4 (octaveWrong octave) ∷ line 5 (orientedWrong o) ∷ [])
+unfoldable pub inputs_fault : OrientedKeypoint → ℤ → ℕ
+inputs_fault o octave = first_fault (line 4 (octave_wrong octave) ∷ line 5 (oriented_wrong o) ∷ [])
 
 -- 1 / 2^octave (rule P1)
-abbrev pub octaveOf : ℤ → ℕ
-octaveOf (pos n) = n
-octaveOf (negsuc n) = 0
+abbrev pub octave_of : ℤ → ℕ
+octave_of (pos n) = n
+octave_of (negsuc n) = 0
 
-unfoldable pub shrinkOf : ℕ → Float
-shrinkOf octave = one ⊘ float (2 ^ octave)
+unfoldable pub shrink_of : ℕ → Float
+shrink_of octave = one ⊘ float (2 ^ octave)
 
 -- 360 - angle, and 0 where that is within f32 epsilon of 360
-unfoldable pub reversedOf : Float → Float
-reversedOf angle = let reversed = wholeTurn ⊖ angle in cond (absOf (reversed ⊖ wholeTurn) <ᶠ epsilon) nought reversed
+unfoldable pub reversed_of : Float → Float
+reversed_of angle = let reversed = whole_turn ⊖ angle in cond (abs_of (reversed ⊖ whole_turn) <ᶠ epsilon) nought reversed
 
 -- a keypoint of an octave that is accepted
 unfoldable pub given_of : OrientedKeypoint → ℕ → Inputs
 given_of o octave =
-    let by = shrinkOf octave in
-    record { number = 0; x = o.x ⊗ by; y = o.y ⊗ by; scale = o.size ⊗ by ⊗ half; angle = reversedOf o.angle }
+    let by = shrink_of octave in
+    record { number = 0; x = o.x ⊗ by; y = o.y ⊗ by; scale = o.size ⊗ by ⊗ half; angle = reversed_of o.angle }
 
 -- a refusal carries +0
-abbrev pub refusedWith : ℕ → Inputs
-refusedWith n = record { number = n; x = nought; y = nought; scale = nought; angle = nought }
+abbrev pub refused_with : ℕ → Inputs
+refused_with n = record { number = n; x = nought; y = nought; scale = nought; angle = nought }
 
-unfoldable pub inputsOf : OrientedKeypoint → ℤ → Inputs
-inputsOf o octave = onFault (inputsFault o octave) (given_of o (octaveOf octave)) (refusedWith (inputsFault o octave))
+unfoldable pub inputs_of : OrientedKeypoint → ℤ → Inputs
+inputs_of o octave = on_fault (inputs_fault o octave) (given_of o (octave_of octave)) (refused_with (inputs_fault o octave))

@@ -2,8 +2,8 @@
 #![tactic(auto)]
 
 ghost use Rattle.std.specs.Prelude.{◌≡◌, ◌≤◌};
-ghost use Rattle.params.specs.Limits.{maxOctave};
-ghost use Rattle.descriptor_inputs.specs.Inputs.{octaveWrong, octaveOf, orientedWrong, shrinkOf, reversedOf, given_of, refusedWith, inputsOf};
+ghost use Rattle.params.specs.Limits.{max_octave};
+ghost use Rattle.descriptor_inputs.specs.Inputs.{octave_wrong, octave_of, oriented_wrong, shrink_of, reversed_of, given_of, refused_with, inputs_of};
 
 use orient_words::OrientedKeypoint;
 
@@ -19,14 +19,14 @@ pub struct Inputs {
 
 // Number 4: octave not in 0 to 15.
 fn octave_wrong(octave: i32) -> bool
-    ensures { result ≡ octaveWrong octave }
+    ensures { result ≡ octave_wrong octave }
 {
     (octave < 0) | (octave > 15)
 }
 
 // Number 5: a position or size that is not finite, a size below 0, an angle outside 0 to 360, or a response that is no number, which alone differs from itself.
 fn oriented_wrong(o: OrientedKeypoint) -> bool
-    ensures { result ≡ orientedWrong o }
+    ensures { result ≡ oriented_wrong o }
 {
     !(ieee::is_finite(o.x)
         & (ieee::is_finite(o.y)
@@ -37,8 +37,8 @@ fn oriented_wrong(o: OrientedKeypoint) -> bool
 
 // 1 / 2^octave.
 fn shrink(octave: u32) -> f32
-    requires { octave ≤ maxOctave }
-    ensures { result ≡ shrinkOf octave }
+    requires { octave ≤ max_octave }
+    ensures { result ≡ shrink_of octave }
 {
     let power = 1u64 << octave;
     1.0 / (power as f32)
@@ -46,7 +46,7 @@ fn shrink(octave: u32) -> f32
 
 // The angle counted the other way round, in degrees (rule P1); what lies within f32 epsilon, 2^-23 = 0.00000011920929, of 360 is 0.
 fn reversed(angle: f32) -> f32
-    ensures { result ≡ reversedOf angle }
+    ensures { result ≡ reversed_of angle }
 {
     let t = 360.0 - angle;
     if ieee::abs(t - 360.0) < 0.00000011920929 {
@@ -57,7 +57,7 @@ fn reversed(angle: f32) -> f32
 }
 
 fn given(o: OrientedKeypoint, octave: u32) -> Inputs
-    requires { octave ≤ maxOctave }
+    requires { octave ≤ max_octave }
     ensures { result ≡ given_of o octave }
 {
     let by = shrink(octave);
@@ -71,7 +71,7 @@ fn given(o: OrientedKeypoint, octave: u32) -> Inputs
 }
 
 fn refused(number: u32) -> Inputs
-    ensures { result ≡ refusedWith number }
+    ensures { result ≡ refused_with number }
 {
     Inputs {
         number: number,
@@ -84,7 +84,7 @@ fn refused(number: u32) -> Inputs
 
 // The inputs of an oriented keypoint in its octave, 0 to 15.
 pub fn descriptor_inputs(o: OrientedKeypoint, octave: i32) -> Inputs
-    ensures { result ≡ inputsOf o octave }
+    ensures { result ≡ inputs_of o octave }
 {
     if octave_wrong(octave) {
         return refused(4);

@@ -10,28 +10,28 @@ use lib.ListN.{length, get_or, replicate, length-append, length-replicate, get_o
 use lib.Seq.{get_or_at, ext_get_or}
 use lib.Ieee.{Float, nan}
 use Rattle.lists.specs.Ranges.{joined}
-use Rattle.lists.proofs.Ranges.{joined-none, joined-more}
+use Rattle.lists.proofs.Ranges.{joined_none, joined_more}
 
 -- the first n of them
 abbrev pub up_to : (ℕ → Float) → ℕ → List Float
 up_to f n = joined 0 n (λ m. f m ∷ [])
 
 step : (f : ℕ → Float) (n : ℕ) → up_to f (suc n) ≡ up_to f n ++ (f n ∷ [])
-step f n = rw (← add-one n) (joined-more 0 n (λ m. f m ∷ []) (omega arith))
+step f n = rw (← add-one n) (joined_more 0 n (λ m. f m ∷ []) (omega arith))
 
-pub upTo-length : (f : ℕ → Float) (n : ℕ) → length (up_to f n) ≡ n
-upTo-length f zero = ap length (joined-none 0 0 (λ m. f m ∷ []) (omega arith))
-upTo-length f (suc n) = ap length (step f n) ∙ simp (length-append, upTo-length f n) (omega arith)
+pub up_to_length : (f : ℕ → Float) (n : ℕ) → length (up_to f n) ≡ n
+up_to_length f zero = ap length (joined_none 0 0 (λ m. f m ∷ []) (omega arith))
+up_to_length f (suc n) = ap length (step f n) ∙ simp (length-append, up_to_length f n) (omega arith)
 
-pub upTo-at : (f : ℕ → Float) (n i : ℕ) → i < n → get_or (up_to f n) i nan ≡ f i
-upTo-at f zero i h = absurd (omega arith)
-upTo-at f (suc n) i h =
+pub up_to_at : (f : ℕ → Float) (n i : ℕ) → i < n → get_or (up_to f n) i nan ≡ f i
+up_to_at f zero i h = absurd (omega arith)
+up_to_at f (suc n) i h =
     ⊎_elim
-    (λ e. rw (step f n) (ap (λ (k : ℕ). get_or (up_to f n ++ (f n ∷ [])) k nan) e ∙ get_or_at (up_to f n) (f n) [] nan n (upTo-length f n) ∙ ap f (sym e)))
-    (λ l. rw (step f n) (get_or-append (up_to f n) (f n ∷ []) nan i (rw (upTo-length f n) l) ∙ upTo-at f n i l))
+    (λ e. rw (step f n) (ap (λ (k : ℕ). get_or (up_to f n ++ (f n ∷ [])) k nan) e ∙ get_or_at (up_to f n) (f n) [] nan n (up_to_length f n) ∙ ap f (sym e)))
+    (λ l. rw (step f n) (get_or-append (up_to f n) (f n ∷ []) nan i (rw (up_to_length f n) l) ∙ up_to_at f n i l))
     (eq-or-lt_of_le (le_of_suc-le-suc h))
 
-pub upTo-same : (f : ℕ → Float) (n : ℕ) (x : Float) → ((i : ℕ) → i < n → f i ≡ x) → up_to f n ≡ replicate n x
-upTo-same f n x e =
-    ext_get_or nan (up_to f n) (replicate n x) (upTo-length f n ∙ sym (length-replicate n x))
-    (λ i l. let h : i < n = omega (arith, upTo-length f n) in upTo-at f n i h ∙ e i h ∙ sym (get_or-replicate n i x nan h))
+pub up_to_same : (f : ℕ → Float) (n : ℕ) (x : Float) → ((i : ℕ) → i < n → f i ≡ x) → up_to f n ≡ replicate n x
+up_to_same f n x e =
+    ext_get_or nan (up_to f n) (replicate n x) (up_to_length f n ∙ sym (length-replicate n x))
+    (λ i l. let h : i < n = omega (arith, up_to_length f n) in up_to_at f n i h ∙ e i h ∙ sym (get_or-replicate n i x nan h))

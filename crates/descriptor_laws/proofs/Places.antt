@@ -14,7 +14,7 @@ use Rattle.ieee.specs.Numbers.{nought}
 use Rattle.descriptor_patch.specs.declared.Sample.{Sample}
 use Rattle.descriptor_values.specs.Places.{places, place}
 use Rattle.descriptor_shares.specs.Sharing.{spread_of}
-use Rattle.descriptor_grid.specs.Grid.{addAt, pair_at, when, live, scattered, gatheredIn}
+use Rattle.descriptor_grid.specs.Grid.{add_at, pair_at, when, live, scattered, gathered_in}
 use Rattle.descriptor_shares.specs.Reach.{Inside}
 use Rattle.descriptor_shares.specs.declared.Spread.{Spread}
 use Rattle.lists.specs.Each.{Each, none, more}
@@ -30,44 +30,44 @@ pub record Adds (P : Float → Type 0) (a : Float) : Type 0 where
   pub kept : (x : Float) → P x → P (x ⊕ a)
 
 module _ {P : Float → Type 0} where
-  add_at : {h : List Float} (i : ℕ) {a : Float} → i < places → Adds P a → Places P h → Places P (addAt h i a)
-  add_at {h} i {a} l f p =
+  add_at_lem : {h : List Float} (i : ℕ) {a : Float} → i < places → Adds P a → Places P h → Places P (add_at h i a)
+  add_at_lem {h} i {a} l f p =
       record { count = length-set h i (get_or h i nan ⊕ a) ∙ p.count; each = λ j m. go j m (eqb j i) refl }
     where
-      go : (j : ℕ) → j < places → (b : Bool) → eqb j i ≡ b → P (get_or (addAt h i a) j nan)
+      go : (j : ℕ) → j < places → (b : Bool) → eqb j i ≡ b → P (get_or (add_at h i a) j nan)
       go j m true e =
           subst P
-          (sym (ap (λ (k : ℕ). get_or (addAt h i a) k nan) (eqb-true j i e) ∙ get_or-set_same h i (get_or h i nan ⊕ a) nan (rw p.count l)))
+          (sym (ap (λ (k : ℕ). get_or (add_at h i a) k nan) (eqb-true j i e) ∙ get_or-set_same h i (get_or h i nan ⊕ a) nan (rw p.count l)))
           (f.kept (get_or h i nan) (p.each i l))
       go j m false e = subst P (sym (get_or-set_other h i j (get_or h i nan ⊕ a) nan (eqb-false j i e))) (p.each j m)
 
-  pair-at : {h : List Float} (i : ℕ) {a b : Float} → i + 1 < places → Adds P a → Adds P b → Places P h → Places P (pair_at h i a b)
+  pair_at_lem : {h : List Float} (i : ℕ) {a b : Float} → i + 1 < places → Adds P a → Adds P b → Places P h → Places P (pair_at h i a b)
   unfolding pair_at
-  pair-at i l f g p = add_at (i + 1) l g (add_at i (omega arith) f p)
+  pair_at_lem i l f g p = add_at_lem (i + 1) l g (add_at_lem i (omega arith) f p)
 
-  when-kept : (t : Bool) {h : List Float} (i : ℕ) {a b : Float} → i + 1 < places → Adds P a → Adds P b → Places P h → Places P (when t h i a b)
+  when_kept : (t : Bool) {h : List Float} (i : ℕ) {a b : Float} → i + 1 < places → Adds P a → Adds P b → Places P h → Places P (when t h i a b)
   unfolding when
-  when-kept true i l f g p = pair-at i l f g p
-  when-kept false i l f g p = p
+  when_kept true i l f g p = pair_at_lem i l f g p
+  when_kept false i l f g p = p
 
-  pub scattered-kept : {h : List Float} (p : Spread) → Inside p → Eight (Adds P) p.shares → Places P h → Places P (scattered h p)
+  pub scattered_kept : {h : List Float} (p : Spread) → Inside p → Eight (Adds P) p.shares → Places P h → Places P (scattered h p)
   unfolding scattered
-  scattered-kept p i s q =
+  scattered_kept p i s q =
       let a = i.row in
       let b = i.col in
       let c = i.slot in
-      when-kept (live (p.row + 1) && live (p.col + 1)) (place (p.row + 1) (p.col + 1) p.slot) (omega arith) s.v110 s.v111
-      (when-kept (live (p.row + 1) && live p.col) (place (p.row + 1) p.col p.slot) (omega arith) s.v100 s.v101
-      (when-kept (live p.row && live (p.col + 1)) (place p.row (p.col + 1) p.slot) (omega arith) s.v010 s.v011
-      (when-kept (live p.row && live p.col) (place p.row p.col p.slot) (omega arith) s.v000 s.v001 q)))
+      when_kept (live (p.row + 1) && live (p.col + 1)) (place (p.row + 1) (p.col + 1) p.slot) (omega arith) s.v110 s.v111
+      (when_kept (live (p.row + 1) && live p.col) (place (p.row + 1) p.col p.slot) (omega arith) s.v100 s.v101
+      (when_kept (live p.row && live (p.col + 1)) (place p.row (p.col + 1) p.slot) (omega arith) s.v010 s.v011
+      (when_kept (live p.row && live p.col) (place p.row p.col p.slot) (omega arith) s.v000 s.v001 q)))
 
   -- sample by sample
-  pub gathered-kept : {Q : Sample → Type 0} (angle : Float) {h : List Float} {ss : List Sample}
-      → ((s : Sample) → Q s → Inside (spread_of angle s) × Eight (Adds P) (spread_of angle s).shares) → Each Q ss → Places P h → Places P (gatheredIn angle h ss)
-  unfolding gatheredIn
-  gathered-kept angle f none p = p
-  gathered-kept angle f (more {x = s} q qs) p =
-      let g = f s q in gathered-kept angle f qs (scattered-kept (spread_of angle s) g.0 g.1 p)
+  pub gathered_kept : {Q : Sample → Type 0} (angle : Float) {h : List Float} {ss : List Sample}
+      → ((s : Sample) → Q s → Inside (spread_of angle s) × Eight (Adds P) (spread_of angle s).shares) → Each Q ss → Places P h → Places P (gathered_in angle h ss)
+  unfolding gathered_in
+  gathered_kept angle f none p = p
+  gathered_kept angle f (more {x = s} q qs) p =
+      let g = f s q in gathered_kept angle f qs (scattered_kept (spread_of angle s) g.0 g.1 p)
 
 pub places_of : {P : Float → Type 0} → P nought → Places P (replicate places nought)
 places_of {P} p =
@@ -80,20 +80,20 @@ places_same {h} p =
 
 -- ---- the number of places
 
-pair-length : (h : List Float) (i : ℕ) (a b : Float) → length (pair_at h i a b) ≡ length h
+pair_length : (h : List Float) (i : ℕ) (a b : Float) → length (pair_at h i a b) ≡ length h
 unfolding pair_at
-pair-length h i a b = simp length-set
+pair_length h i a b = simp length-set
 
-when-length : (t : Bool) (h : List Float) (i : ℕ) (a b : Float) → length (when t h i a b) ≡ length h
+when_length : (t : Bool) (h : List Float) (i : ℕ) (a b : Float) → length (when t h i a b) ≡ length h
 unfolding when
-when-length true h i a b = pair-length h i a b
-when-length false h i a b = refl
+when_length true h i a b = pair_length h i a b
+when_length false h i a b = refl
 
-scattered-length : (h : List Float) (p : Spread) → length (scattered h p) ≡ length h
+scattered_length : (h : List Float) (p : Spread) → length (scattered h p) ≡ length h
 unfolding scattered
-scattered-length h p = simp when-length
+scattered_length h p = simp when_length
 
-pub gathered-length : (angle : Float) (h : List Float) (ss : List Sample) → length (gatheredIn angle h ss) ≡ length h
-unfolding gatheredIn
-gathered-length angle h [] = refl
-gathered-length angle h (s ∷ ss) = gathered-length angle (scattered h (spread_of angle s)) ss ∙ scattered-length h (spread_of angle s)
+pub gathered_length : (angle : Float) (h : List Float) (ss : List Sample) → length (gathered_in angle h ss) ≡ length h
+unfolding gathered_in
+gathered_length angle h [] = refl
+gathered_length angle h (s ∷ ss) = gathered_length angle (scattered h (spread_of angle s)) ss ∙ scattered_length h (spread_of angle s)

@@ -10,15 +10,15 @@ use lib.IntN.{ℤ, pos}
 use lib.Ieee.{Float, nan, inf, fin, binary32, up, down, sum, of_bits, of_int, add, mul, div, lt, le, eq, is_nan}
 use lib.Ieee.Nearest.{closest}
 use lib.Ieee.Scale.{finite}
-use Rattle.ieee.specs.F32.{◌⊕◌, ◌⊗◌, ◌⊘◌, ◌≤ᶠ◌, ◌=ᶠ◌, fused, rootOf, rounded, absOf}
+use Rattle.ieee.specs.F32.{◌⊕◌, ◌⊗◌, ◌⊘◌, ◌≤ᶠ◌, ◌=ᶠ◌, fused, root_of, rounded, abs_of}
 use Rattle.ieee.specs.Fused.{fma}
 use Rattle.ieee.specs.Root.{halves, sqrt}
-use Rattle.ieee.specs.Whole.{roundEven}
-use Rattle.ieee.specs.Numbers.{nought, epsilon, topByte}
-use Rattle.ieee_laws.proofs.Order.{Marked, endless, ended, round-marked, le-or-lt-float, lt_not_le, lt-le, lt-le-trans}
-use Rattle.ieee_laws.proofs.Monotone.{nil, Above, above_zero, div-le-right, ofInt-le}
-use Rattle.bounds.specs.Bounds.{max_of, minOf, clampOf}
-use Rattle.descriptor_values.specs.Values.{clampRatio, factor}
+use Rattle.ieee.specs.Whole.{round_even}
+use Rattle.ieee.specs.Numbers.{nought, epsilon, top_byte}
+use Rattle.ieee_laws.proofs.Order.{Marked, endless, ended, round_marked, le_or_lt_float, lt_not_le, lt_le, lt_le_trans}
+use Rattle.ieee_laws.proofs.Monotone.{nil, Above, above_zero, div_le_right, of_int_le}
+use Rattle.bounds.specs.Bounds.{max_of, min_of, clamp_of}
+use Rattle.descriptor_values.specs.Values.{clamp_ratio, factor}
 use Rattle.descriptor_laws.specs.ValuesRules.{Byte}
 
 -- finite, with no minus sign
@@ -26,157 +26,157 @@ pub data Plain : Float → Type 0 where
   plain : {m : ℕ} {e : ℤ} → Plain (fin false m e)
 
 -- what has no minus sign and is not above a finite number
-pub marked-plain : {x : Float} (y : Float) → Marked false x → finite y ≡ true → le x y ≡ true → Plain x
+pub marked_plain : {x : Float} (y : Float) → Marked false x → finite y ≡ true → le x y ≡ true → Plain x
 unfolding le
-marked-plain y ended f h = plain
-marked-plain nan endless f h = absurd (false≢true f)
-marked-plain (inf s) endless f h = absurd (false≢true f)
-marked-plain (fin s m e) endless f h = absurd (false≢true h)
+marked_plain y ended f h = plain
+marked_plain nan endless f h = absurd (false≢true f)
+marked_plain (inf s) endless f h = absurd (false≢true f)
+marked_plain (fin s m e) endless f h = absurd (false≢true h)
 
-pub abs-marked : (x : Float) → absOf x ≡ x → T (not (is_nan x)) → Marked false x
-unfolding absOf is_nan
-abs-marked nan e t = absurd t
-abs-marked (inf s) e t = subst (Marked false) e endless
-abs-marked (fin s m d) e t = subst (Marked false) e ended
+pub abs_marked : (x : Float) → abs_of x ≡ x → T (not (is_nan x)) → Marked false x
+unfolding abs_of is_nan
+abs_marked nan e t = absurd t
+abs_marked (inf s) e t = subst (Marked false) e endless
+abs_marked (fin s m d) e t = subst (Marked false) e ended
 
 -- ---- the steps
 
-pub add-marked : {x y : Float} → Marked false x → Marked false y → Marked false (x ⊕ y)
+pub add_marked : {x y : Float} → Marked false x → Marked false y → Marked false (x ⊕ y)
 unfolding add sum
-add-marked endless endless = endless
-add-marked endless ended = endless
-add-marked ended endless = endless
-add-marked (ended {m = m} {e = e}) (ended {m = n} {e = d}) = round-marked binary32 false (m * up e * down d + n * up d * down e) (down e * down d)
+add_marked endless endless = endless
+add_marked endless ended = endless
+add_marked ended endless = endless
+add_marked (ended {m = m} {e = e}) (ended {m = n} {e = d}) = round_marked binary32 false (m * up e * down d + n * up d * down e) (down e * down d)
 
-pub fused-marked : {x z : Float} → Plain x → Marked false z → Marked false (fused x x z)
+pub fused_marked : {x z : Float} → Plain x → Marked false z → Marked false (fused x x z)
 unfolding fma sum
-fused-marked plain endless = endless
-fused-marked (plain {m = m} {e = e}) (ended {m = n} {e = d}) = round-marked binary32 false (m * up e * (m * up e) * down d + n * up d * (down e * down e)) (down e * down e * down d)
+fused_marked plain endless = endless
+fused_marked (plain {m = m} {e = e}) (ended {m = n} {e = d}) = round_marked binary32 false (m * up e * (m * up e) * down d + n * up d * (down e * down e)) (down e * down e * down d)
 
-pub root-marked : {x : Float} → Marked false x → Marked false (rootOf x)
+pub root_marked : {x : Float} → Marked false x → Marked false (root_of x)
 unfolding sqrt
-root-marked endless = endless
-root-marked (ended {m = zero}) = ended
-root-marked (ended {m = suc m} {e = e}) = round-marked binary32 false (halves (suc m * up e * 4 ^ 149 / down e)) (2 * 2 ^ 149)
+root_marked endless = endless
+root_marked (ended {m = zero}) = ended
+root_marked (ended {m = suc m} {e = e}) = round_marked binary32 false (halves (suc m * up e * 4 ^ 149 / down e)) (2 * 2 ^ 149)
 
-pub mul-marked : {x y : Float} → Plain x → Plain y → Marked false (x ⊗ y)
+pub mul_marked : {x y : Float} → Plain x → Plain y → Marked false (x ⊗ y)
 unfolding mul
-mul-marked (plain {m = m} {e = e}) (plain {m = n} {e = d}) = round-marked binary32 false (m * up e * (n * up d)) (down e * down d)
+mul_marked (plain {m = m} {e = e}) (plain {m = n} {e = d}) = round_marked binary32 false (m * up e * (n * up d)) (down e * down d)
 
-ratio-plain : Plain clampRatio
+ratio_plain : Plain clamp_ratio
 unfolding of_bits
-ratio-plain = plain
+ratio_plain = plain
 
-pub limit-marked : {x : Float} → Marked false x → Marked false (x ⊗ clampRatio)
-limit-marked endless = unfold mul of_bits in endless
-limit-marked ended = mul-marked plain ratio-plain
+pub limit_marked : {x : Float} → Marked false x → Marked false (x ⊗ clamp_ratio)
+limit_marked endless = unfold mul of_bits in endless
+limit_marked ended = mul_marked plain ratio_plain
 
-pub plain-finite : {x : Float} → Plain x → finite x ≡ true
-plain-finite plain = refl
+pub plain_finite : {x : Float} → Plain x → finite x ≡ true
+plain_finite plain = refl
 
-plain-level : {x : Float} → Plain x → (x =ᶠ x) ≡ true
+plain_level : {x : Float} → Plain x → (x =ᶠ x) ≡ true
 unfolding eq
-plain-level (plain {m = m} {e = e}) = rw (eq-eqb (m * up e * down e) (m * up e * down e) refl)
+plain_level (plain {m = m} {e = e}) = rw (eq-eqb (m * up e * down e) (m * up e * down e) refl)
 
 -- the lesser of two, the first finite
-pub min-plain : {x y : Float} → Plain x → Marked false y → Plain (minOf x y)
-unfolding minOf
-min-plain {x} {y} p q = go (y ≤ᶠ x) refl
+pub min_plain : {x y : Float} → Plain x → Marked false y → Plain (min_of x y)
+unfolding min_of
+min_plain {x} {y} p q = go (y ≤ᶠ x) refl
   where
     go : (b : Bool) → (y ≤ᶠ x) ≡ b → Plain (cond b y (cond (x =ᶠ x) x y))
-    go true e = marked-plain x q (plain-finite p) e
-    go false e = rw (plain-level p) p
+    go true e = marked_plain x q (plain_finite p) e
+    go false e = rw (plain_level p) p
 
 -- ---- 512 over what is at least epsilon
 
-least-is : (finite factor ≡ true) × (finite epsilon ≡ true) × (le nil factor ≡ true) × (lt nil epsilon ≡ true) × (finite (factor ⊘ epsilon) ≡ true)
+least_is : (finite factor ≡ true) × (finite epsilon ≡ true) × (le nil factor ≡ true) × (lt nil epsilon ≡ true) × (finite (factor ⊘ epsilon) ≡ true)
 unfolding of_bits le lt div
-least-is = (refl, refl, refl, refl, refl)
+least_is = (refl, refl, refl, refl, refl)
 
-over-least : Plain (factor ⊘ epsilon)
+over_least : Plain (factor ⊘ epsilon)
 unfolding of_bits div
-over-least = plain
+over_least = plain
 
 -- the quotient by what is above zero
-div-marked : {x : Float} (t : Bool) (n : ℕ) (d : ℤ) → Above n t → Plain x → Marked false (x ⊘ fin t n d)
+div_marked : {x : Float} (t : Bool) (n : ℕ) (d : ℤ) → Above n t → Plain x → Marked false (x ⊘ fin t n d)
 unfolding div
-div-marked t n d a (plain {m = m} {e = e}) = rw (a.sign, ne_eqb n 0 (λ z. let p = a.size in omega arith)) (round-marked binary32 false (m * up e * down d) (n * up d * down e))
+div_marked t n d a (plain {m = m} {e = e}) = rw (a.sign, ne_eqb n 0 (λ z. let p = a.size in omega arith)) (round_marked binary32 false (m * up e * down d) (n * up d * down e))
 
-factor-plain : Plain factor
+factor_plain : Plain factor
 unfolding of_bits
-factor-plain = plain
+factor_plain = plain
 
-over-marked : (r : Float) → lt nil r ≡ true → Marked false (factor ⊘ r)
+over_marked : (r : Float) → lt nil r ≡ true → Marked false (factor ⊘ r)
 unfolding lt
-over-marked nan h = absurd (false≢true h)
-over-marked (inf true) h = absurd (false≢true h)
-over-marked (inf false) h = unfold div of_bits in ended
-over-marked (fin t n d) h = div-marked t n d (above_zero t n d h) factor-plain
+over_marked nan h = absurd (false≢true h)
+over_marked (inf true) h = absurd (false≢true h)
+over_marked (inf false) h = unfold div of_bits in ended
+over_marked (fin t n d) h = div_marked t n d (above_zero t n d h) factor_plain
 
-over-finite : (r : Float) → lt epsilon r ≡ true → lt nil r ≡ true → Plain (factor ⊘ r)
+over_finite : (r : Float) → lt epsilon r ≡ true → lt nil r ≡ true → Plain (factor ⊘ r)
 unfolding lt
-over-finite nan h k = absurd (false≢true k)
-over-finite (inf true) h k = absurd (false≢true k)
-over-finite (inf false) h k = unfold div of_bits in plain
-over-finite (fin t n d) h k =
-    marked-plain (factor ⊘ epsilon) (over-marked (fin t n d) k) least-is.4
-    (div-le-right binary32 factor epsilon (fin t n d) least-is.0 least-is.1 refl least-is.2 least-is.3 (lt-le epsilon (fin t n d) h))
+over_finite nan h k = absurd (false≢true k)
+over_finite (inf true) h k = absurd (false≢true k)
+over_finite (inf false) h k = unfold div of_bits in plain
+over_finite (fin t n d) h k =
+    marked_plain (factor ⊘ epsilon) (over_marked (fin t n d) k) least_is.4
+    (div_le_right binary32 factor epsilon (fin t n d) least_is.0 least_is.1 refl least_is.2 least_is.3 (lt_le epsilon (fin t n d) h))
 
-over-more : (r : Float) → lt epsilon r ≡ true → Plain (factor ⊘ r)
-over-more r h = over-finite r h (lt-le-trans nil epsilon r least-is.3 (lt-le epsilon r h))
+over_more : (r : Float) → lt epsilon r ≡ true → Plain (factor ⊘ r)
+over_more r h = over_finite r h (lt_le_trans nil epsilon r least_is.3 (lt_le epsilon r h))
 
-level-number : (r : Float) → (r =ᶠ r) ≡ true → T (not (is_nan r))
+level_number : (r : Float) → (r =ᶠ r) ≡ true → T (not (is_nan r))
 unfolding eq is_nan
-level-number nan e = absurd (false≢true e)
-level-number (inf s) e = tt
-level-number (fin s m e') e = tt
+level_number nan e = absurd (false≢true e)
+level_number (inf s) e = tt
+level_number (fin s m e') e = tt
 
-least-number : T (not (is_nan epsilon))
+least_number : T (not (is_nan epsilon))
 unfolding of_bits is_nan
-least-number = tt
+least_number = tt
 
-pub scale-plain : (r : Float) → Plain (factor ⊘ max_of r epsilon)
+pub scale_plain : (r : Float) → Plain (factor ⊘ max_of r epsilon)
 unfolding max_of
-scale-plain r = go (r ≤ᶠ epsilon) refl
+scale_plain r = go (r ≤ᶠ epsilon) refl
   where
     more : (b : Bool) → (r =ᶠ r) ≡ b → (r ≤ᶠ epsilon) ≡ false → Plain (factor ⊘ cond b r epsilon)
-    more true e h = over-more r (⊎_elim (λ l. absurd (true≢false (sym l ∙ h))) (λ l. l) (le-or-lt-float r epsilon (level-number r e) least-number))
-    more false e h = over-least
+    more true e h = over_more r (⊎_elim (λ l. absurd (true≢false (sym l ∙ h))) (λ l. l) (le_or_lt_float r epsilon (level_number r e) least_number))
+    more false e h = over_least
 
     go : (b : Bool) → (r ≤ᶠ epsilon) ≡ b → Plain (factor ⊘ cond b epsilon (cond (r =ᶠ r) r epsilon))
-    go true e = over-least
+    go true e = over_least
     go false e = more (r =ᶠ r) refl e
 
 -- ---- rounded and held
 
-full_is : (topByte ≡ of_int binary32 (pos 255)) × (lt topByte (of_int binary32 (pos 256)) ≡ true) × (nought ≡ of_int binary32 (pos 0))
+full_is : (top_byte ≡ of_int binary32 (pos 255)) × (lt top_byte (of_int binary32 (pos 256)) ≡ true) × (nought ≡ of_int binary32 (pos 0))
 unfolding of_bits of_int lt
 full_is = (refl, refl, refl)
 
-not-below : (k : ℕ) → lt (of_int binary32 (pos k)) nought ≡ false
-not-below k = go (lt (of_int binary32 (pos k)) nought) refl
+not_below : (k : ℕ) → lt (of_int binary32 (pos k)) nought ≡ false
+not_below k = go (lt (of_int binary32 (pos k)) nought) refl
   where
     go : (b : Bool) → lt (of_int binary32 (pos k)) nought ≡ b → b ≡ false
-    go true e = absurd (lt_not_le (of_int binary32 (pos k)) nought e (rw full_is.2 (ofInt-le binary32 0 k (omega arith))))
+    go true e = absurd (lt_not_le (of_int binary32 (pos k)) nought e (rw full_is.2 (of_int_le binary32 0 k (omega arith))))
     go false e = refl
 
-held : (k : ℕ) → Byte (clampOf (of_int binary32 (pos k)) nought topByte)
-unfolding clampOf
-held k = rw (not-below k) (go (lt topByte (of_int binary32 (pos k))) refl)
+held : (k : ℕ) → Byte (clamp_of (of_int binary32 (pos k)) nought top_byte)
+unfolding clamp_of
+held k = rw (not_below k) (go (lt top_byte (of_int binary32 (pos k))) refl)
   where
-    small : lt topByte (of_int binary32 (pos k)) ≡ false → (b : Bool) → leb 256 k ≡ b → k ≤ 255
-    small e true h = absurd (true≢false (sym (lt-le-trans topByte (of_int binary32 (pos 256)) (of_int binary32 (pos k)) full_is.1 (ofInt-le binary32 256 k (leb-true 256 k h))) ∙ e))
+    small : lt top_byte (of_int binary32 (pos k)) ≡ false → (b : Bool) → leb 256 k ≡ b → k ≤ 255
+    small e true h = absurd (true≢false (sym (lt_le_trans top_byte (of_int binary32 (pos 256)) (of_int binary32 (pos k)) full_is.1 (of_int_le binary32 256 k (leb-true 256 k h))) ∙ e))
     small e false h = let l = leb-false 256 k h in omega arith
 
-    go : (b : Bool) → lt topByte (of_int binary32 (pos k)) ≡ b → Byte (cond b topByte (of_int binary32 (pos k)))
+    go : (b : Bool) → lt top_byte (of_int binary32 (pos k)) ≡ b → Byte (cond b top_byte (of_int binary32 (pos k)))
     go true e = record { number = 255; small = omega arith; is = full_is.0 }
     go false e = record { number = k; small = small e (leb 256 k) refl; is = refl }
 
-end-held : Byte (clampOf (inf false) nought topByte)
-unfolding clampOf of_bits lt
-end-held = record { number = 255; small = omega arith; is = full_is.0 }
+end_held : Byte (clamp_of (inf false) nought top_byte)
+unfolding clamp_of of_bits lt
+end_held = record { number = 255; small = omega arith; is = full_is.0 }
 
-pub held-byte : {x : Float} → Marked false x → Byte (clampOf (rounded x) nought topByte)
-unfolding roundEven of_int
-held-byte endless = end-held
-held-byte (ended {m = m} {e = e}) = held (closest (m * up e) (down e))
+pub held_byte : {x : Float} → Marked false x → Byte (clamp_of (rounded x) nought top_byte)
+unfolding round_even of_int
+held_byte endless = end_held
+held_byte (ended {m = m} {e = e}) = held (closest (m * up e) (down e))

@@ -3,7 +3,7 @@ use Rattle.std.specs.Prelude.{ℕ, ◌<◌, ◌≡◌, true, List, length, get_o
 use Rattle.std.specs.Float.{nan}
 use Rattle.ieee.specs.F32.{◌=ᶠ◌, f32}
 use Rattle.ieee.specs.Numbers.{nought}
-use Rattle.hal.specs.Exp.{inDown}
+use Rattle.hal.specs.Exp.{in_down}
 use Rattle.hal.specs.Rules.{In}
 use Rattle.lists.specs.Each.{Each}
 use Rattle.descriptor_patch.specs.declared.Sample.{Sample}
@@ -15,8 +15,8 @@ use Rattle.descriptor_shares.specs.Reach.{Lands, Inside}
 use Rattle.descriptor_shares.specs.declared.Shares.{Shares}
 
 -- 2 ^ 22
-abbrev pub mostShare : Float
-mostShare = f32 0x4a80_0000
+abbrev pub most_share : Float
+most_share = f32 0x4a80_0000
 
 -- P of each of eight shares
 pub record Eight (P : Float → Type 0) (s : Shares) : Type 0 where
@@ -32,7 +32,7 @@ pub record Eight (P : Float → Type 0) (s : Shares) : Type 0 where
 -- a sample that can be added, and whose weight is asked inside the range of exp
 pub record Counts (angle : Float) (s : Sample) : Type 0 where
   pub lands : Lands angle s
-  pub fall : inDown s.fall ≡ true
+  pub fall : in_down s.fall ≡ true
 
 -- the same, and the picture is level about it: no slope, whichever sign the zeros have
 pub record Flat (angle : Float) (s : Sample) : Type 0 where
@@ -44,7 +44,7 @@ pub record GridRule : Type 0 where
   -- rows and columns 0 to 4, slots 0 to 7: none of the eight places leaves the histogram
   pub inside : (angle : Float) (s : Sample) → Lands angle s → Inside (spread_of angle s)
   -- every share lies in 0 to 2 ^ 22
-  pub shares : (angle : Float) (s : Sample) → Counts angle s → Eight (In nought mostShare) (spread_of angle s).shares
+  pub shares : (angle : Float) (s : Sample) → Counts angle s → Eight (In nought most_share) (spread_of angle s).shares
   -- 360 places
   pub count : (angle : Float) (ss : List Sample) → length (gathered angle ss) ≡ places
   -- each holds 0 to 2 ^ 46, however many samples there are, and no minus zero

@@ -3,118 +3,118 @@ use Rattle.std.proofs.Common.{◌≡◌, ℕ, zero, suc, ◌*◌, ◌/◌, ◌^�
 use mathlib.Core.Bool.{false≢true}
 use lib.Ieee.{Float, nan, inf, fin, binary32, up, down, of_bits, of_int, add, mul, lt, le, to_unsigned, is_nan}
 use Rattle.lists.proofs.Bools.{is_T}
-use Rattle.ieee.specs.F32.{◌⊕◌, ◌⊗◌, f32, rounded, rootOf, float}
+use Rattle.ieee.specs.F32.{◌⊕◌, ◌⊗◌, f32, rounded, root_of, float}
 use Rattle.ieee.specs.Root.{sqrt, halves}
-use Rattle.ieee.specs.Whole.{roundEven}
+use Rattle.ieee.specs.Whole.{round_even}
 use Rattle.ieee.specs.Numbers.{half, three, five, root2}
-use Rattle.ieee_laws.proofs.Order.{le-or-lt-float, le-number, lt-le, lt-le-trans, round-marked}
-use Rattle.ieee_laws.proofs.Monotone.{nil, above_zero, toUnsigned-le}
-use Rattle.ieee_laws.proofs.Bounds.{Bounds, bounds-point, bounds-above, add-bounds, mul-bounds, roundEven-bounds, ofInt-bounds, marked-nonneg}
+use Rattle.ieee_laws.proofs.Order.{le_or_lt_float, le_number, lt_le, lt_le_trans, round_marked}
+use Rattle.ieee_laws.proofs.Monotone.{nil, above_zero, to_unsigned_le}
+use Rattle.ieee_laws.proofs.Bounds.{Bounds, bounds_point, bounds_above, add_bounds, mul_bounds, round_even_bounds, of_int_bounds, marked_nonneg}
 use Rattle.ieee_laws.proofs.Cuts.{Cuts, cuts}
-use Rattle.params.specs.Limits.{maxSide, scaleLow, scaleHigh}
+use Rattle.params.specs.Limits.{max_side, scale_low, scale_high}
 use Rattle.params.specs.Table.{within}
-use Rattle.params.proofs.Within.{scale-bounds}
+use Rattle.params.proofs.Within.{scale_bounds}
 use Rattle.picture.specs.declared.Size.{Size}
-use Rattle.descriptor_patch.specs.Patch.{histWidth, reachOf, diagonalOf, radiusOf}
-use Rattle.descriptor_patch.specs.Place.{maxRadius, Sides}
+use Rattle.descriptor_patch.specs.Patch.{hist_width, reach_of, diagonal_of, radius_of}
+use Rattle.descriptor_patch.specs.Place.{max_radius, Sides}
 
 -- ---- the reach
 
 abbrev reach : Float → Float
 reach s = rounded (three ⊗ s ⊗ root2 ⊗ five ⊗ half)
 
-reach-bounds : (s : Float) → within scaleLow scaleHigh s ≡ true → Bounds (reach scaleLow) (reach scaleHigh) (reach s)
-unfolding of_bits mul le roundEven
-reach-bounds s h =
-    let a = mul-bounds binary32 refl refl refl refl (bounds-point three refl) (scale-bounds s h) in
-    let b = mul-bounds binary32 refl refl refl refl a (bounds-point root2 refl) in
-    let c = mul-bounds binary32 refl refl refl refl b (bounds-point five refl) in
-    let d = mul-bounds binary32 refl refl refl refl c (bounds-point half refl) in
-    roundEven-bounds binary32 refl refl d
+reach_bounds : (s : Float) → within scale_low scale_high s ≡ true → Bounds (reach scale_low) (reach scale_high) (reach s)
+unfolding of_bits mul le round_even
+reach_bounds s h =
+    let a = mul_bounds binary32 refl refl refl refl (bounds_point three refl) (scale_bounds s h) in
+    let b = mul_bounds binary32 refl refl refl refl a (bounds_point root2 refl) in
+    let c = mul_bounds binary32 refl refl refl refl b (bounds_point five refl) in
+    let d = mul_bounds binary32 refl refl refl refl c (bounds_point half refl) in
+    round_even_bounds binary32 refl refl d
 
-farthest : to_unsigned 64 (reach scaleHigh) ≡ maxRadius
-unfolding of_bits mul roundEven to_unsigned
+farthest : to_unsigned 64 (reach scale_high) ≡ max_radius
+unfolding of_bits mul round_even to_unsigned
 farthest = refl
 
-pub reach-cuts : (s : Float) → within scaleLow scaleHigh s ≡ true → Cuts maxRadius (reach s)
-unfolding of_bits mul lt roundEven
-reach-cuts s h = cuts maxRadius refl refl (omega (arith, farthest)) (reach-bounds s h)
+pub reach_cuts : (s : Float) → within scale_low scale_high s ≡ true → Cuts max_radius (reach s)
+unfolding of_bits mul lt round_even
+reach_cuts s h = cuts max_radius refl refl (omega (arith, farthest)) (reach_bounds s h)
 
-pub reach-small : (s : Float) → within scaleLow scaleHigh s ≡ true → reachOf s ≤ maxRadius
-unfolding reachOf histWidth
-reach-small s h = (reach-cuts s h).size
+pub reach_small : (s : Float) → within scale_low scale_high s ≡ true → reach_of s ≤ max_radius
+unfolding reach_of hist_width
+reach_small s h = (reach_cuts s h).size
 
 -- ---- the diagonal
 
-root-nonneg : (x : Float) → lt nil x ≡ true → le nil (rootOf x) ≡ true
+root_nonneg : (x : Float) → lt nil x ≡ true → le nil (root_of x) ≡ true
 unfolding sqrt lt le
-root-nonneg nan h = absurd (false≢true h)
-root-nonneg (inf true) h = absurd (false≢true h)
-root-nonneg (inf false) h = refl
-root-nonneg (fin s zero e) h = absurd (omega (arith, (above_zero s zero e h).size))
-root-nonneg (fin true (suc m) e) h = absurd (false≢true (sym (above_zero true (suc m) e h).sign))
-root-nonneg (fin false (suc m) e) h = marked-nonneg (round-marked binary32 false (halves (suc m * up e * 4 ^ 149 / down e)) (2 * 2 ^ 149))
+root_nonneg nan h = absurd (false≢true h)
+root_nonneg (inf true) h = absurd (false≢true h)
+root_nonneg (inf false) h = refl
+root_nonneg (fin s zero e) h = absurd (omega (arith, (above_zero s zero e h).size))
+root_nonneg (fin true (suc m) e) h = absurd (false≢true (sym (above_zero true (suc m) e h).sign))
+root_nonneg (fin false (suc m) e) h = marked_nonneg (round_marked binary32 false (halves (suc m * up e * 4 ^ 149 / down e)) (2 * 2 ^ 149))
 
-float-bounds : (n : ℕ) → 1 ≤ n → n ≤ maxSide → Bounds (float 1) (float maxSide) (float n)
+float_bounds : (n : ℕ) → 1 ≤ n → n ≤ max_side → Bounds (float 1) (float max_side) (float n)
 unfolding of_int
-float-bounds n a b = ofInt-bounds binary32 1 maxSide n refl refl a b
+float_bounds n a b = of_int_bounds binary32 1 max_side n refl refl a b
 
-square-bounds : (n : ℕ) → 1 ≤ n → n ≤ maxSide → Bounds (float 1 ⊗ float 1) (float maxSide ⊗ float maxSide) (float n ⊗ float n)
+square_bounds : (n : ℕ) → 1 ≤ n → n ≤ max_side → Bounds (float 1 ⊗ float 1) (float max_side ⊗ float max_side) (float n ⊗ float n)
 unfolding of_int mul le
-square-bounds n a b = mul-bounds binary32 refl refl refl refl (float-bounds n a b) (float-bounds n a b)
+square_bounds n a b = mul_bounds binary32 refl refl refl refl (float_bounds n a b) (float_bounds n a b)
 
-diagonal-nonneg : (s : Size) → Sides s → le nil (diagonalOf s) ≡ true
-unfolding diagonalOf of_int mul add lt
-diagonal-nonneg s p =
-    root-nonneg _
-    (bounds-above (add-bounds binary32 refl refl (square-bounds s.width p.some-cols p.wide) (square-bounds s.height p.some-rows p.high)) refl)
+diagonal_nonneg : (s : Size) → Sides s → le nil (diagonal_of s) ≡ true
+unfolding diagonal_of of_int mul add lt
+diagonal_nonneg s p =
+    root_nonneg _
+    (bounds_above (add_bounds binary32 refl refl (square_bounds s.width p.some_cols p.wide) (square_bounds s.height p.some_rows p.high)) refl)
 
 abbrev far : Float
 far = f32 0x4480_0000
 
-far-number : T (not (is_nan far))
+far_number : T (not (is_nan far))
 unfolding of_bits is_nan
-far-number = tt
+far_number = tt
 
 -- cut, so many cells
-abbrev farCells : ℕ
-farCells = 1024
+abbrev far_cells : ℕ
+far_cells = 1024
 
-far-cut : to_unsigned 64 far ≡ farCells
+far_cut : to_unsigned 64 far ≡ far_cells
 unfolding of_bits to_unsigned
-far-cut = refl
+far_cut = refl
 
-pub diagonal-cuts : (s : Size) → Sides s → lt (diagonalOf s) far ≡ true → Cuts farCells (diagonalOf s)
+pub diagonal_cuts : (s : Size) → Sides s → lt (diagonal_of s) far ≡ true → Cuts far_cells (diagonal_of s)
 unfolding of_bits lt le
-diagonal-cuts s p k =
+diagonal_cuts s p k =
     record {
-      above = is_T _ (lt-le-trans (fin true 1 (pos 0)) nil (diagonalOf s) refl (diagonal-nonneg s p));
-      below = is_T _ (lt-le-trans (diagonalOf s) far (fin false 1 (pos 64)) k refl);
-      size = omega (arith, toUnsigned-le 64 (diagonalOf s) far (lt-le (diagonalOf s) far k), far-cut);
+      above = is_T _ (lt_le_trans (fin true 1 (pos 0)) nil (diagonal_of s) refl (diagonal_nonneg s p));
+      below = is_T _ (lt_le_trans (diagonal_of s) far (fin false 1 (pos 64)) k refl);
+      size = omega (arith, to_unsigned_le 64 (diagonal_of s) far (lt_le (diagonal_of s) far k), far_cut);
     }
 
-diagonal-far : (s : Size) (r : ℕ) → Sides s → r ≤ maxRadius → lt (diagonalOf s) far ≡ false → r ≡ min r (to_unsigned 64 (diagonalOf s))
-diagonal-far s r p k e =
+diagonal_far : (s : Size) (r : ℕ) → Sides s → r ≤ max_radius → lt (diagonal_of s) far ≡ false → r ≡ min r (to_unsigned 64 (diagonal_of s))
+diagonal_far s r p k e =
     ⊎_elim
-    (λ l. omega (arith, toUnsigned-le 64 far (diagonalOf s) l, far-cut))
+    (λ l. omega (arith, to_unsigned_le 64 far (diagonal_of s) l, far_cut))
     (λ l. absurd (false≢true (sym e ∙ l)))
-    (le-or-lt-float far (diagonalOf s) far-number (le-number nil (diagonalOf s) (diagonal-nonneg s p)).1)
+    (le_or_lt_float far (diagonal_of s) far_number (le_number nil (diagonal_of s) (diagonal_nonneg s p)).1)
 
 -- ---- the radius, of what the calls gave
 
-pub diagonal-is : (s : Size) (x y d : Float) → x ≡ float s.width → y ≡ float s.height → d ≡ rootOf (x ⊗ x ⊕ y ⊗ y) → d ≡ diagonalOf s
-unfolding diagonalOf
-diagonal-is s x y d ex ey ed = rw (ed, ex, ey) refl
+pub diagonal_is : (s : Size) (x y d : Float) → x ≡ float s.width → y ≡ float s.height → d ≡ root_of (x ⊗ x ⊕ y ⊗ y) → d ≡ diagonal_of s
+unfolding diagonal_of
+diagonal_is s x y d ex ey ed = rw (ed, ex, ey) refl
 
 -- k is the diagonal and r the reach: the smaller one is the radius
-pub radius-cut : (s : Size) (scale d : Float) (k r : ℕ) → k ≡ to_unsigned 64 d → d ≡ diagonalOf s → (r ≡ reachOf scale) × (r ≤ maxRadius) → k < r → (k ≡ radiusOf s scale) × (k ≤ maxRadius)
-unfolding radiusOf
-radius-cut s scale d k r ek ed er less = (rw (← er.0, ← ed, ← ek) (omega (arith, less)), omega (arith, less, er.1))
+pub radius_cut : (s : Size) (scale d : Float) (k r : ℕ) → k ≡ to_unsigned 64 d → d ≡ diagonal_of s → (r ≡ reach_of scale) × (r ≤ max_radius) → k < r → (k ≡ radius_of s scale) × (k ≤ max_radius)
+unfolding radius_of
+radius_cut s scale d k r ek ed er less = (rw (← er.0, ← ed, ← ek) (omega (arith, less)), omega (arith, less, er.1))
 
-pub radius-reach : (s : Size) (scale d : Float) (k r : ℕ) → k ≡ to_unsigned 64 d → d ≡ diagonalOf s → (r ≡ reachOf scale) × (r ≤ maxRadius) → r ≤ k → (r ≡ radiusOf s scale) × (r ≤ maxRadius)
-unfolding radiusOf
-radius-reach s scale d k r ek ed er less = (rw (← er.0, ← ed, ← ek) (omega (arith, less)), er.1)
+pub radius_reach : (s : Size) (scale d : Float) (k r : ℕ) → k ≡ to_unsigned 64 d → d ≡ diagonal_of s → (r ≡ reach_of scale) × (r ≤ max_radius) → r ≤ k → (r ≡ radius_of s scale) × (r ≤ max_radius)
+unfolding radius_of
+radius_reach s scale d k r ek ed er less = (rw (← er.0, ← ed, ← ek) (omega (arith, less)), er.1)
 
-pub radius-far : (s : Size) (scale d : Float) (r : ℕ) → Sides s → lt d far ≡ false → d ≡ diagonalOf s → (r ≡ reachOf scale) × (r ≤ maxRadius) → (r ≡ radiusOf s scale) × (r ≤ maxRadius)
-unfolding radiusOf
-radius-far s scale d r p e ed er = (rw (← er.0) (diagonal-far s r p er.1 (rw ed at e)), er.1)
+pub radius_far : (s : Size) (scale d : Float) (r : ℕ) → Sides s → lt d far ≡ false → d ≡ diagonal_of s → (r ≡ reach_of scale) × (r ≤ max_radius) → (r ≡ radius_of s scale) × (r ≤ max_radius)
+unfolding radius_of
+radius_far s scale d r p e ed er = (rw (← er.0) (diagonal_far s r p er.1 (rw ed at e)), er.1)

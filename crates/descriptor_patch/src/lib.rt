@@ -2,12 +2,12 @@
 #![tactic(auto)]
 
 ghost use Rattle.std.specs.Prelude.{◌≡◌, ◌<◌, ◌≤◌, true, length, pos, ◌-ℤ◌};
-ghost use Rattle.ieee.specs.F32.{float as float_of, floatZ};
-ghost use Rattle.params.specs.Limits.{maxSide, scaleLow, scaleHigh};
+ghost use Rattle.ieee.specs.F32.{float as float_of, float_z};
+ghost use Rattle.params.specs.Limits.{max_side, scale_low, scale_high};
 ghost use Rattle.params.specs.Table.{within};
 ghost use Rattle.picture.specs.Place.{Around};
-ghost use Rattle.descriptor_patch.specs.Patch.{reachOf, radiusOf, patch_of, rotsOf, bin_of, inGrid, sampleAt};
-ghost use Rattle.descriptor_patch.specs.Place.{maxRadius, Sides, Lies};
+ghost use Rattle.descriptor_patch.specs.Patch.{reach_of, radius_of, patch_of, rots_of, bin_of, in_grid, sample_at};
+ghost use Rattle.descriptor_patch.specs.Place.{max_radius, Sides, Lies};
 
 use picture::Size;
 
@@ -43,7 +43,7 @@ pub struct Sample {
 // ---- how the patch lies
 
 pub fn float(n: usize) -> f32
-    requires { n ≤ maxSide }
+    requires { n ≤ max_side }
     ensures { result ≡ float_of n }
 {
     n as f32
@@ -51,16 +51,16 @@ pub fn float(n: usize) -> f32
 
 // a - b as a float.
 pub fn apart(a: usize, b: usize) -> f32
-    requires { (a ≤ maxSide) × (b ≤ maxSide) }
-    ensures { result ≡ floatZ (pos a -ℤ pos b) }
+    requires { (a ≤ max_side) × (b ≤ max_side) }
+    ensures { result ≡ float_z (pos a -ℤ pos b) }
 {
     (a as i32 - b as i32) as f32
 }
 
-// hist_width * sqrt(2) * 5 * 0.5, rounded: at most 3 * 64 * 1.41421356 * 2.5, some 679 (`maxRadius`).
+// hist_width * sqrt(2) * 5 * 0.5, rounded: at most 3 * 64 * 1.41421356 * 2.5, some 679 (`max_radius`).
 fn reach_of(scale: f32) -> usize
-    requires { within scaleLow scaleHigh scale ≡ true }
-    ensures { (result ≡ reachOf scale) × (result ≤ maxRadius) }
+    requires { within scale_low scale_high scale ≡ true }
+    ensures { (result ≡ reach_of scale) × (result ≤ max_radius) }
 {
     let width = 3.0 * scale;
     std::num::truncating_f32_to_u64(ieee_whole::round_ties_even(
@@ -70,8 +70,8 @@ fn reach_of(scale: f32) -> usize
 
 // The reach, but at most the picture's diagonal, cut to a whole number. A diagonal of 1024 and more is beyond every reach.
 fn radius_of(s: Size, scale: f32) -> usize
-    requires { Sides s × (within scaleLow scaleHigh scale ≡ true) }
-    ensures { (result ≡ radiusOf s scale) × (result ≤ maxRadius) }
+    requires { Sides s × (within scale_low scale_high scale ≡ true) }
+    ensures { (result ≡ radius_of s scale) × (result ≤ max_radius) }
 {
     let reach = reach_of(scale);
     let x = float(s.width);
@@ -87,7 +87,7 @@ fn radius_of(s: Size, scale: f32) -> usize
 
 // How the patch about the cell (py, px) lies.
 pub fn patch_of(s: Size, px: usize, py: usize, scale: f32, angle: f32) -> Patch
-    requires { Sides s × ((px < s.width) × ((py < s.height) × (within scaleLow scaleHigh scale ≡ true))) }
+    requires { Sides s × ((px < s.width) × ((py < s.height) × (within scale_low scale_high scale ≡ true))) }
     ensures { (result ≡ patch_of s px py scale angle) × Lies result }
 {
     let width = 3.0 * scale;
@@ -106,15 +106,15 @@ pub fn patch_of(s: Size, px: usize, py: usize, scale: f32, angle: f32) -> Patch
 
 // c_rot of the cell (r, c), and r_rot: each by itself, so that the column is not worked out for a cell whose row lies outside the grid.
 pub fn rot_col(t: Patch, r: usize, c: usize) -> f32
-    requires { (r ≤ maxSide) × ((c ≤ maxSide) × ((t.py ≤ maxSide) × (t.px ≤ maxSide))) }
-    ensures { result ≡ (rotsOf t r c).col }
+    requires { (r ≤ max_side) × ((c ≤ max_side) × ((t.py ≤ max_side) × (t.px ≤ max_side))) }
+    ensures { result ≡ (rots_of t r c).col }
 {
     apart(c, t.px) * t.cos - apart(r, t.py) * t.sin
 }
 
 pub fn rot_row(t: Patch, r: usize, c: usize) -> f32
-    requires { (r ≤ maxSide) × ((c ≤ maxSide) × ((t.py ≤ maxSide) × (t.px ≤ maxSide))) }
-    ensures { result ≡ (rotsOf t r c).row }
+    requires { (r ≤ max_side) × ((c ≤ max_side) × ((t.py ≤ max_side) × (t.px ≤ max_side))) }
+    ensures { result ≡ (rots_of t r c).row }
 {
     apart(c, t.px) * t.sin + apart(r, t.py) * t.cos
 }
@@ -128,15 +128,15 @@ pub fn bin_of(rot: f32) -> f32
 
 // Above -1 and below 4: one test after the other, since with both at once the compiler takes row and column together, which is slower.
 pub fn in_grid(bin: f32) -> bool
-    ensures { result ≡ inGrid bin }
+    ensures { result ≡ in_grid bin }
 {
     if bin > -1.0 { bin < 4.0 } else { false }
 }
 
 // The cell (r, c), which lies at p in the turned patch, as a sample.
 pub fn sample_at(img: &[f32], t: Patch, r: usize, c: usize, p: Rots) -> Sample
-    requires { Around (length img.now) t.size r c × (Lies t × (p ≡ rotsOf t r c)) }
-    ensures { result ≡ sampleAt img.now t r c }
+    requires { Around (length img.now) t.size r c × (Lies t × (p ≡ rots_of t r c)) }
+    ensures { result ≡ sample_at img.now t r c }
 {
     let g = picture::slope_at(img, t.size, r, c);
     Sample {

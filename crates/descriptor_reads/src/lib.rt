@@ -2,14 +2,14 @@
 #![tactic(auto)]
 
 ghost use Rattle.std.specs.Prelude.{◌≡◌, cond, [], ◌*◌, ◌≤◌, length};
-ghost use Rattle.params.specs.Limits.{maxSide};
-ghost use Rattle.params.specs.Table.{allGood};
-ghost use Rattle.picture.specs.Picture.{fourAt};
+ghost use Rattle.params.specs.Limits.{max_side};
+ghost use Rattle.params.specs.Table.{all_good};
+ghost use Rattle.picture.specs.Picture.{four_at};
 ghost use Rattle.picture.specs.Place.{Around};
-ghost use Rattle.descriptor_patch.specs.Patch.{gridAt};
+ghost use Rattle.descriptor_patch.specs.Patch.{grid_at};
 ghost use Rattle.descriptor_patch.specs.Place.{Lies};
 ghost use Rattle.descriptor_run.specs.Cells.{reads_of};
-ghost use Rattle.descriptor_run.specs.Run.{overRun};
+ghost use Rattle.descriptor_run.specs.Run.{over_run};
 ghost use Rattle.descriptor_run.specs.Place.{Inner};
 
 use descriptor_patch::Patch;
@@ -18,8 +18,8 @@ use samples::Area;
 
 // Whether the cell (r, c) lies in the grid.
 fn grid_at(t: Patch, r: usize, c: usize) -> bool
-    requires { (r ≤ maxSide) × ((c ≤ maxSide) × ((t.py ≤ maxSide) × (t.px ≤ maxSide))) }
-    ensures { result ≡ gridAt t r c }
+    requires { (r ≤ max_side) × ((c ≤ max_side) × ((t.py ≤ max_side) × (t.px ≤ max_side))) }
+    ensures { result ≡ grid_at t r c }
 {
     descriptor_patch::in_grid(descriptor_patch::bin_of(descriptor_patch::rot_row(t, r, c)))
         & descriptor_patch::in_grid(descriptor_patch::bin_of(descriptor_patch::rot_col(t, r, c)))
@@ -28,7 +28,7 @@ fn grid_at(t: Patch, r: usize, c: usize) -> bool
 // The neighbours of one cell, where it is used.
 fn cell_good(img: &[f32], t: Patch, r: usize, c: usize) -> bool
     requires { Around (length img.now) t.size r c × Lies t }
-    ensures { result ≡ allGood (cond (gridAt t r c) (fourAt img.now t.size.width r c) []) }
+    ensures { result ≡ all_good (cond (grid_at t r c) (four_at img.now t.size.width r c) []) }
 {
     !grid_at(t, r, c) | samples::four_good(img, t.size, r, c)
 }
@@ -36,7 +36,7 @@ fn cell_good(img: &[f32], t: Patch, r: usize, c: usize) -> bool
 // Those of a run of row r.
 fn row_good(img: &[f32], t: Patch, r: usize, e: Run) -> bool
     requires { (length img.now ≡ t.size.height * t.size.width) × (Lies t × Inner t r e) }
-    ensures { result ≡ allGood (overRun t r (fourAt img.now t.size.width) e) }
+    ensures { result ≡ all_good (over_run t r (four_at img.now t.size.width) e) }
 {
     let end = e.past;
     let mut ok = true;
@@ -51,7 +51,7 @@ fn row_good(img: &[f32], t: Patch, r: usize, e: Run) -> bool
 // Whether what is read is in range, row by row and cell by cell.
 fn reads_good(img: &[f32], t: Patch) -> bool
     requires { (length img.now ≡ t.size.height * t.size.width) × Lies t }
-    ensures { result ≡ allGood (reads_of img.now t) }
+    ensures { result ≡ all_good (reads_of img.now t) }
 {
     let end = picture::past_in(t.py, t.radius, t.size.height);
     let mut ok = true;
@@ -66,7 +66,7 @@ fn reads_good(img: &[f32], t: Patch) -> bool
 // Whether all that is read is in range. The window with the cells round it holds it all, and more: where these are good nothing else is asked.
 pub fn patch_good(img: &[f32], t: Patch) -> bool
     requires { (length img.now ≡ t.size.height * t.size.width) × Lies t }
-    ensures { result ≡ allGood (reads_of img.now t) }
+    ensures { result ≡ all_good (reads_of img.now t) }
 {
     let window = Area {
         top: picture::first_in(t.py, t.radius),

@@ -2,9 +2,9 @@
 #![tactic(auto)]
 
 ghost use Rattle.std.specs.Prelude.{◌≡◌, ◌-◌, ◌<◌, ◌≤◌, ◌^◌, min, max};
-ghost use Rattle.params.specs.Limits.{maxSide};
-ghost use Rattle.descriptor_run.specs.Cells.{clipJ, endsOf};
-ghost use Rattle.descriptor_run.specs.Run.{shifted as shiftedOf, columns as columnsOf, runOf};
+ghost use Rattle.params.specs.Limits.{max_side};
+ghost use Rattle.descriptor_run.specs.Cells.{clip_j, ends_of};
+ghost use Rattle.descriptor_run.specs.Run.{shifted as shiftedOf, columns as columns_of, run_of};
 
 use descriptor_patch::Patch;
 
@@ -24,7 +24,7 @@ pub struct Run {
 
 // Draws the ends in to the j with -1 < j * coef + off < 4.
 fn clip_j(coef: f32, off: f32, e: Ends) -> Ends
-    ensures { result ≡ clipJ coef off e }
+    ensures { result ≡ clip_j coef off e }
 {
     if coef > 0.0 {
         Ends {
@@ -44,8 +44,8 @@ fn clip_j(coef: f32, off: f32, e: Ends) -> Ends
 }
 
 fn ends_of(t: Patch, r: usize) -> Ends
-    requires { (r ≤ maxSide) × ((t.py ≤ maxSide) × (t.radius ≤ maxSide)) }
-    ensures { result ≡ endsOf t r }
+    requires { (r ≤ max_side) × ((t.py ≤ max_side) × (t.radius ≤ max_side)) }
+    ensures { result ≡ ends_of t r }
 {
     let i = descriptor_patch::apart(r, t.py);
     let reach = descriptor_patch::float(t.radius);
@@ -86,8 +86,8 @@ fn less_one(a: usize) -> usize
 
 // The run's columns among those from a to below b.
 fn columns(a: usize, b: usize, px: usize, e: Ends) -> Run
-    requires { px ≤ maxSide }
-    ensures { result ≡ columnsOf a b px e }
+    requires { px ≤ max_side }
+    ensures { result ≡ columns_of a b px e }
 {
     if e.hi < e.lo {
         Run { first: a, past: 0 }
@@ -103,8 +103,8 @@ fn columns(a: usize, b: usize, px: usize, e: Ends) -> Run
 
 // The columns of the window and of the run of row r.
 pub fn run_of(t: Patch, r: usize) -> Run
-    requires { (r ≤ maxSide) × ((t.size.width ≤ maxSide) × ((t.px < t.size.width) × ((t.py ≤ maxSide) × (t.radius ≤ maxSide)))) }
-    ensures { result ≡ runOf t r }
+    requires { (r ≤ max_side) × ((t.size.width ≤ max_side) × ((t.px < t.size.width) × ((t.py ≤ max_side) × (t.radius ≤ max_side)))) }
+    ensures { result ≡ run_of t r }
 {
     let a = picture::first_in(t.px, t.radius);
     let b = picture::past_in(t.px, t.radius, t.size.width);

@@ -6,9 +6,9 @@ use native.Mathlib.Omega.{arith}
 use lib.IntN.{ℤ, pos, negsuc, ◌-ℤ◌}
 use lib.Ieee.{binary32, of_bits, of_int, add, sub, to_bits, to_signed, to_unsigned, is_nan}
 use lib.Ieee.Scale.{finite}
-use Rattle.ieee.specs.F32.{◌⊕◌, ◌⊖◌, toI32, float, floatZ, bits_of}
+use Rattle.ieee.specs.F32.{◌⊕◌, ◌⊖◌, to_i32, float, float_z, bits_of}
 use Rattle.ieee.specs.Numbers.{nought, one}
-use Rattle.descriptor_shares.specs.Sharing.{slot_of, fromBorder}
+use Rattle.descriptor_shares.specs.Sharing.{slot_of, from_border}
 use Rattle.descriptor_shares.specs.Reach.{base}
 
 -- whole numbers are counted from -8
@@ -27,53 +27,53 @@ abbrev pub raised : ℤ → ℕ
 raised (pos n) = n + 16
 raised (negsuc n) = 15 - n
 
-at-pos : (j : ℕ) (z : ℤ) → raised z ≡ j + 16 → z ≡ pos j
-at-pos j (pos n) e = ap pos (omega arith)
-at-pos j (negsuc n) e = absurd (omega arith)
+at_pos : (j : ℕ) (z : ℤ) → raised z ≡ j + 16 → z ≡ pos j
+at_pos j (pos n) e = ap pos (omega arith)
+at_pos j (negsuc n) e = absurd (omega arith)
 
-at-neg : (j : ℕ) → j ≤ 7 → (z : ℤ) → raised z ≡ 15 - j → z ≡ negsuc j
-at-neg j h (pos n) e = absurd (omega arith)
-at-neg j h (negsuc n) e = ap negsuc (omega arith)
+at_neg : (j : ℕ) → j ≤ 7 → (z : ℤ) → raised z ≡ 15 - j → z ≡ negsuc j
+at_neg j h (pos n) e = absurd (omega arith)
+at_neg j h (negsuc n) e = ap negsuc (omega arith)
 
 -- what is computed of k
 abbrev Computed : ℕ → Type 0
 Computed k =
-    (toI32 (floatZ (lowered k)) ≡ lowered k)
+    (to_i32 (float_z (lowered k)) ≡ lowered k)
     × (raised (lowered k) ≡ k + 8)
     × (lowered (k + 1) -ℤ pos 1 ≡ lowered k)
-    × (finite (floatZ (lowered k)) ≡ true)
-    × (floatZ (lowered k) ⊕ base ≡ float (start + k))
-    × (float (start + k) ⊖ base ≡ floatZ (lowered k))
+    × (finite (float_z (lowered k)) ≡ true)
+    × (float_z (lowered k) ⊕ base ≡ float (start + k))
+    × (float (start + k) ⊖ base ≡ float_z (lowered k))
     × (to_unsigned 64 (float (start + k)) ≡ start + k)
     × (float (start + k) ⊖ nought ≡ float (start + k))
     × (float (start + (k + 1)) ⊖ one ≡ float (start + k))
-    × (floatZ (lowered k) ⊖ nought ≡ floatZ (lowered k))
-    × (floatZ (lowered (k + 1)) ⊖ one ≡ floatZ (lowered k))
+    × (float_z (lowered k) ⊖ nought ≡ float_z (lowered k))
+    × (float_z (lowered (k + 1)) ⊖ one ≡ float_z (lowered k))
     × (bits_of (float (start + k)) ≡ first + k)
     × (is_nan (float (start + k)) ≡ false)
-    × (floatZ (lowered k) ⊖ floatZ (lowered k) ≡ nought)
-    × (floatZ (lowered (k + 1)) ⊖ floatZ (lowered k) ≡ one)
+    × (float_z (lowered k) ⊖ float_z (lowered k) ≡ nought)
+    × (float_z (lowered (k + 1)) ⊖ float_z (lowered k) ≡ one)
     × (slot_of (lowered k) ≡ k % 8)
-    × (fromBorder (lowered k) ≡ k - 7)
+    × (from_border (lowered k) ≡ k - 7)
 
 pub record Step (k : ℕ) : Type 0 where
-  pub cut : toI32 (floatZ (lowered k)) ≡ lowered k
+  pub cut : to_i32 (float_z (lowered k)) ≡ lowered k
   pub height : raised (lowered k) ≡ k + 8
   pub less : lowered (k + 1) -ℤ pos 1 ≡ lowered k
-  pub ended : finite (floatZ (lowered k)) ≡ true
-  pub sum : floatZ (lowered k) ⊕ base ≡ float (start + k)
-  pub rest : float (start + k) ⊖ base ≡ floatZ (lowered k)
+  pub ended : finite (float_z (lowered k)) ≡ true
+  pub sum : float_z (lowered k) ⊕ base ≡ float (start + k)
+  pub rest : float (start + k) ⊖ base ≡ float_z (lowered k)
   pub size : to_unsigned 64 (float (start + k)) ≡ start + k
   pub still : float (start + k) ⊖ nought ≡ float (start + k)
   pub down : float (start + (k + 1)) ⊖ one ≡ float (start + k)
-  pub near-still : floatZ (lowered k) ⊖ nought ≡ floatZ (lowered k)
-  pub near_down : floatZ (lowered (k + 1)) ⊖ one ≡ floatZ (lowered k)
+  pub near_still : float_z (lowered k) ⊖ nought ≡ float_z (lowered k)
+  pub near_down : float_z (lowered (k + 1)) ⊖ one ≡ float_z (lowered k)
   pub bits : bits_of (float (start + k)) ≡ first + k
   pub number : is_nan (float (start + k)) ≡ false
-  pub flat : floatZ (lowered k) ⊖ floatZ (lowered k) ≡ nought
-  pub gap : floatZ (lowered (k + 1)) ⊖ floatZ (lowered k) ≡ one
+  pub flat : float_z (lowered k) ⊖ float_z (lowered k) ≡ nought
+  pub gap : float_z (lowered (k + 1)) ⊖ float_z (lowered k) ≡ one
   pub slot : slot_of (lowered k) ≡ k % 8
-  pub border : fromBorder (lowered k) ≡ k - 7
+  pub border : from_border (lowered k) ≡ k - 7
   pub only : (z : ℤ) → raised z ≡ k + 8 → z ≡ lowered k
 
 made : (k : ℕ) → Computed k → ((z : ℤ) → raised z ≡ k + 8 → z ≡ lowered k) → Step k
@@ -88,7 +88,7 @@ made k c o =
       size = c.6;
       still = c.7;
       down = c.8;
-      near-still = c.9;
+      near_still = c.9;
       near_down = c.10;
       bits = c.11;
       number = c.12;
@@ -113,27 +113,27 @@ abbrev Upto : ℕ → Type 0
 Upto k = k ≤ 17 → Step k
 
 pub step : (k : ℕ) → k ≤ 17 → Step k
-unfolding of_bits of_int add sub to_bits to_signed to_unsigned is_nan slot_of fromBorder
+unfolding of_bits of_int add sub to_bits to_signed to_unsigned is_nan slot_of from_border
 step =
     six Upto
-    (λ h. made 0 (refl, refl, refl, refl, refl, refl, refl, refl, refl, refl, refl, refl, refl, refl, refl, refl, refl) (at-neg 7 (omega arith)))
-    (λ h. made 1 (refl, refl, refl, refl, refl, refl, refl, refl, refl, refl, refl, refl, refl, refl, refl, refl, refl) (at-neg 6 (omega arith)))
-    (λ h. made 2 (refl, refl, refl, refl, refl, refl, refl, refl, refl, refl, refl, refl, refl, refl, refl, refl, refl) (at-neg 5 (omega arith)))
-    (λ h. made 3 (refl, refl, refl, refl, refl, refl, refl, refl, refl, refl, refl, refl, refl, refl, refl, refl, refl) (at-neg 4 (omega arith)))
-    (λ h. made 4 (refl, refl, refl, refl, refl, refl, refl, refl, refl, refl, refl, refl, refl, refl, refl, refl, refl) (at-neg 3 (omega arith)))
-    (λ h. made 5 (refl, refl, refl, refl, refl, refl, refl, refl, refl, refl, refl, refl, refl, refl, refl, refl, refl) (at-neg 2 (omega arith)))
+    (λ h. made 0 (refl, refl, refl, refl, refl, refl, refl, refl, refl, refl, refl, refl, refl, refl, refl, refl, refl) (at_neg 7 (omega arith)))
+    (λ h. made 1 (refl, refl, refl, refl, refl, refl, refl, refl, refl, refl, refl, refl, refl, refl, refl, refl, refl) (at_neg 6 (omega arith)))
+    (λ h. made 2 (refl, refl, refl, refl, refl, refl, refl, refl, refl, refl, refl, refl, refl, refl, refl, refl, refl) (at_neg 5 (omega arith)))
+    (λ h. made 3 (refl, refl, refl, refl, refl, refl, refl, refl, refl, refl, refl, refl, refl, refl, refl, refl, refl) (at_neg 4 (omega arith)))
+    (λ h. made 4 (refl, refl, refl, refl, refl, refl, refl, refl, refl, refl, refl, refl, refl, refl, refl, refl, refl) (at_neg 3 (omega arith)))
+    (λ h. made 5 (refl, refl, refl, refl, refl, refl, refl, refl, refl, refl, refl, refl, refl, refl, refl, refl, refl) (at_neg 2 (omega arith)))
     (six (λ j. Upto (suc (suc (suc (suc (suc (suc (j))))))))
-    (λ h. made 6 (refl, refl, refl, refl, refl, refl, refl, refl, refl, refl, refl, refl, refl, refl, refl, refl, refl) (at-neg 1 (omega arith)))
-    (λ h. made 7 (refl, refl, refl, refl, refl, refl, refl, refl, refl, refl, refl, refl, refl, refl, refl, refl, refl) (at-neg 0 (omega arith)))
-    (λ h. made 8 (refl, refl, refl, refl, refl, refl, refl, refl, refl, refl, refl, refl, refl, refl, refl, refl, refl) (at-pos 0))
-    (λ h. made 9 (refl, refl, refl, refl, refl, refl, refl, refl, refl, refl, refl, refl, refl, refl, refl, refl, refl) (at-pos 1))
-    (λ h. made 10 (refl, refl, refl, refl, refl, refl, refl, refl, refl, refl, refl, refl, refl, refl, refl, refl, refl) (at-pos 2))
-    (λ h. made 11 (refl, refl, refl, refl, refl, refl, refl, refl, refl, refl, refl, refl, refl, refl, refl, refl, refl) (at-pos 3))
+    (λ h. made 6 (refl, refl, refl, refl, refl, refl, refl, refl, refl, refl, refl, refl, refl, refl, refl, refl, refl) (at_neg 1 (omega arith)))
+    (λ h. made 7 (refl, refl, refl, refl, refl, refl, refl, refl, refl, refl, refl, refl, refl, refl, refl, refl, refl) (at_neg 0 (omega arith)))
+    (λ h. made 8 (refl, refl, refl, refl, refl, refl, refl, refl, refl, refl, refl, refl, refl, refl, refl, refl, refl) (at_pos 0))
+    (λ h. made 9 (refl, refl, refl, refl, refl, refl, refl, refl, refl, refl, refl, refl, refl, refl, refl, refl, refl) (at_pos 1))
+    (λ h. made 10 (refl, refl, refl, refl, refl, refl, refl, refl, refl, refl, refl, refl, refl, refl, refl, refl, refl) (at_pos 2))
+    (λ h. made 11 (refl, refl, refl, refl, refl, refl, refl, refl, refl, refl, refl, refl, refl, refl, refl, refl, refl) (at_pos 3))
     (six (λ j. Upto (suc (suc (suc (suc (suc (suc (suc (suc (suc (suc (suc (suc (j))))))))))))))
-    (λ h. made 12 (refl, refl, refl, refl, refl, refl, refl, refl, refl, refl, refl, refl, refl, refl, refl, refl, refl) (at-pos 4))
-    (λ h. made 13 (refl, refl, refl, refl, refl, refl, refl, refl, refl, refl, refl, refl, refl, refl, refl, refl, refl) (at-pos 5))
-    (λ h. made 14 (refl, refl, refl, refl, refl, refl, refl, refl, refl, refl, refl, refl, refl, refl, refl, refl, refl) (at-pos 6))
-    (λ h. made 15 (refl, refl, refl, refl, refl, refl, refl, refl, refl, refl, refl, refl, refl, refl, refl, refl, refl) (at-pos 7))
-    (λ h. made 16 (refl, refl, refl, refl, refl, refl, refl, refl, refl, refl, refl, refl, refl, refl, refl, refl, refl) (at-pos 8))
-    (λ h. made 17 (refl, refl, refl, refl, refl, refl, refl, refl, refl, refl, refl, refl, refl, refl, refl, refl, refl) (at-pos 9))
+    (λ h. made 12 (refl, refl, refl, refl, refl, refl, refl, refl, refl, refl, refl, refl, refl, refl, refl, refl, refl) (at_pos 4))
+    (λ h. made 13 (refl, refl, refl, refl, refl, refl, refl, refl, refl, refl, refl, refl, refl, refl, refl, refl, refl) (at_pos 5))
+    (λ h. made 14 (refl, refl, refl, refl, refl, refl, refl, refl, refl, refl, refl, refl, refl, refl, refl, refl, refl) (at_pos 6))
+    (λ h. made 15 (refl, refl, refl, refl, refl, refl, refl, refl, refl, refl, refl, refl, refl, refl, refl, refl, refl) (at_pos 7))
+    (λ h. made 16 (refl, refl, refl, refl, refl, refl, refl, refl, refl, refl, refl, refl, refl, refl, refl, refl, refl) (at_pos 8))
+    (λ h. made 17 (refl, refl, refl, refl, refl, refl, refl, refl, refl, refl, refl, refl, refl, refl, refl, refl, refl) (at_pos 9))
     (λ j h. absurd (omega arith))))

@@ -1,15 +1,15 @@
 -- Inner: what the code asks of a sample, of a number and of the tables, what a split is, and what is said of a spread. No part of what a caller is promised. Definitions only.
 use Rattle.std.specs.Prelude.{ℕ, ◌≤◌, ◌≡◌, true, List, Float}
-use Rattle.ieee.specs.F32.{◌⊕◌, ◌⊖◌, ◌≤ᶠ◌, f32, floatZ, bits_of}
-use Rattle.hal.specs.Powers.{pairs as pairTable}
-use Rattle.hal_magnitude.specs.Cubics.{cubics as cubicTable}
-use Rattle.hal_angle.specs.Turns.{turns as turnTable}
+use Rattle.ieee.specs.F32.{◌⊕◌, ◌⊖◌, ◌≤ᶠ◌, f32, float_z, bits_of}
+use Rattle.hal.specs.Powers.{pairs as pair_table}
+use Rattle.hal_magnitude.specs.Cubics.{cubics as cubic_table}
+use Rattle.hal_angle.specs.Turns.{turns as turn_table}
 use Rattle.hal_turn.specs.Turn.{in_turn}
-use Rattle.hal_reach.specs.Reach.{inAngle}
-use Rattle.hal.specs.Exp.{inDown}
-use Rattle.descriptor_patch.specs.Patch.{inGrid}
+use Rattle.hal_reach.specs.Reach.{in_angle}
+use Rattle.hal.specs.Exp.{in_down}
+use Rattle.descriptor_patch.specs.Patch.{in_grid}
 use Rattle.descriptor_patch.specs.declared.Sample.{Sample}
-use Rattle.descriptor_shares.specs.Sharing.{floorI}
+use Rattle.descriptor_shares.specs.Sharing.{floor_i}
 use Rattle.descriptor_shares.specs.declared.Spread.{Spread}
 use Rattle.descriptor_shares.specs.declared.Split.{Split}
 use Rattle.descriptor_shares.specs.declared.Landed.{Landed}
@@ -21,31 +21,31 @@ pub record Near (v : Float) : Type 0 where
 
 -- a sample that can be added in a patch that is turned by `angle`: it lies in the grid, and the angle and the magnitude are asked inside their ranges
 pub record Lands (angle : Float) (s : Sample) : Type 0 where
-  pub row : inGrid s.rbin ≡ true
-  pub col : inGrid s.cbin ≡ true
+  pub row : in_grid s.rbin ≡ true
+  pub col : in_grid s.cbin ≡ true
   pub turn : in_turn angle ≡ true
-  pub slopes : inAngle s.dx s.dy ≡ true
+  pub slopes : in_angle s.dx s.dy ≡ true
 
 -- 1.5 × 2 ^ 23: a float from 2 ^ 23 to 2 ^ 24 is a whole number, and its last bits are the number's own
 abbrev pub base : Float
 base = f32 0x4b40_0000
 
 -- v by the whole number at or below it: the bits of that one lifted by 12582912, and how far v lies past it
-unfoldable pub splitOf : Float → Split
-splitOf v = record { bits = bits_of (floatZ (floorI v) ⊕ base); past = v ⊖ floatZ (floorI v) }
+unfoldable pub split_of : Float → Split
+split_of v = record { bits = bits_of (float_z (floor_i v) ⊕ base); past = v ⊖ float_z (floor_i v) }
 
 -- the tables that the routines are lent
 pub record Lent (ps : List ℕ) (cs ts : List Float) : Type 0 where
-  pub pairs : ps ≡ pairTable
-  pub cubics : cs ≡ cubicTable
-  pub turns : ts ≡ turnTable
+  pub pairs : ps ≡ pair_table
+  pub cubics : cs ≡ cubic_table
+  pub turns : ts ≡ turn_table
 
 -- a sample that can be added and whose weight is asked inside the range of exp, split as it lies in the grid
 pub record Settled (angle : Float) (l : Landed) : Type 0 where
   pub lands : Lands angle l.sample
-  pub fall : inDown l.sample.fall ≡ true
-  pub row : l.row ≡ splitOf l.sample.rbin
-  pub col : l.col ≡ splitOf l.sample.cbin
+  pub fall : in_down l.sample.fall ≡ true
+  pub row : l.row ≡ split_of l.sample.rbin
+  pub col : l.col ≡ split_of l.sample.cbin
 
 -- none of a spread's eight places leaves the histogram
 pub record Inside (p : Spread) : Type 0 where

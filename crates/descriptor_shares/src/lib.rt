@@ -3,7 +3,7 @@
 
 ghost use Rattle.std.specs.Prelude.{◌≡◌};
 ghost use Rattle.descriptor_shares.specs.Sharing.{shares_of, spread_of};
-ghost use Rattle.descriptor_shares.specs.Reach.{Near, splitOf, Lent, Settled, Inside};
+ghost use Rattle.descriptor_shares.specs.Reach.{Near, split_of, Lent, Settled, Inside};
 
 // A sample's eight shares: by row, column and slot of the grid, each the nearer one (0) or the next (1).
 #[derive(Clone, Copy)]
@@ -47,7 +47,7 @@ pub struct Landed {
 // selection and no branch. It is taken off the sum too, whose last bits are then the floor's digits.
 pub fn split_of(v: f32) -> Split
     requires { Near v }
-    ensures { result ≡ splitOf v }
+    ensures { result ≡ split_of v }
 {
     let sum = v + 12582912.0;
     let near = sum - 12582912.0;

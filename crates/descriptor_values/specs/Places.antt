@@ -8,8 +8,8 @@ cells = 6
 abbrev pub slots : ℕ
 slots = 10
 
-abbrev pub rowPlaces : ℕ
-rowPlaces = 60
+abbrev pub row_places : ℕ
+row_places = 60
 
 abbrev pub places : ℕ
 places = 360

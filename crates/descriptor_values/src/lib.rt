@@ -3,13 +3,13 @@
 
 ghost use Rattle.std.specs.Prelude.{◌≡◌, ℕ, ◌+◌, ◌*◌, ◌/◌, ◌%◌, ◌<◌};
 ghost use Rattle.ieee.specs.F32.{fused};
-ghost use Rattle.params.specs.Limits.{valueCount};
-ghost use Rattle.descriptor_values.specs.Values.{foldedAt, rawOf, at, norm2, clamped, plainNorm, scale_of, finished, values_of};
+ghost use Rattle.params.specs.Limits.{value_count};
+ghost use Rattle.descriptor_values.specs.Values.{folded_at, raw_of, at, norm2, clamped, plain_norm, scale_of, finished, values_of};
 
 // Value n of the inner cells: slot n % 8 of the cell at row n / 32, column n / 8 % 4. The first slot takes the ninth.
 fn folded(hist: &[f32; 360], n: usize) -> f32
-    requires { n < valueCount }
-    ensures { result ≡ foldedAt hist.now (n / 32) (n / 8 % 4) (n % 8) }
+    requires { n < value_count }
+    ensures { result ≡ folded_at hist.now (n / 32) (n / 8 % 4) (n % 8) }
 {
     let at = ((n / 32 + 1) * 6 + (n / 8 % 4 + 1)) * 10;
     let k = n % 8;
@@ -21,7 +21,7 @@ fn folded(hist: &[f32; 360], n: usize) -> f32
 }
 
 fn raw(hist: &[f32; 360]) -> [f32; 128]
-    ensures { result ≡ rawOf hist.now }
+    ensures { result ≡ raw_of hist.now }
 {
     let mut v = [0.0; 128];
     let mut n: usize = 0;
@@ -34,7 +34,7 @@ fn raw(hist: &[f32; 360]) -> [f32; 128]
 
 // The square of value k added to s, rounded once.
 fn with_square(v: &[f32; 128], k: usize, s: f32) -> f32
-    requires { k < valueCount }
+    requires { k < value_count }
     ensures { result ≡ fused (at v.now k) (at v.now k) s }
 {
     let x = v[k];
@@ -76,7 +76,7 @@ fn clamp_all(v: &[f32; 128]) -> [f32; 128]
 
 // The sum of the squares, each product and each sum rounded.
 fn plain_sum(v: &[f32; 128]) -> f32
-    ensures { result ≡ plainNorm v.now valueCount }
+    ensures { result ≡ plain_norm v.now value_count }
 {
     let mut s: f32 = 0.0;
     let mut n: usize = 0;

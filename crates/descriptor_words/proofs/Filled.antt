@@ -8,51 +8,51 @@ use lib.ListN.{length, get_or, take, set, replicate, length-map, get_or-map}
 use lib.Seq.{take-suc, take-suc-set, take_all}
 use lib.Ieee.{Float, nan, of_bits}
 use Rattle.ieee.specs.F32.{bits_of}
-use Rattle.ieee.specs.Numbers.{nought, wholeTurn}
+use Rattle.ieee.specs.Numbers.{nought, whole_turn}
 use Rattle.hal_turn.specs.Turn.{in_turn}
-use Rattle.params.specs.Limits.{scaleLow, scaleHigh}
+use Rattle.params.specs.Limits.{scale_low, scale_high}
 use Rattle.params.specs.Table.{within}
 use Rattle.picture.specs.declared.Size.{Size}
 use Rattle.descriptor_patch.specs.Patch.{cell_of, patch_of}
 use Rattle.descriptor_patch.specs.Place.{Sides}
 use Rattle.descriptor_patch.specs.declared.Patch.{Patch}
-use Rattle.descriptor_run.specs.Cells.{samplesOf}
-use Rattle.descriptor_grid.specs.Grid.{gatheredIn, gathered}
+use Rattle.descriptor_run.specs.Cells.{samples_of}
+use Rattle.descriptor_grid.specs.Grid.{gathered_in, gathered}
 use Rattle.descriptor_values.specs.Places.{places}
 use Rattle.descriptor_values.specs.Values.{values_of}
-use Rattle.descriptor_words.specs.Words.{cell_at, turnAt, valuesAt, wordsAt}
+use Rattle.descriptor_words.specs.Words.{cell_at, turn_at, values_at, words_at}
 use Rattle.descriptor_words.specs.Accepted.{Aimed}
 use Rattle.descriptor_words.specs.declared.Spot.{Spot}
 
-pub in-turn : (angle : Float) → within nought wholeTurn angle ≡ true → in_turn angle ≡ true
+pub in_turn_lem : (angle : Float) → within nought whole_turn angle ≡ true → in_turn angle ≡ true
 unfolding of_bits
-in-turn angle e = e
+in_turn_lem angle e = e
 
 -- the patch is turned by the angle that is asked
-pub turn-angle : (s : Size) (p : Spot) → (turnAt s p).angle ≡ p.angle
-unfolding turnAt patch_of
-turn-angle s p = refl
+pub turn_angle : (s : Size) (p : Spot) → (turn_at s p).angle ≡ p.angle
+unfolding turn_at patch_of
+turn_angle s p = refl
 
 module _ (s : Size) (p : Spot) where
   -- the patch about the two cells
-  pub turn_is : (px py : ℕ) (t : Patch) → px ≡ cell_at (cell_of p.x) → py ≡ cell_at (cell_of p.y) → t ≡ patch_of s px py p.scale p.angle → t ≡ turnAt s p
-  unfolding turnAt
+  pub turn_is : (px py : ℕ) (t : Patch) → px ≡ cell_at (cell_of p.x) → py ≡ cell_at (cell_of p.y) → t ≡ patch_of s px py p.scale p.angle → t ≡ turn_at s p
+  unfolding turn_at
   turn_is px py t a b e = e ∙ rw (a, b)
 
-  pub asked : (px py : ℕ) → px ≡ cell_at (cell_of p.x) → py ≡ cell_at (cell_of p.y) → Aimed s p → Sides s × ((px < s.width) × ((py < s.height) × (within scaleLow scaleHigh p.scale ≡ true)))
+  pub asked : (px py : ℕ) → px ≡ cell_at (cell_of p.x) → py ≡ cell_at (cell_of p.y) → Aimed s p → Sides s × ((px < s.width) × ((py < s.height) × (within scale_low scale_high p.scale ≡ true)))
   asked px py a b k = (k.sides, (rw a k.column, (rw b k.row, k.sized)))
 
 -- ---- a list filled from the front with the bits of another's elements
-pub put-more : (v : List Float) (out : List ℕ) (n b : ℕ) → n < length v → n < length out → b ≡ bits_of (get_or v n nan) → take n out ≡ take n (map bits_of v)
+pub put_more : (v : List Float) (out : List ℕ) (n b : ℕ) → n < length v → n < length out → b ≡ bits_of (get_or v n nan) → take n out ≡ take n (map bits_of v)
     → take (n + 1) (set out n b) ≡ take (n + 1) (map bits_of v)
-put-more v out n b h k q e =
+put_more v out n b h k q e =
     rw (add-one, take-suc-set out n b k, take-suc (map bits_of v) n (bits_of nan) (rw length-map h), e, get_or-map bits_of v n nan, q)
 
 pub put_all : (v : List Float) (out : List ℕ) (n : ℕ) → length v ≤ n → length out ≤ n → take n out ≡ take n (map bits_of v) → out ≡ map bits_of v
 put_all v out n h k e = sym (take_all n out k) ∙ e ∙ take_all n (map bits_of v) (rw length-map h)
 
 -- ---- the values of what was gathered
-pub filled : (img : List Float) (s : Size) (p : Spot) (t : Patch) (hist v : List Float) (out : List ℕ) → t ≡ turnAt s p
-    → hist ≡ gatheredIn t.angle (replicate places nought) (samplesOf img t) → v ≡ values_of hist → out ≡ map bits_of v → out ≡ wordsAt img s p
-unfolding wordsAt valuesAt gathered
-filled img s p t hist v out a b c d = d ∙ ap (map bits_of) c ∙ rw (b, a, turn-angle s p)
+pub filled : (img : List Float) (s : Size) (p : Spot) (t : Patch) (hist v : List Float) (out : List ℕ) → t ≡ turn_at s p
+    → hist ≡ gathered_in t.angle (replicate places nought) (samples_of img t) → v ≡ values_of hist → out ≡ map bits_of v → out ≡ words_at img s p
+unfolding words_at values_at gathered
+filled img s p t hist v out a b c d = d ∙ ap (map bits_of) c ∙ rw (b, a, turn_angle s p)

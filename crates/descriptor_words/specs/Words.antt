@@ -4,7 +4,7 @@ use Rattle.ieee.specs.F32.{bits_of}
 use Rattle.picture.specs.declared.Size.{Size}
 use Rattle.descriptor_patch.specs.Patch.{cell_of, patch_of}
 use Rattle.descriptor_patch.specs.declared.Patch.{Patch}
-use Rattle.descriptor_run.specs.Cells.{samplesOf}
+use Rattle.descriptor_run.specs.Cells.{samples_of}
 use Rattle.descriptor_grid.specs.Grid.{gathered}
 use Rattle.descriptor_values.specs.Values.{values_of}
 use Rattle.descriptor_words.specs.declared.Spot.{Spot}
@@ -15,13 +15,13 @@ cell_at (pos k) = k
 cell_at (negsuc k) = 0
 
 -- how the patch about a position lies
-unfoldable pub turnAt : Size → Spot → Patch
-turnAt s p = patch_of s (cell_at (cell_of p.x)) (cell_at (cell_of p.y)) p.scale p.angle
+unfoldable pub turn_at : Size → Spot → Patch
+turn_at s p = patch_of s (cell_at (cell_of p.x)) (cell_at (cell_of p.y)) p.scale p.angle
 
 -- the values of a patch that is accepted
-unfoldable pub valuesAt : List Float → Size → Spot → List Float
-valuesAt img s p = values_of (gathered p.angle (samplesOf img (turnAt s p)))
+unfoldable pub values_at : List Float → Size → Spot → List Float
+values_at img s p = values_of (gathered p.angle (samples_of img (turn_at s p)))
 
 -- and as they are written: each by its bits
-unfoldable pub wordsAt : List Float → Size → Spot → List ℕ
-wordsAt img s p = map bits_of (valuesAt img s p)
+unfoldable pub words_at : List Float → Size → Spot → List ℕ
+words_at img s p = map bits_of (values_at img s p)

@@ -3,10 +3,10 @@
 
 ghost use Rattle.std.specs.Prelude.{◌≡◌, map, length};
 ghost use Rattle.ieee.specs.F32.{bits_of};
-ghost use Rattle.params.specs.Limits.{valueCount};
-ghost use Rattle.descriptor_run.specs.Cells.{samplesOf};
+ghost use Rattle.params.specs.Limits.{value_count};
+ghost use Rattle.descriptor_run.specs.Cells.{samples_of};
 ghost use Rattle.descriptor_patch.specs.Place.{Lies};
-ghost use Rattle.descriptor_words.specs.Words.{cell_at, turnAt, wordsAt};
+ghost use Rattle.descriptor_words.specs.Words.{cell_at, turn_at, words_at};
 ghost use Rattle.descriptor_words.specs.Accepted.{Aimed, Ready};
 
 use descriptor_patch::Patch;
@@ -30,7 +30,7 @@ fn cell_at(z: i32) -> usize
 // How the patch lies.
 pub fn turn_at(s: Size, p: Spot) -> Patch
     requires { Aimed s p }
-    ensures { (result ≡ turnAt s p) × Lies result }
+    ensures { (result ≡ turn_at s p) × Lies result }
 {
     let px = cell_at(ieee_whole::round_to_i32(p.x));
     let py = cell_at(ieee_whole::round_to_i32(p.y));
@@ -39,7 +39,7 @@ pub fn turn_at(s: Size, p: Spot) -> Patch
 
 // The bits of all of v, to a list as long.
 fn put(v: &[f32; 128], out: &mut [u32])
-    requires { (length v.now ≡ valueCount) × (length out.old ≡ valueCount) }
+    requires { (length v.now ≡ value_count) × (length out.old ≡ value_count) }
     ensures { out.new ≡ map bits_of v.now }
 {
     let mut n: usize = 0;
@@ -51,9 +51,9 @@ fn put(v: &[f32; 128], out: &mut [u32])
 
 // The values of the patch by their bits, and the number of its samples.
 pub fn fill(img: &[f32], s: Size, p: Spot, out: &mut [u32]) -> usize
-    requires { Ready img.now s p × (length out.old ≡ valueCount) }
-    ensures value { result ≡ length (samplesOf img.now (turnAt s p)) }
-    ensures out_after { out.new ≡ wordsAt img.now s p }
+    requires { Ready img.now s p × (length out.old ≡ value_count) }
+    ensures value { result ≡ length (samples_of img.now (turn_at s p)) }
+    ensures out_after { out.new ≡ words_at img.now s p }
 {
     let mut hist = [0.0; 360];
     let t = turn_at(s, p);

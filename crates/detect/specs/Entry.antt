@@ -1,37 +1,37 @@
 -- What `find_extrema` answers and leaves in the lent words. Definitions only.
 use Rattle.std.specs.Prelude.{ℕ, ◌*◌, not, List, [], ◌∷◌, length, Float}
-use Rattle.params.specs.Limits.{keypointWords}
-use Rattle.params.specs.Table.{line, firstFault, shapeWrong, layersWrong, lengthWrong, settingsWrong, allGood}
+use Rattle.params.specs.Limits.{keypoint_words}
+use Rattle.params.specs.Table.{line, first_fault, shape_wrong, layers_wrong, length_wrong, settings_wrong, all_good}
 use Rattle.params.specs.Answers.{answer_of, landed}
 use Rattle.params.specs.declared.Settings.{Settings}
 use Rattle.params.specs.declared.Answer.{Answer}
 use Rattle.picture.specs.declared.Shape.{Shape}
-use Rattle.detect_keypoint.specs.Search.{searchOf}
+use Rattle.detect_keypoint.specs.Search.{search_of}
 use Rattle.detect_keypoint.specs.declared.RawKeypoint.{RawKeypoint}
 use Rattle.detect_extrema.specs.Neighbours.{tied}
 use Rattle.detect_extrema.specs.Scan.{keypoints, words}
 
 -- the checks of rule A3, in their order; 5 has no argument here
-unfoldable pub faultOf : List Float → Shape → ℕ → ℕ → Settings → ℕ
-faultOf d t layer octave s =
-    firstFault
-    (line 1 (shapeWrong t.width t.height)
-    ∷ line 2 (layersWrong t.planes layer s.layers)
-    ∷ line 3 (lengthWrong (length d) (t.planes * t.height * t.width))
-    ∷ line 4 (settingsWrong s octave)
-    ∷ line 6 (not (allGood d))
+unfoldable pub fault_of : List Float → Shape → ℕ → ℕ → Settings → ℕ
+fault_of d t layer octave s =
+    first_fault
+    (line 1 (shape_wrong t.width t.height)
+    ∷ line 2 (layers_wrong t.planes layer s.layers)
+    ∷ line 3 (length_wrong (length d) (t.planes * t.height * t.width))
+    ∷ line 4 (settings_wrong s octave)
+    ∷ line 6 (not (all_good d))
     ∷ [])
 
 -- the list that the source's rule gives
 abbrev pub list_of : List Float → Shape → ℕ → ℕ → Settings → List RawKeypoint
-list_of d t layer octave s = keypoints tied d t (searchOf layer octave s)
+list_of d t layer octave s = keypoints tied d t (search_of layer octave s)
 
 -- the answer, at `room` words lent: 7 counts keypoints
-unfoldable pub extremaAnswer : List Float → Shape → ℕ → ℕ → Settings → ℕ → Answer
-extremaAnswer d t layer octave s room =
-    answer_of (faultOf d t layer octave s) (length (list_of d t layer octave s)) (keypointWords * length (list_of d t layer octave s)) room
+unfoldable pub extrema_answer : List Float → Shape → ℕ → ℕ → Settings → ℕ → Answer
+extrema_answer d t layer octave s room =
+    answer_of (fault_of d t layer octave s) (length (list_of d t layer octave s)) (keypoint_words * length (list_of d t layer octave s)) room
 
 -- the lent words afterwards
-unfoldable pub extremaOut : List Float → Shape → ℕ → ℕ → Settings → List ℕ → List ℕ
-extremaOut d t layer octave s out =
-    landed (extremaAnswer d t layer octave s (length out)) (words (list_of d t layer octave s)) out
+unfoldable pub extrema_out : List Float → Shape → ℕ → ℕ → Settings → List ℕ → List ℕ
+extrema_out d t layer octave s out =
+    landed (extrema_answer d t layer octave s (length out)) (words (list_of d t layer octave s)) out

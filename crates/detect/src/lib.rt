@@ -2,13 +2,13 @@
 #![tactic(auto)]
 
 ghost use Rattle.std.specs.Prelude.{◌≡◌, false, cond, ◌≤◌, length};
-ghost use Rattle.params.specs.Limits.{maxLayers};
-ghost use Rattle.params.specs.Table.{contrastWrong, allGood};
+ghost use Rattle.params.specs.Limits.{max_layers};
+ghost use Rattle.params.specs.Table.{contrast_wrong, all_good};
 ghost use Rattle.params.specs.declared.Answer.TheVariants.{Done, Refused};
-ghost use Rattle.detect_keypoint.specs.Search.{searchOf};
+ghost use Rattle.detect_keypoint.specs.Search.{search_of};
 ghost use Rattle.detect_refine.specs.Place.{Searched};
-ghost use Rattle.detect.specs.Entry.{extremaAnswer, extremaOut};
-ghost use Rattle.detect.specs.Form.{formFault};
+ghost use Rattle.detect.specs.Entry.{extrema_answer, extrema_out};
+ghost use Rattle.detect.specs.Form.{form_fault};
 
 use detect_keypoint::Search;
 use detect_room::BORDERS;
@@ -17,7 +17,7 @@ use picture::Shape;
 
 // The answer where there is no cell to search.
 fn nothing(dog: &[f32]) -> Answer
-    ensures { result ≡ cond (allGood dog.now) (Done 0) (Refused 6) }
+    ensures { result ≡ cond (all_good dog.now) (Done 0) (Refused 6) }
 {
     if samples::all_good(dog) {
         Answer::Done(0)
@@ -28,9 +28,9 @@ fn nothing(dog: &[f32]) -> Answer
 
 // The number of the first check that fails of those that ask nothing of the samples but how many there are, or 0.
 fn fault(len: usize, t: Shape, layer: usize, octave: u32, s: Settings) -> u32
-    ensures value { result ≡ formFault len t layer octave s }
-    ensures searched { result ≡ 0 → Searched len t (searchOf layer octave s) }
-    ensures contrast_value { result ≡ 0 → contrastWrong s.contrast ≡ false }
+    ensures value { result ≡ form_fault len t layer octave s }
+    ensures searched { result ≡ 0 → Searched len t (search_of layer octave s) }
+    ensures contrast_value { result ≡ 0 → contrast_wrong s.contrast ≡ false }
 {
     if params::shape_wrong(t.width, t.height) {
         return 1;
@@ -50,8 +50,8 @@ fn fault(len: usize, t: Shape, layer: usize, octave: u32, s: Settings) -> u32
 
 // The search of a layer, with the threshold of the settings.
 pub fn search_of(layer: usize, octave: u32, s: Settings) -> Search
-    requires { (contrastWrong s.contrast ≡ false) × (1 ≤ s.layers) × (s.layers ≤ maxLayers) }
-    ensures { result ≡ searchOf layer octave s }
+    requires { (contrast_wrong s.contrast ≡ false) × (1 ≤ s.layers) × (s.layers ≤ max_layers) }
+    ensures { result ≡ search_of layer octave s }
 {
     Search {
         layer: layer,
@@ -70,8 +70,8 @@ pub fn find_extrema(
     s: Settings,
     out: &mut [u32],
 ) -> Answer
-    ensures value { result ≡ extremaAnswer dog.now t layer octave s (length out.old) }
-    ensures out_after { out.new ≡ extremaOut dog.now t layer octave s out.old }
+    ensures value { result ≡ extrema_answer dog.now t layer octave s (length out.old) }
+    ensures out_after { out.new ≡ extrema_out dog.now t layer octave s out.old }
 {
     let f = fault(dog.len(), t, layer, octave, s);
     if f != 0 {

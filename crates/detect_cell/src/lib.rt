@@ -5,7 +5,7 @@ ghost use Rattle.std.specs.Prelude.{◌≡◌, length};
 ghost use Rattle.detect_refine.specs.Place.{Searched, Placed};
 ghost use Rattle.detect_extrema.specs.Neighbours.{tied};
 ghost use Rattle.detect_extrema.specs.Scan.{kept, cell_of, found};
-ghost use Rattle.detect_look.specs.Hints.{hintAt};
+ghost use Rattle.detect_look.specs.Hints.{hint_at};
 
 use detect_keypoint::{Cell, Search};
 use detect_refine::Refined;
@@ -40,7 +40,7 @@ pub fn cell(dog: &[f32], t: Shape, s: Search, r: usize, c: usize) -> Refined
 pub fn seen(mark: bool, dog: &[f32], t: Shape, s: Search, r: usize, c: usize) -> Refined
     requires searched { Searched (length dog.now) t s }
     requires placed { Placed t s.settings.layers (cell_of s r c) }
-    requires mark_value { mark ≡ hintAt s.threshold dog.now t s.layer r c }
+    requires mark_value { mark ≡ hint_at s.threshold dog.now t s.layer r c }
     ensures { kept result ≡ found tied dog.now t s r c }
 {
     if mark {

@@ -32,11 +32,11 @@ module _ {len : ℕ} {t : Shape} {p r c : ℕ} (s : Around len t p r c) where
   corner = record { whole = s.whole; plane = omega arith; row = omega arith; column = omega arith }
 
   -- no step of working out the corner's index wraps
-  pub corner-index : Index len w h (p - 1) (r - 1) (c - 1)
-  corner-index = index corner
+  pub corner_index : Index len w h (p - 1) (r - 1) (c - 1)
+  corner_index = index corner
 
-  pub plane-below : h * w ≤ len
-  plane-below =
+  pub plane_below : h * w ≤ len
+  plane_below =
       let n = t.planes in
       let q = le-mul_of_pos_right {m = n} (h * w) (omega arith) in
       let e : n * h * w ≡ h * w * n = mul_assoc n h w ∙ mul_comm n (h * w) in
@@ -46,17 +46,17 @@ module _ {len : ℕ} {t : Shape} {p r c : ℕ} (s : Around len t p r c) where
     near : Inside len t (p + i - 1) (r + j - 1) (c + k - 1)
     near = record { whole = s.whole; plane = omega arith; row = omega arith; column = omega arith }
 
-    pub near-is : (p + i - 1 ≡ p - 1 + i) × (r + j - 1 ≡ r - 1 + j) × (c + k - 1 ≡ c - 1 + k)
-    near-is = omega arith
+    pub near_is : (p + i - 1 ≡ p - 1 + i) × (r + j - 1 ≡ r - 1 + j) × (c + k - 1 ≡ c - 1 + k)
+    near_is = omega arith
 
-    pub near-index : ((p + i - 1) * h + (r + j - 1)) * w + (c + k - 1) ≡ along w h (p - 1) (r - 1) (c - 1) i j k
-    near-index = rw (near-is.0, near-is.1, near-is.2) (spread w h (p - 1) (r - 1) (c - 1) i j k)
+    pub near_index : ((p + i - 1) * h + (r + j - 1)) * w + (c + k - 1) ≡ along w h (p - 1) (r - 1) (c - 1) i j k
+    near_index = rw (near_is.0, near_is.1, near_is.2) (spread w h (p - 1) (r - 1) (c - 1) i j k)
 
-    pub near-below : along w h (p - 1) (r - 1) (c - 1) i j k < len
-    near-below = omega (arith, near-index, (index near).below)
+    pub near_below : along w h (p - 1) (r - 1) (c - 1) i j k < len
+    near_below = omega (arith, near_index, (index near).below)
 
 -- what is read there is the sample of the definition
-pub near-sample : (d : List Float) (t : Shape) (p r c i j k : ℕ) → Around (length d) t p r c → i < 3 → j < 3 → k < 3
+pub near_sample : (d : List Float) (t : Shape) (p r c i j k : ℕ) → Around (length d) t p r c → i < 3 → j < 3 → k < 3
     → get_or d (along t.width t.height (p - 1) (r - 1) (c - 1) i j k) nan ≡ sample d t (p + i - 1) (r + j - 1) (c + k - 1)
 unfolding sample pixel
-near-sample d t p r c i j k s a b e = rw (near-index s i j k a b e)
+near_sample d t p r c i j k s a b e = rw (near_index s i j k a b e)

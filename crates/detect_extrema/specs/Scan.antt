@@ -4,7 +4,7 @@ use Rattle.ieee.specs.F32.{bits_of}
 use Rattle.lists.specs.Ranges.{joined}
 use Rattle.params.specs.Limits.{border}
 use Rattle.picture.specs.declared.Shape.{Shape}
-use Rattle.detect_refine.specs.Settle.{refineOf}
+use Rattle.detect_refine.specs.Settle.{refine_of}
 use Rattle.detect_keypoint.specs.declared.Cell.{Cell}
 use Rattle.detect_keypoint.specs.declared.Search.{Search}
 use Rattle.detect_keypoint.specs.declared.RawKeypoint.{RawKeypoint}
@@ -22,7 +22,7 @@ cell_of s r c = record { p = s.layer; r = r; c = c }
 
 -- what it gives: nothing, or the keypoint that it is refined to
 unfoldable pub found : Rule → List Float → Shape → Search → ℕ → ℕ → List RawKeypoint
-found rule d t s r c = cond (candidate rule s.threshold d t s.layer r c) (kept (refineOf d t s (cell_of s r c))) []
+found rule d t s r c = cond (candidate rule s.threshold d t s.layer r c) (kept (refine_of d t s (cell_of s r c))) []
 
 -- the cells of a row from column lo to below hi, from left to right
 abbrev pub cells_of : Rule → List Float → Shape → Search → ℕ → ℕ → ℕ → List RawKeypoint

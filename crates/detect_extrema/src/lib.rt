@@ -6,7 +6,7 @@ ghost use Rattle.ieee.specs.F32.{◌<ᶠ◌};
 ghost use Rattle.ieee.specs.Numbers.{nought};
 ghost use Rattle.picture.specs.Stack.{sample};
 ghost use Rattle.detect_fit.specs.Place.{Around};
-ghost use Rattle.detect_extrema.specs.Neighbours.{tied, keepsAs, centre, isExtremum, loud};
+ghost use Rattle.detect_extrema.specs.Neighbours.{tied, keeps_as, centre, is_extremum, loud};
 
 use picture::Shape;
 
@@ -19,7 +19,7 @@ fn is_centre(i: usize, j: usize, k: usize) -> bool
 
 // Whether a cell stands beside a neighbour: as the larger where `up`, else as the smaller. Ties pass.
 fn keeps(up: bool, val: f32, other: f32) -> bool
-    ensures { result ≡ keepsAs tied up val other }
+    ensures { result ≡ keeps_as tied up val other }
 {
     if up { val >= other } else { val <= other }
 }
@@ -28,7 +28,7 @@ fn keeps(up: bool, val: f32, other: f32) -> bool
 fn stands(dog: &[f32], t: Shape, p: usize, r: usize, c: usize, up: bool) -> bool
     requires around { Around (length dog.now) t p r c }
     requires up_value { up ≡ (nought <ᶠ sample dog.now t p r c) }
-    ensures { result ≡ isExtremum tied dog.now t p r c }
+    ensures { result ≡ is_extremum tied dog.now t p r c }
 {
     let plane = t.height * t.width;
     let first = ((p - 1) * t.height + (r - 1)) * t.width + (c - 1);
@@ -54,7 +54,7 @@ fn stands(dog: &[f32], t: Shape, p: usize, r: usize, c: usize, up: bool) -> bool
 // Whether a cell is an extremum among its neighbours. A positive one has to be the larger, any other the smaller.
 pub fn is_extremum(dog: &[f32], t: Shape, p: usize, r: usize, c: usize) -> bool
     requires { Around (length dog.now) t p r c }
-    ensures { result ≡ isExtremum tied dog.now t p r c }
+    ensures { result ≡ is_extremum tied dog.now t p r c }
 {
     if picture::at(dog, t, p, r, c) > 0.0 {
         stands(dog, t, p, r, c, true)

@@ -11,14 +11,14 @@ use Rattle.detect_fit.specs.declared.Bend.{Bend}
 use Rattle.detect_fit.specs.declared.Offset.{Offset}
 
 -- IMG_SCALE = 1 / 255; DERIV is half, SECOND all and CROSS a quarter of it
-abbrev pub imgScale : Float
-imgScale = f32 0x3b80_8081
+abbrev pub img_scale : Float
+img_scale = f32 0x3b80_8081
 
 abbrev pub deriv : Float
 deriv = f32 0x3b00_8081
 
 abbrev pub second : Float
-second = imgScale
+second = img_scale
 
 abbrev pub cross : Float
 cross = f32 0x3a80_8081
@@ -58,11 +58,11 @@ curve a b mid = (a ⊕ b ⊖ mid ⊗ two) ⊗ second
 abbrev pub twist : Float → Float → Float → Float → Float
 twist a b c d = (a ⊖ b ⊖ c ⊕ d) ⊗ cross
 
-unfoldable pub gradientOf : Patch → Gradient
-gradientOf patch = record { dx = diff patch.ir patch.il; dy = diff patch.id patch.iu; ds = diff patch.nm patch.pm }
+unfoldable pub gradient_of : Patch → Gradient
+gradient_of patch = record { dx = diff patch.ir patch.il; dy = diff patch.id patch.iu; ds = diff patch.nm patch.pm }
 
-unfoldable pub bendOf : Patch → Bend
-bendOf patch =
+unfoldable pub bend_of : Patch → Bend
+bend_of patch =
     record {
       xx = curve patch.ir patch.il patch.im;
       yy = curve patch.id patch.iu patch.im;
@@ -73,28 +73,28 @@ bendOf patch =
     }
 
 -- a * b - c * d: the second product is rounded, the first fused
-unfoldable pub mulSub : Float → Float → Float → Float → Float
-mulSub a b c d = fused a b (neg (c ⊗ d))
+unfoldable pub mul_sub : Float → Float → Float → Float → Float
+mul_sub a b c d = fused a b (neg (c ⊗ d))
 
 -- p0 * p1 - q0 * q1 + r0 * r1, two fused operations from left to right
 unfoldable pub outer : Float → Float → Float → Float → Float → Float → Float
 outer p0 p1 q0 q1 r0 r1 = fused r0 r1 (fused p0 p1 (neg (q0 ⊗ q1)))
 
-unfoldable pub detOf : Bend → Float
-detOf h =
-    outer h.xx (mulSub h.yy h.ss h.ys h.ys)
-    h.xy (mulSub h.xy h.ss h.xs h.ys)
-    h.xs (mulSub h.xy h.ys h.xs h.yy)
+unfoldable pub det_of : Bend → Float
+det_of h =
+    outer h.xx (mul_sub h.yy h.ss h.ys h.ys)
+    h.xy (mul_sub h.xy h.ss h.xs h.ys)
+    h.xs (mul_sub h.xy h.ys h.xs h.yy)
 
 -- the offset, where the determinant is det
 unfoldable pub offset_of : Gradient → Bend → Float → Offset
 offset_of g h det =
     let d = one ⊘ det in
-    let a = mulSub g.dy h.ss h.ys g.ds in
-    let b = mulSub g.dy h.ys h.yy g.ds in
-    let e = mulSub h.xy g.ds g.dy h.xs in
+    let a = mul_sub g.dy h.ss h.ys g.ds in
+    let b = mul_sub g.dy h.ys h.yy g.ds in
+    let e = mul_sub h.xy g.ds g.dy h.xs in
     record {
-      xi = neg (d ⊗ outer h.xx (neg b) h.xy e g.dx (mulSub h.xy h.ys h.yy h.xs));
-      xr = neg (d ⊗ outer h.xx a g.dx (mulSub h.xy h.ss h.ys h.xs) h.xs e);
-      xc = neg (d ⊗ outer g.dx (mulSub h.yy h.ss h.ys h.ys) h.xy a h.xs b);
+      xi = neg (d ⊗ outer h.xx (neg b) h.xy e g.dx (mul_sub h.xy h.ys h.yy h.xs));
+      xr = neg (d ⊗ outer h.xx a g.dx (mul_sub h.xy h.ss h.ys h.xs) h.xs e);
+      xc = neg (d ⊗ outer g.dx (mul_sub h.yy h.ss h.ys h.ys) h.xy a h.xs b);
     }

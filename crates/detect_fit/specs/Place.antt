@@ -24,8 +24,8 @@ pub record Amid (len : ℕ) (t : Shape) (p r c : ℕ) : Type 0 where
   pub right : c + 1 < t.width
 
 -- the sample at (p, r, c) and its four nearest in the plane
-unfoldable pub nearOf : List Float → Shape → ℕ → ℕ → ℕ → Near
-nearOf d t p r c =
+unfoldable pub near_of : List Float → Shape → ℕ → ℕ → ℕ → Near
+near_of d t p r c =
     record {
       m = sample d t p r c;
       l = sample d t p r (c - 1);

@@ -2,8 +2,8 @@
 #![tactic(auto)]
 
 ghost use Rattle.std.specs.Prelude.{◌≡◌, length};
-ghost use Rattle.detect_fit.specs.Fit.{patch_of, gradientOf, bendOf, mulSub, outer, detOf, offset_of};
-ghost use Rattle.detect_fit.specs.Place.{Amid, Around, nearOf};
+ghost use Rattle.detect_fit.specs.Fit.{patch_of, gradient_of, bend_of, mul_sub, outer, det_of, offset_of};
+ghost use Rattle.detect_fit.specs.Place.{Amid, Around, near_of};
 
 use picture::Shape;
 
@@ -78,7 +78,7 @@ const CROSS: f32 = 0.0009803922148421407;
 // The sample at (p, r, c) and its four nearest in the plane.
 pub fn near_at(dog: &[f32], t: Shape, p: usize, r: usize, c: usize) -> Near
     requires { Amid (length dog.now) t p r c }
-    ensures { result ≡ nearOf dog.now t p r c }
+    ensures { result ≡ near_of dog.now t p r c }
 {
     Near {
         m: picture::at(dog, t, p, r, c),
@@ -121,7 +121,7 @@ pub fn patch_at(dog: &[f32], t: Shape, p: usize, r: usize, c: usize) -> Patch
 }
 
 pub fn gradient_of(patch: Patch) -> Gradient
-    ensures { result ≡ gradientOf patch }
+    ensures { result ≡ gradient_of patch }
 {
     Gradient {
         dx: (patch.ir - patch.il) * DERIV,
@@ -131,7 +131,7 @@ pub fn gradient_of(patch: Patch) -> Gradient
 }
 
 pub fn bend_of(patch: Patch) -> Bend
-    ensures { result ≡ bendOf patch }
+    ensures { result ≡ bend_of patch }
 {
     let v2 = patch.im * 2.0;
     Bend {
@@ -146,7 +146,7 @@ pub fn bend_of(patch: Patch) -> Bend
 
 // a * b - c * d: the second product is rounded, the first fused.
 pub fn mul_sub(a: f32, b: f32, c: f32, d: f32) -> f32
-    ensures { result ≡ mulSub a b c d }
+    ensures { result ≡ mul_sub a b c d }
 {
     ieee_fused::mul_add(a, b, -(c * d))
 }
@@ -159,7 +159,7 @@ fn outer3(p0: f32, p1: f32, q0: f32, q1: f32, r0: f32, r1: f32) -> f32
 }
 
 pub fn det_of(h: Bend) -> f32
-    ensures { result ≡ detOf h }
+    ensures { result ≡ det_of h }
 {
     let m0 = mul_sub(h.yy, h.ss, h.ys, h.ys);
     let m1 = mul_sub(h.xy, h.ss, h.xs, h.ys);

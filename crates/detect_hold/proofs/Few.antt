@@ -6,7 +6,7 @@ use native.Mathlib.Nat.{mul_comm, mul-le-mul, le_trans}
 use native.Mathlib.Omega.{arith}
 use lib.ListN.{length}
 use lib.Ieee.{Float}
-use Rattle.params.specs.Limits.{border, maxSide}
+use Rattle.params.specs.Limits.{border, max_side}
 use Rattle.picture.specs.declared.Shape.{Shape}
 use Rattle.detect_refine.specs.Place.{Searched}
 use Rattle.detect_keypoint.specs.declared.Search.{Search}
@@ -15,18 +15,18 @@ use Rattle.detect_extrema.specs.Scan.{keypoints}
 use Rattle.detect_extrema.proofs.Rows.{rows_bound}
 
 module _ (d : List Float) (t : Shape) (s : Search) where
-  pub few-cells : length (keypoints tied d t s) ≤ (t.width - 2 * border) * (t.height - 2 * border)
+  pub few_cells : length (keypoints tied d t s) ≤ (t.width - 2 * border) * (t.height - 2 * border)
   unfolding keypoints
-  few-cells =
+  few_cells =
       let a : t.width - border - border ≡ t.width - 2 * border = omega arith in
       let b : t.height - border - border ≡ t.height - 2 * border = omega arith in
       rw (mul_comm (t.width - 2 * border) (t.height - 2 * border), ← a, ← b) (rows_bound tied d t s border (t.height - border))
 
   -- few enough to number their words
   module _ (len : ℕ) (q : Searched len t s) where
-    pub cells-few : (t.width - 2 * border) * (t.height - 2 * border) ≤ maxSide * maxSide
-    cells-few =
-        mul-le-mul {n₁ = t.width - 2 * border} {m₁ = t.height - 2 * border} {n₂ = maxSide} {m₂ = maxSide} (omega (arith, q.wide)) (omega (arith, q.high))
+    pub cells_few : (t.width - 2 * border) * (t.height - 2 * border) ≤ max_side * max_side
+    cells_few =
+        mul-le-mul {n₁ = t.width - 2 * border} {m₁ = t.height - 2 * border} {n₂ = max_side} {m₂ = max_side} (omega (arith, q.wide)) (omega (arith, q.high))
 
-    pub keypoints-few : length (keypoints tied d t s) ≤ maxSide * maxSide
-    keypoints-few = le_trans few-cells cells-few
+    pub keypoints_few : length (keypoints tied d t s) ≤ max_side * max_side
+    keypoints_few = le_trans few_cells cells_few

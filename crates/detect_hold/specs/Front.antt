@@ -5,16 +5,16 @@ use Rattle.params.specs.Limits.{border}
 use Rattle.picture.specs.declared.Shape.{Shape}
 use Rattle.detect_keypoint.specs.declared.Search.{Search}
 use Rattle.detect_look.specs.Hints.{hinted}
-use Rattle.detect_rows.specs.Forms.{rowsLeave}
+use Rattle.detect_rows.specs.Forms.{rows_leave}
 
 -- the cells of all keypoints of the rows above r, n of them, are the first words of what is held
 pub record Holds (d : List Float) (t : Shape) (s : Search) (r n : ℕ) (hold : List ℕ) : Type 0 where
   pub above : border ≤ r
   pub below : r ≤ t.height - border
-  pub count : n ≡ length (rowsLeave true d t s border r)
+  pub count : n ≡ length (rows_leave true d t s border r)
   pub fits : n ≤ length hold
-  pub cells : take n hold ≡ rowsLeave true d t s border r
+  pub cells : take n hold ≡ rows_leave true d t s border r
 
 -- the cells with a hint of the rows from lo to below hi: they give no more keypoints than that
-unfoldable pub rowsHinted : List Float → Shape → Search → ℕ → ℕ → List ℕ
-rowsHinted d t s lo hi = joined lo hi (λ r. hinted d t s r border (t.width - border))
+unfoldable pub rows_hinted : List Float → Shape → Search → ℕ → ℕ → List ℕ
+rows_hinted d t s lo hi = joined lo hi (λ r. hinted d t s r border (t.width - border))

@@ -4,13 +4,13 @@
 ghost use Rattle.std.specs.Prelude.{◌≡◌, true, false, ◌+◌, ◌-◌, ◌*◌, ◌^◌, ◌<◌, ◌≤◌, length};
 ghost use Rattle.std.proofs.lemmas.List.Edits.{sets};
 ghost use Rattle.params.specs.Limits.{border};
-ghost use Rattle.params.specs.Table.{allGood};
-ghost use Rattle.detect_samples.specs.Rows.{rowsGood};
+ghost use Rattle.params.specs.Table.{all_good};
+ghost use Rattle.detect_samples.specs.Rows.{rows_good};
 ghost use Rattle.detect_refine.specs.Place.{Searched};
 ghost use Rattle.detect_extrema.specs.Neighbours.{tied};
 ghost use Rattle.detect_extrema.specs.Scan.{keypoints, words};
-ghost use Rattle.detect_rows.specs.Forms.{rowsLeave};
-ghost use Rattle.detect_hold.specs.Front.{Holds, rowsHinted};
+ghost use Rattle.detect_rows.specs.Forms.{rows_leave};
+ghost use Rattle.detect_hold.specs.Front.{Holds, rows_hinted};
 
 use detect_keypoint::Search;
 use detect_look::Run;
@@ -32,8 +32,8 @@ pub fn rest_words(dog: &[f32], t: Shape, s: Search, from: usize, p: Place, out: 
     requires searched { Searched (length dog.now) t s }
     requires border_bound { (2 * border < t.width) × (border ≤ from) × (from ≤ t.height - border) }
     requires from_bound { p.from < 2 ^ 38 }
-    ensures value { result ≡ length (rowsLeave p.cells dog.now t s from (t.height - border)) }
-    ensures out_after { out.new ≡ sets out.old p.from (rowsLeave p.cells dog.now t s from (t.height - border)) }
+    ensures value { result ≡ length (rows_leave p.cells dog.now t s from (t.height - border)) }
+    ensures out_after { out.new ≡ sets out.old p.from (rows_leave p.cells dog.now t s from (t.height - border)) }
 {
     let mut n: usize = 0;
     for r in from..t.height - BORDER {
@@ -57,7 +57,7 @@ pub fn rest_words(dog: &[f32], t: Shape, s: Search, from: usize, p: Place, out: 
 pub fn rest_hints(dog: &[f32], t: Shape, s: Search, from: usize) -> usize
     requires searched { Searched (length dog.now) t s }
     requires border_bound { (2 * border < t.width) × (border ≤ from) × (from ≤ t.height - border) }
-    ensures { result ≡ length (rowsHinted dog.now t s from (t.height - border)) }
+    ensures { result ≡ length (rows_hinted dog.now t s from (t.height - border)) }
 {
     let mut n: usize = 0;
     for r in from..t.height - BORDER {
@@ -82,8 +82,8 @@ fn held_rows(dog: &[f32], t: Shape, s: Search, hold: &mut [u32]) -> Front
     requires border_bound { (2 * border < t.width) × (2 * border < t.height) }
     requires hold_len_bound { length hold.old < 2 ^ 38 }
     ensures holds { Holds dog.now t s result.row result.count hold.new }
-    ensures dog_value { result.good ≡ true → rowsGood t (border + 1) (result.row + 1) dog.now ≡ true }
-    ensures dog_value_2 { result.good ≡ false → allGood dog.now ≡ false }
+    ensures dog_value { result.good ≡ true → rows_good t (border + 1) (result.row + 1) dog.now ≡ true }
+    ensures dog_value_2 { result.good ≡ false → all_good dog.now ≡ false }
 {
     let end = t.height - BORDER;
     let mut n: usize = 0;
@@ -130,7 +130,7 @@ pub fn front_of(dog: &[f32], t: Shape, s: Search, hold: &mut [u32]) -> Front
     requires border_bound { (2 * border < t.width) × (2 * border < t.height) }
     requires hold_len_bound { length hold.old < 2 ^ 38 }
     ensures holds { Holds dog.now t s result.row result.count hold.new }
-    ensures good_value { result.good ≡ allGood dog.now }
+    ensures good_value { result.good ≡ all_good dog.now }
 {
     let top = detect_samples::rows_good(dog, t, 0, BORDER + 1);
     let f = held_rows(dog, t, s, hold);

@@ -3,10 +3,10 @@ use Rattle.std.specs.Prelude.{◌≡◌, ℕ, ◌-◌, ◌*◌, ◌/◌, ◌%◌
 use Rattle.std.specs.Float.{binary32}
 use Rattle.std.specs.Float.Ieee.{fits}
 use Rattle.std.specs.Float.Ieee.Scale.{finite}
-use Rattle.ieee.specs.F32.{◌⊕◌, ◌⊗◌, ◌⊘◌, ◌<ᶠ◌, ◌≤ᶠ◌, absOf, float}
+use Rattle.ieee.specs.F32.{◌⊕◌, ◌⊗◌, ◌⊘◌, ◌<ᶠ◌, ◌≤ᶠ◌, abs_of, float}
 use Rattle.ieee.specs.Numbers.{nought, half}
-use Rattle.hal.specs.Exp.{inUp}
-use Rattle.params.specs.Limits.{border, maxMoves}
+use Rattle.hal.specs.Exp.{in_up}
+use Rattle.params.specs.Limits.{border, max_moves}
 use Rattle.params.specs.declared.Settings.{Settings}
 use Rattle.detect_keypoint.specs.declared.RawKeypoint.{RawKeypoint}
 
@@ -19,7 +19,7 @@ pub record Number (x : Float) : Type 0 where
 pub record Near (v o : ℕ) (x : Float) : Type 0 where
   pub offset : Float
   pub held : T (fits binary32 offset)
-  pub small : (absOf offset <ᶠ half) ≡ true
+  pub small : (abs_of offset <ᶠ half) ≡ true
   pub is : x ≡ (float v ⊕ offset) ⊗ float (2 ^ o)
 
 -- k is a keypoint of the octave o of a frame w wide and h high, searched with s
@@ -32,27 +32,27 @@ pub record Sound (w h : ℕ) (s : Settings) (o : ℕ) (k : RawKeypoint) : Type 0
   pub first : 1 ≤ k.layer
   pub last : k.layer ≤ s.layers
   -- 0 to 4
-  pub moves : k.moves < maxMoves
+  pub moves : k.moves < max_moves
   -- the octave word: the octave, the layer, a code of a byte, and nothing above
   pub low_byte : k.octave % 2 ^ 8 ≡ o
-  pub next-byte : k.octave / 2 ^ 8 % 2 ^ 8 ≡ k.layer
-  pub third-byte : k.octave / 2 ^ 16 < 2 ^ 8
+  pub next_byte : k.octave / 2 ^ 8 % 2 ^ 8 ≡ k.layer
+  pub third_byte : k.octave / 2 ^ 16 < 2 ^ 8
   -- every float is finite; x, y and size are above 0, and the response has no sign
-  pub x-number : Number k.x
-  pub y-number : Number k.y
+  pub x_number : Number k.x
+  pub y_number : Number k.y
   pub size_number : Number k.size
-  pub response-number : Number k.response
-  pub xi-number : Number k.xi
-  pub x-above : (nought <ᶠ k.x) ≡ true
-  pub y-above : (nought <ᶠ k.y) ≡ true
+  pub response_number : Number k.response
+  pub xi_number : Number k.xi
+  pub x_above : (nought <ᶠ k.x) ≡ true
+  pub y_above : (nought <ᶠ k.y) ≡ true
   pub size_above : (nought <ᶠ k.size) ≡ true
-  pub response-plain : absOf k.response ≡ k.response
+  pub response_plain : abs_of k.response ≡ k.response
   -- the position is the cell's, moved by less than half a cell
-  pub x-near : Near k.cc o k.x
-  pub y-near : Near k.rr o k.y
-  pub xi-small : (absOf k.xi <ᶠ half) ≡ true
+  pub x_near : Near k.cc o k.x
+  pub y_near : Near k.rr o k.y
+  pub xi_small : (abs_of k.xi <ᶠ half) ≡ true
   -- sigma is 0.5 to 16, the power of two 1 to 4, and the size twice their product, scaled
-  pub size-from : (float (2 ^ o) ≤ᶠ k.size) ≡ true
-  pub size-to : (k.size ≤ᶠ float (2 ^ 7 * 2 ^ o)) ≡ true
+  pub size_from : (float (2 ^ o) ≤ᶠ k.size) ≡ true
+  pub size_to : (k.size ≤ᶠ float (2 ^ 7 * 2 ^ o)) ≡ true
   -- exp2 was asked inside its range
-  pub asked : inUp ((float k.layer ⊕ k.xi) ⊘ float s.layers) ≡ true
+  pub asked : in_up ((float k.layer ⊕ k.xi) ⊘ float s.layers) ≡ true

@@ -2,11 +2,11 @@
 #![tactic(auto)]
 
 ghost use Rattle.std.specs.Prelude.{◌≡◌, ◌^◌, ◌≤◌, true, pos};
-ghost use Rattle.ieee.specs.F32.{absOf, ◌<ᶠ◌, float};
+ghost use Rattle.ieee.specs.F32.{abs_of, ◌<ᶠ◌, float};
 ghost use Rattle.ieee.specs.Numbers.{half};
-ghost use Rattle.params.specs.Limits.{maxSide, maxLayers, maxOctave};
+ghost use Rattle.params.specs.Limits.{max_side, max_layers, max_octave};
 ghost use Rattle.detect_keypoint.specs.Offsets.{small};
-ghost use Rattle.detect_keypoint.specs.Keypoint.{contrastOf, dim, edgy, code_of, keypointWith};
+ghost use Rattle.detect_keypoint.specs.Keypoint.{contrast_of, dim, edgy, code_of, keypoint_with};
 
 use detect_fit::{Offset, Patch};
 use params::Settings;
@@ -45,7 +45,7 @@ pub struct RawKeypoint {
 
 // The contrast at the offset.
 pub fn contrast_of(patch: Patch, o: Offset) -> f32
-    ensures { result ≡ contrastOf patch o }
+    ensures { result ≡ contrast_of patch o }
 {
     let g = detect_fit::gradient_of(patch);
     let s = ieee_fused::mul_add(g.ds, o.xi, ieee_fused::mul_add(g.dy, o.xr, g.dx * o.xc));
@@ -54,7 +54,7 @@ pub fn contrast_of(patch: Patch, o: Offset) -> f32
 
 // The contrast times the layers is below the setting.
 pub fn is_dim(s: Settings, contrast: f32) -> bool
-    requires { s.layers ≤ maxLayers }
+    requires { s.layers ≤ max_layers }
     ensures { result ≡ dim s contrast }
 {
     ieee::abs(contrast) * (s.layers as f32) < ieee_fused::narrow(s.contrast)
@@ -81,7 +81,7 @@ fn float(n: usize) -> f32
 
 // 2^octave as an f32.
 fn scale_of(octave: u32) -> f32
-    requires { octave ≤ maxOctave }
+    requires { octave ≤ max_octave }
     ensures { result ≡ float (2 ^ octave) }
 {
     (1u64 << octave) as f32
@@ -89,7 +89,7 @@ fn scale_of(octave: u32) -> f32
 
 // (xi + 0.5) * 255, rounded: the third byte of the octave word. It lies in 0 to 255, so that a cast without a sign gives what the source's signed one gives.
 fn code_of(xi: f32) -> u32
-    requires { (absOf xi <ᶠ half) ≡ true }
+    requires { (abs_of xi <ᶠ half) ≡ true }
     ensures { (pos result ≡ code_of xi) × (result ≤ 255) }
 {
     std::num::truncating_f32_to_u64(ieee_whole::round_ties_even((xi + 0.5) * 255.0)) as u32
@@ -97,9 +97,9 @@ fn code_of(xi: f32) -> u32
 
 // The keypoint that settled at the cell k with the offset o after so many moves; `response` is the contrast there, without its sign.
 pub fn keypoint_of(s: Search, moves: u32, k: Cell, o: Offset, response: f32) -> RawKeypoint
-    requires octave_le_max_octave { (s.octave ≤ maxOctave) × (s.settings.layers ≤ maxLayers) × (k.p ≤ maxLayers) × (k.r ≤ maxSide) × (k.c ≤ maxSide) }
+    requires octave_le_max_octave { (s.octave ≤ max_octave) × (s.settings.layers ≤ max_layers) × (k.p ≤ max_layers) × (k.r ≤ max_side) × (k.c ≤ max_side) }
     requires o_value { small o ≡ true }
-    ensures { result ≡ keypointWith s moves k o response }
+    ensures { result ≡ keypoint_with s moves k o response }
 {
     let scale = scale_of(s.octave);
     let power = hal::exp2((float(k.p) + o.xi) / float(s.settings.layers));

@@ -5,7 +5,7 @@ ghost use Rattle.std.specs.Prelude.{◌≡◌, false, cond, ◌+◌, ◌≤◌, 
 ghost use Rattle.std.proofs.lemmas.List.Edits.{sets};
 ghost use Rattle.detect_fit.specs.Place.{Around};
 ghost use Rattle.detect_refine.specs.Place.{Searched};
-ghost use Rattle.detect_look.specs.Hints.{greater_of, lesserOf, ofSix, hintAt, beyond, anyLoud, anyHint, looks, hinted};
+ghost use Rattle.detect_look.specs.Hints.{greater_of, lesser_of, of_six, hint_at, beyond, any_loud, any_hint, looks, hinted};
 ghost use Rattle.detect_look.specs.Place.{group, Along};
 
 use detect_fit::Near;
@@ -35,14 +35,14 @@ fn greater(a: f32, b: f32) -> f32
 }
 
 fn lesser(a: f32, b: f32) -> f32
-    ensures { result ≡ lesserOf a b }
+    ensures { result ≡ lesser_of a b }
 {
     if a < b { a } else { b }
 }
 
 // The greatest of a cell's six nearest neighbours, and the least.
 fn greatest(n: Near, before: f32, after: f32) -> f32
-    ensures { result ≡ ofSix greater_of n before after }
+    ensures { result ≡ of_six greater_of n before after }
 {
     greater(
         greater(n.l, n.r),
@@ -51,7 +51,7 @@ fn greatest(n: Near, before: f32, after: f32) -> f32
 }
 
 fn least(n: Near, before: f32, after: f32) -> f32
-    ensures { result ≡ ofSix lesserOf n before after }
+    ensures { result ≡ of_six lesser_of n before after }
 {
     lesser(
         lesser(n.l, n.r),
@@ -63,7 +63,7 @@ fn least(n: Near, before: f32, after: f32) -> f32
 // by the least. Every candidate passes.
 fn may_be(dog: &[f32], t: Shape, threshold: f32, p: usize, r: usize, c: usize) -> bool
     requires { Around (length dog.now) t p r c }
-    ensures { result ≡ hintAt threshold dog.now t p r c }
+    ensures { result ≡ hint_at threshold dog.now t p r c }
 {
     let near = detect_fit::near_at(dog, t, p, r, c);
     let before = picture::at(dog, t, p - 1, r, c);
@@ -85,7 +85,7 @@ fn is_beyond(threshold: f32, v: f32) -> bool
 pub fn any_loud(dog: &[f32], t: Shape, s: Search, u: Run) -> bool
     requires searched { Searched (length dog.now) t s }
     requires along { Along t u }
-    ensures { result ≡ anyLoud dog.now t s u.row u.lo u.hi }
+    ensures { result ≡ any_loud dog.now t s u.row u.lo u.hi }
 {
     let mut any = false;
     for c in u.lo..u.hi {
@@ -98,7 +98,7 @@ pub fn any_loud(dog: &[f32], t: Shape, s: Search, u: Run) -> bool
 pub fn any_hint(dog: &[f32], t: Shape, s: Search, u: Run) -> bool
     requires searched { Searched (length dog.now) t s }
     requires along { Along t u }
-    ensures { result ≡ anyHint dog.now t s u.row u.lo u.hi }
+    ensures { result ≡ any_hint dog.now t s u.row u.lo u.hi }
 {
     let mut any = false;
     for c in u.lo..u.hi {

@@ -7,7 +7,7 @@ use borrow.Author.Tests.{lt-ltb, le-ltb, le-leb, lt-leb, leb-true, ltb-true}
 use lib.Dec.{T, leb, ltb}
 use lib.IntN.{ℤ, pos, negsuc, nat_abs, ◌+ℤ◌}
 use lib.Signed.{lt_z, mag, non_neg}
-use Rattle.params.specs.Limits.{maxSide}
+use Rattle.params.specs.Limits.{max_side}
 use Rattle.detect_refine.specs.Moves.{placed}
 use Rattle.detect_refine.specs.declared.Moved.TheVariants.{Out, In}
 
@@ -18,30 +18,30 @@ unfolding placed
 out_below lo hi (pos u) e = let h : u < 0 = ltb-true u 0 e in absurd (omega arith)
 out_below lo hi (negsuc u) e = refl
 
-pub not-below : (z : ℤ) → lt_z z (pos 0) ≡ false → T (non_neg z)
-not-below (pos u) e = tt
-not-below (negsuc u) e = absurd (true≢false e)
+pub not_below : (z : ℤ) → lt_z z (pos 0) ≡ false → T (non_neg z)
+not_below (pos u) e = tt
+not_below (negsuc u) e = absurd (true≢false e)
 
-pub out-low : (lo hi : ℕ) (z : ℤ) → T (non_neg z) → nat_abs z < lo → Out ≡ placed lo hi z
+pub out_low : (lo hi : ℕ) (z : ℤ) → T (non_neg z) → nat_abs z < lo → Out ≡ placed lo hi z
 unfolding placed
-out-low lo hi (pos u) t h = rw (lt-leb lo u h)
-out-low lo hi (negsuc u) t h = absurd t
+out_low lo hi (pos u) t h = rw (lt-leb lo u h)
+out_low lo hi (negsuc u) t h = absurd t
 
 pub in_both : (lo hi : ℕ) (z : ℤ) → T (non_neg z) → lo ≤ nat_abs z → nat_abs z < hi → In (nat_abs z) ≡ placed lo hi z
 unfolding placed
 in_both lo hi (pos u) t h k = rw (le-leb lo u h, lt-ltb u hi k)
 in_both lo hi (negsuc u) t h k = absurd t
 
-pub out-high : (lo hi : ℕ) (z : ℤ) → T (non_neg z) → lo ≤ nat_abs z → hi ≤ nat_abs z → Out ≡ placed lo hi z
+pub out_high : (lo hi : ℕ) (z : ℤ) → T (non_neg z) → lo ≤ nat_abs z → hi ≤ nat_abs z → Out ≡ placed lo hi z
 unfolding placed
-out-high lo hi (pos u) t h k = rw (le-leb lo u h, le-ltb u hi k)
-out-high lo hi (negsuc u) t h k = absurd t
+out_high lo hi (pos u) t h k = rw (le-leb lo u h, le-ltb u hi k)
+out_high lo hi (negsuc u) t h k = absurd t
 
 -- ---- what lies in the range does
 
-pub placed-in : (lo hi : ℕ) (z : ℤ) (u : ℕ) → placed lo hi z ≡ In u → (lo ≤ u) × (u < hi)
+pub placed_in : (lo hi : ℕ) (z : ℤ) (u : ℕ) → placed lo hi z ≡ In u → (lo ≤ u) × (u < hi)
 unfolding placed
-placed-in lo hi (pos v) u e = go (leb lo v) (ltb v hi) refl refl e
+placed_in lo hi (pos v) u e = go (leb lo v) (ltb v hi) refl refl e
   where
     go : (a b : Bool) → leb lo v ≡ a → ltb v hi ≡ b → cond (a && b) (In v) Out ≡ In u → (lo ≤ u) × (u < hi)
     go true true p q k =
@@ -51,14 +51,14 @@ placed-in lo hi (pos v) u e = go (leb lo v) (ltb v hi) refl refl e
         omega arith
     go true false p q k = let s : ◌≡◌ {A = ℕ} 0 1 = cc in absurd (omega arith)
     go false b p q k = let s : ◌≡◌ {A = ℕ} 0 1 = cc in absurd (omega arith)
-placed-in lo hi (negsuc v) u e = let s : ◌≡◌ {A = ℕ} 0 1 = cc in absurd (omega arith)
+placed_in lo hi (negsuc v) u e = let s : ◌≡◌ {A = ℕ} 0 1 = cc in absurd (omega arith)
 
 -- ---- a place and a move of 31 digits make no more than 32
 
-mag-sub : (b : Bool) (x y c : ℕ) → x < c → y < c → mag (cond b (negsuc x) (pos y)) < c
-mag-sub true x y c h k = h
-mag-sub false x y c h k = k
+mag_sub : (b : Bool) (x y c : ℕ) → x < c → y < c → mag (cond b (negsuc x) (pos y)) < c
+mag_sub true x y c h k = h
+mag_sub false x y c h k = k
 
-pub mag_sum : (v : ℕ) (z : ℤ) → v ≤ maxSide → mag z < 2 ^ 31 → mag (pos v +ℤ z) < 2 ^ 63
+pub mag_sum : (v : ℕ) (z : ℤ) → v ≤ max_side → mag z < 2 ^ 31 → mag (pos v +ℤ z) < 2 ^ 63
 mag_sum v (pos n) h k = omega arith
-mag_sum v (negsuc n) h k = mag-sub (ltb v (suc n)) (suc n - suc v) (v - suc n) (2 ^ 63) (omega arith) (omega arith)
+mag_sum v (negsuc n) h k = mag_sub (ltb v (suc n)) (suc n - suc v) (v - suc n) (2 ^ 63) (omega arith) (omega arith)

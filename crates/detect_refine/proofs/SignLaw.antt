@@ -9,72 +9,72 @@ use lib.Dec.{leb, ltb}
 use lib.IntN.{ℤ, pos, negsuc, ◌+ℤ◌}
 use lib.ListN.{get_or}
 use lib.Ieee.{Float, nan, binary32}
-use Rattle.ieee.specs.F32.{rounded, toI32}
+use Rattle.ieee.specs.F32.{rounded, to_i32}
 use Rattle.ieee_laws.specs.Sign.{Opp, Same}
 use Rattle.ieee_laws.proofs.Turned.{eq_turned}
-use Rattle.ieee_laws.proofs.TurnedOps.{zero-any, abs-turned, roundEven-turned, toSigned-same}
-use Rattle.params.specs.Limits.{border, maxMoves}
+use Rattle.ieee_laws.proofs.TurnedOps.{zero_any, abs_turned, round_even_turned, to_signed_same}
+use Rattle.params.specs.Limits.{border, max_moves}
 use Rattle.picture.specs.declared.Shape.{Shape}
 use Rattle.detect_fit.specs.declared.Patch.{Patch}
 use Rattle.detect_fit.specs.declared.Offset.{Offset}
-use Rattle.detect_fit.proofs.SignLaw.{SameOffset, det-opp, offset-same, gradient-opp, bend-opp}
-use Rattle.detect_keypoint.proofs.SignLaw.{Deep, dim-same, edgy-same, keypoint-same}
+use Rattle.detect_fit.proofs.SignLaw.{SameOffset, det_opp, offset_same, gradient_opp, bend_opp}
+use Rattle.detect_keypoint.proofs.SignLaw.{Deep, dim_same, edgy_same, keypoint_same}
 use Rattle.detect_keypoint.specs.Offsets.{small}
-use Rattle.detect_keypoint.specs.Keypoint.{contrastOf, dim, edgy}
+use Rattle.detect_keypoint.specs.Keypoint.{contrast_of, dim, edgy}
 use Rattle.detect_keypoint.specs.declared.Cell.{Cell}
 use Rattle.detect_keypoint.specs.declared.Search.{Search}
 use Rattle.detect_refine.specs.Moves.{huge, placed, moved, three, walk, step_of}
-use Rattle.detect_refine.specs.Settle.{ended, onStep, patchAt, settleFrom, refineOf}
+use Rattle.detect_refine.specs.Settle.{ended, on_step, patch_at, settle_from, refine_of}
 use Rattle.detect_refine.specs.declared.Moved.{Moved}
 use Rattle.detect_refine.specs.declared.Moved.TheVariants.{Out, In}
 use Rattle.detect_refine.specs.declared.Step.{Step}
 use Rattle.detect_refine.specs.declared.Step.TheVariants.{Lost, Stay, Go}
 use Rattle.detect_refine.specs.declared.Refined.{Refined}
 use Rattle.detect_refine.specs.declared.Refined.TheVariants.{Dropped}
-use Rattle.detect_refine.specs.Sign.{SameRefined, both-dropped, both_at}
+use Rattle.detect_refine.specs.Sign.{SameRefined, both_dropped, both_at}
 
 -- ---- one step. A move never leaves the layers from 1 on or the border
 
 data SameStep : Step → Step → Type 0 where
-  both-lost : SameStep Lost Lost
-  both-stay : {o q : Offset} → SameOffset o q → SameStep (Stay o) (Stay q)
+  both_lost : SameStep Lost Lost
+  both_stay : {o q : Offset} → SameOffset o q → SameStep (Stay o) (Stay q)
   both_go : {k : Cell} → Deep k → SameStep (Go k) (Go k)
 
 data AtLeast (lo : ℕ) : Moved → Type 0 where
   left_out : AtLeast lo Out
   inside : {u : ℕ} → lo ≤ u → AtLeast lo (In u)
 
-placed-at-least : (lo hi : ℕ) (z : ℤ) → AtLeast lo (placed lo hi z)
+placed_at_least : (lo hi : ℕ) (z : ℤ) → AtLeast lo (placed lo hi z)
 unfolding placed
-placed-at-least lo hi (pos u) = go (leb lo u) (ltb u hi) refl
+placed_at_least lo hi (pos u) = go (leb lo u) (ltb u hi) refl
   where
     go : (a b : Bool) → leb lo u ≡ a → AtLeast lo (cond (a && b) (In u) Out)
     go true true e = inside (leb-true lo u e)
     go true false e = left_out
     go false b e = left_out
-placed-at-least lo hi (negsuc u) = left_out
+placed_at_least lo hi (negsuc u) = left_out
 
-moved-at-least : (lo hi v : ℕ) (x : Float) → AtLeast lo (moved lo hi v x)
+moved_at_least : (lo hi v : ℕ) (x : Float) → AtLeast lo (moved lo hi v x)
 unfolding moved
-moved-at-least lo hi v x = placed-at-least lo hi (pos v +ℤ toI32 (rounded x))
+moved_at_least lo hi v x = placed_at_least lo hi (pos v +ℤ to_i32 (rounded x))
 
 moved_same : (lo hi v : ℕ) {x y : Float} → Same x y → moved lo hi v y ≡ moved lo hi v x
 unfolding moved
-moved_same lo hi v s = rw (toSigned-same 31 (roundEven-turned binary32 s))
+moved_same lo hi v s = rw (to_signed_same 31 (round_even_turned binary32 s))
 
 small_same : {o q : Offset} → SameOffset o q → small q ≡ small o
 unfolding small
-small_same s = rw (abs-turned s.xi, abs-turned s.xr, abs-turned s.xc)
+small_same s = rw (abs_turned s.xi, abs_turned s.xr, abs_turned s.xc)
 
-huge-same : {o q : Offset} → SameOffset o q → huge q ≡ huge o
+huge_same : {o q : Offset} → SameOffset o q → huge q ≡ huge o
 unfolding huge
-huge-same s = rw (abs-turned s.xi, abs-turned s.xr, abs-turned s.xc)
+huge_same s = rw (abs_turned s.xi, abs_turned s.xr, abs_turned s.xc)
 
-three-same : {l m n : Moved} → AtLeast 1 l → AtLeast border m → AtLeast border n → SameStep (three l m n) (three l m n)
-three-same (inside p) (inside r) (inside c) = both_go (p, r, c)
-three-same (inside p) (inside r) left_out = both-lost
-three-same (inside p) left_out n = both-lost
-three-same left_out m n = both-lost
+three_same : {l m n : Moved} → AtLeast 1 l → AtLeast border m → AtLeast border n → SameStep (three l m n) (three l m n)
+three_same (inside p) (inside r) (inside c) = both_go (p, r, c)
+three_same (inside p) (inside r) left_out = both_lost
+three_same (inside p) left_out n = both_lost
+three_same left_out m n = both_lost
 
 cond_step : (b : Bool) {s t u v : Step} → SameStep s u → SameStep t v → SameStep (cond b s t) (cond b u v)
 cond_step true p q = p
@@ -83,57 +83,57 @@ cond_step false p q = q
 walk_same : (t : Shape) (layers : ℕ) (k : Cell) {o q : Offset} → SameOffset o q → SameStep (walk t layers k o) (walk t layers k q)
 unfolding walk
 walk_same t layers k {o} s =
-    rw (small_same s, huge-same s, moved_same 1 (layers + 1) k.p s.xi, moved_same border (t.height - border) k.r s.xr, moved_same border (t.width - border) k.c s.xc)
-    (cond_step (small o) (both-stay s)
-    (cond_step (huge o) both-lost
-    (three-same (moved-at-least 1 (layers + 1) k.p o.xi) (moved-at-least border (t.height - border) k.r o.xr) (moved-at-least border (t.width - border) k.c o.xc))))
+    rw (small_same s, huge_same s, moved_same 1 (layers + 1) k.p s.xi, moved_same border (t.height - border) k.r s.xr, moved_same border (t.width - border) k.c s.xc)
+    (cond_step (small o) (both_stay s)
+    (cond_step (huge o) both_lost
+    (three_same (moved_at_least 1 (layers + 1) k.p o.xi) (moved_at_least border (t.height - border) k.r o.xr) (moved_at_least border (t.width - border) k.c o.xc))))
 
 -- a choice whose test is the same, and whose second case is the same where the test fails
-pick-step : (z z' : Bool) {s t : Step} → z' ≡ z → (z ≡ false → SameStep s t) → SameStep (cond z Lost s) (cond z' Lost t)
-pick-step true z' e h = rw e both-lost
-pick-step false z' e h = rw e (h refl)
+pick_step : (z z' : Bool) {s t : Step} → z' ≡ z → (z ≡ false → SameStep s t) → SameStep (cond z Lost s) (cond z' Lost t)
+pick_step true z' e h = rw e both_lost
+pick_step false z' e h = rw e (h refl)
 
-cond-refined : (b : Bool) {s t : Refined} → SameRefined s t → SameRefined (cond b Dropped s) (cond b Dropped t)
-cond-refined true p = both-dropped
-cond-refined false p = p
+cond_refined : (b : Bool) {s t : Refined} → SameRefined s t → SameRefined (cond b Dropped s) (cond b Dropped t)
+cond_refined true p = both_dropped
+cond_refined false p = p
 
 -- ---- a stack and its negative
 
 module _ (d e : List Float) (t : Shape) (s : Search) (o : (i : ℕ) → Opp (get_or d i nan) (get_or e i nan)) where
   module _ (k : Cell) where
     abbrev here : Patch
-    here = patchAt d t k
+    here = patch_at d t k
 
     abbrev there : Patch
-    there = patchAt e t k
+    there = patch_at e t k
 
     step_same : SameStep (step_of t s.settings.layers k here) (step_of t s.settings.layers k there)
     unfolding step_of
     step_same =
-        let g = gradient-opp d e t o k.p k.r k.c in
-        let b = bend-opp d e t o k.p k.r k.c in
-        let x = det-opp b in
-        pick-step _ _ (eq_turned x (zero-any true)) (λ n. walk_same t s.settings.layers k (offset-same g b x n))
+        let g = gradient_opp d e t o k.p k.r k.c in
+        let b = bend_opp d e t o k.p k.r k.c in
+        let x = det_opp b in
+        pick_step _ _ (eq_turned x (zero_any true)) (λ n. walk_same t s.settings.layers k (offset_same g b x n))
 
     ended_same : (moves : ℕ) {u v : Offset} → Deep k → SameOffset u v → SameRefined (ended s moves k here u) (ended s moves k there v)
     unfolding ended
     ended_same moves {u} deep q =
-        rw (dim-same d e t s o k q, edgy-same d e t s o k) (cond-refined (dim s.settings (contrastOf here u) || edgy s.settings here) (both_at (keypoint-same d e t s o k moves deep q)))
+        rw (dim_same d e t s o k q, edgy_same d e t s o k) (cond_refined (dim s.settings (contrast_of here u) || edgy s.settings here) (both_at (keypoint_same d e t s o k moves deep q)))
 
-  settle-same : (left moves : ℕ) (k : Cell) → Deep k → SameRefined (settleFrom d t s left moves k) (settleFrom e t s left moves k)
-  unfolding settleFrom
-  settle-same zero moves k deep = both-dropped
-  settle-same (suc left) moves k deep = follow (λ k' in'. settle-same left (moves + 1) k' in') (step_same k)
+  settle_same : (left moves : ℕ) (k : Cell) → Deep k → SameRefined (settle_from d t s left moves k) (settle_from e t s left moves k)
+  unfolding settle_from
+  settle_same zero moves k deep = both_dropped
+  settle_same (suc left) moves k deep = follow (λ k' in'. settle_same left (moves + 1) k' in') (step_same k)
     where
       follow : {a b : Step}
-          → ((k' : Cell) → Deep k' → SameRefined (settleFrom d t s left (moves + 1) k') (settleFrom e t s left (moves + 1) k'))
+          → ((k' : Cell) → Deep k' → SameRefined (settle_from d t s left (moves + 1) k') (settle_from e t s left (moves + 1) k'))
           → SameStep a b
-          → SameRefined (onStep a Dropped (λ u. ended s moves k (here k) u) (λ k'. settleFrom d t s left (moves + 1) k'))
-          (onStep b Dropped (λ u. ended s moves k (there k) u) (λ k'. settleFrom e t s left (moves + 1) k'))
-      follow rest both-lost = both-dropped
-      follow rest (both-stay q) = ended_same k moves deep q
+          → SameRefined (on_step a Dropped (λ u. ended s moves k (here k) u) (λ k'. settle_from d t s left (moves + 1) k'))
+          (on_step b Dropped (λ u. ended s moves k (there k) u) (λ k'. settle_from e t s left (moves + 1) k'))
+      follow rest both_lost = both_dropped
+      follow rest (both_stay q) = ended_same k moves deep q
       follow rest (both_go {k = k'} in') = rest k' in'
 
-  pub refine-same : (k : Cell) → 1 ≤ k.p → border ≤ k.r → border ≤ k.c → SameRefined (refineOf d t s k) (refineOf e t s k)
-  unfolding refineOf
-  refine-same k p r c = settle-same maxMoves 0 k (p, r, c)
+  pub refine_same : (k : Cell) → 1 ≤ k.p → border ≤ k.r → border ≤ k.c → SameRefined (refine_of d t s k) (refine_of e t s k)
+  unfolding refine_of
+  refine_same k p r c = settle_same max_moves 0 k (p, r, c)

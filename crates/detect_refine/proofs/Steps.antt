@@ -6,7 +6,7 @@ use native.Mathlib.Omega.{arith}
 use lib.Ieee.{Float}
 use Rattle.params.specs.Limits.{border}
 use Rattle.picture.specs.declared.Shape.{Shape}
-use Rattle.detect_fit.specs.Fit.{gradientOf, bendOf, detOf, offset_of}
+use Rattle.detect_fit.specs.Fit.{gradient_of, bend_of, det_of, offset_of}
 use Rattle.detect_fit.specs.declared.Patch.{Patch}
 use Rattle.detect_fit.specs.declared.Offset.{Offset}
 use Rattle.detect_keypoint.specs.Offsets.{small}
@@ -17,99 +17,99 @@ use Rattle.detect_refine.specs.declared.Moved.{Moved}
 use Rattle.detect_refine.specs.declared.Moved.TheVariants.{Out, In}
 use Rattle.detect_refine.specs.declared.Step.{Step}
 use Rattle.detect_refine.specs.declared.Step.TheVariants.{Lost, Stay, Go}
-use Rattle.detect_refine.proofs.Places.{placed-in}
+use Rattle.detect_refine.proofs.Places.{placed_in}
 
 -- ---- a step that stays is small; one that goes stays within the layers and the border
 
-three-stay : (a b d : Moved) (o : Offset) → three a b d ≡ Stay o → ⊥
-three-stay (In p) (In r) (In c) o e = let z : ◌≡◌ {A = ℕ} 0 1 = cc in omega arith
-three-stay (In p) (In r) Out o e = let z : ◌≡◌ {A = ℕ} 0 1 = cc in omega arith
-three-stay (In p) Out m o e = let z : ◌≡◌ {A = ℕ} 0 1 = cc in omega arith
-three-stay Out l m o e = let z : ◌≡◌ {A = ℕ} 0 1 = cc in omega arith
+three_stay : (a b d : Moved) (o : Offset) → three a b d ≡ Stay o → ⊥
+three_stay (In p) (In r) (In c) o e = let z : ◌≡◌ {A = ℕ} 0 1 = cc in omega arith
+three_stay (In p) (In r) Out o e = let z : ◌≡◌ {A = ℕ} 0 1 = cc in omega arith
+three_stay (In p) Out m o e = let z : ◌≡◌ {A = ℕ} 0 1 = cc in omega arith
+three_stay Out l m o e = let z : ◌≡◌ {A = ℕ} 0 1 = cc in omega arith
 
-three-go : (a b d : Moved) (k : Cell) → three a b d ≡ Go k → (a ≡ In k.p) × (b ≡ In k.r) × (d ≡ In k.c)
-three-go (In p) (In r) (In c) k e = let z : record { p = p; r = r; c = c } ≡ k = cc in (ap (λ (x : Cell). In x.p) z, ap (λ (x : Cell). In x.r) z, ap (λ (x : Cell). In x.c) z)
-three-go (In p) (In r) Out k e = let z : ◌≡◌ {A = ℕ} 0 1 = cc in absurd (omega arith)
-three-go (In p) Out m k e = let z : ◌≡◌ {A = ℕ} 0 1 = cc in absurd (omega arith)
-three-go Out l m k e = let z : ◌≡◌ {A = ℕ} 0 1 = cc in absurd (omega arith)
+three_go : (a b d : Moved) (k : Cell) → three a b d ≡ Go k → (a ≡ In k.p) × (b ≡ In k.r) × (d ≡ In k.c)
+three_go (In p) (In r) (In c) k e = let z : record { p = p; r = r; c = c } ≡ k = cc in (ap (λ (x : Cell). In x.p) z, ap (λ (x : Cell). In x.r) z, ap (λ (x : Cell). In x.c) z)
+three_go (In p) (In r) Out k e = let z : ◌≡◌ {A = ℕ} 0 1 = cc in absurd (omega arith)
+three_go (In p) Out m k e = let z : ◌≡◌ {A = ℕ} 0 1 = cc in absurd (omega arith)
+three_go Out l m k e = let z : ◌≡◌ {A = ℕ} 0 1 = cc in absurd (omega arith)
 
 moved_in : (lo hi v : ℕ) (x : Float) (u : ℕ) → moved lo hi v x ≡ In u → (lo ≤ u) × (u < hi)
 unfolding moved
-moved_in lo hi v x u e = placed-in lo hi _ u e
+moved_in lo hi v x u e = placed_in lo hi _ u e
 
 module _ (t : Shape) (layers : ℕ) (k : Cell) where
-  abbrev layer-by : Offset → Moved
-  layer-by o = moved 1 (layers + 1) k.p o.xi
+  abbrev layer_by : Offset → Moved
+  layer_by o = moved 1 (layers + 1) k.p o.xi
 
   abbrev row_by : Offset → Moved
   row_by o = moved border (t.height - border) k.r o.xr
 
-  abbrev column-by : Offset → Moved
-  column-by o = moved border (t.width - border) k.c o.xc
+  abbrev column_by : Offset → Moved
+  column_by o = moved border (t.width - border) k.c o.xc
 
   abbrev goes : Offset → Step
-  goes o = three (layer-by o) (row_by o) (column-by o)
+  goes o = three (layer_by o) (row_by o) (column_by o)
 
-  stay-goes : (o o' : Offset) → goes o ≡ Stay o' → ⊥
-  stay-goes o o' e = three-stay (layer-by o) (row_by o) (column-by o) o' e
+  stay_goes : (o o' : Offset) → goes o ≡ Stay o' → ⊥
+  stay_goes o o' e = three_stay (layer_by o) (row_by o) (column_by o) o' e
 
-  go-goes : (o : Offset) (k' : Cell) → goes o ≡ Go k' → Placed t layers k'
-  go-goes o k' e =
-      let m = three-go (layer-by o) (row_by o) (column-by o) k' e in
+  go_goes : (o : Offset) (k' : Cell) → goes o ≡ Go k' → Placed t layers k'
+  go_goes o k' e =
+      let m = three_go (layer_by o) (row_by o) (column_by o) k' e in
       let i = moved_in _ _ _ _ k'.p m.0 in
       let j = moved_in _ _ _ _ k'.r m.1 in
       let l = moved_in _ _ _ _ k'.c m.2 in
       record { first = i.0; last = i.1; top = j.0; bottom = j.1; start = l.0; end = l.1 }
 
-  walk-stay : (o o' : Offset) → walk t layers k o ≡ Stay o' → small o' ≡ true
+  walk_stay : (o o' : Offset) → walk t layers k o ≡ Stay o' → small o' ≡ true
   unfolding walk
-  walk-stay o o' e = go (small o) (huge o) refl e
+  walk_stay o o' e = go (small o) (huge o) refl e
     where
       go : (a b : Bool) → small o ≡ a → cond a (Stay o) (cond b Lost (goes o)) ≡ Stay o' → small o' ≡ true
       go true b q f = let z : o ≡ o' = cc in rw (← z) q
       go false true q f = let z : ◌≡◌ {A = ℕ} 0 1 = cc in absurd (omega arith)
-      go false false q f = absurd (stay-goes o o' f)
+      go false false q f = absurd (stay_goes o o' f)
 
-  walk-go : (o : Offset) (k' : Cell) → walk t layers k o ≡ Go k' → Placed t layers k'
+  walk_go : (o : Offset) (k' : Cell) → walk t layers k o ≡ Go k' → Placed t layers k'
   unfolding walk
-  walk-go o k' e = go (small o) (huge o) e
+  walk_go o k' e = go (small o) (huge o) e
     where
       go : (a b : Bool) → cond a (Stay o) (cond b Lost (goes o)) ≡ Go k' → Placed t layers k'
       go true b f = let z : ◌≡◌ {A = ℕ} 0 1 = cc in absurd (omega arith)
       go false true f = let z : ◌≡◌ {A = ℕ} 0 1 = cc in absurd (omega arith)
-      go false false f = go-goes o k' f
+      go false false f = go_goes o k' f
 
-  pub step-stay : (patch : Patch) (o : Offset) → step_of t layers k patch ≡ Stay o → small o ≡ true
+  pub step_stay : (patch : Patch) (o : Offset) → step_of t layers k patch ≡ Stay o → small o ≡ true
   unfolding step_of
-  step-stay patch o e = go (singular (detOf (bendOf patch))) e
+  step_stay patch o e = go (singular (det_of (bend_of patch))) e
     where
-      go : (b : Bool) → cond b Lost (walk t layers k (offset_of (gradientOf patch) (bendOf patch) (detOf (bendOf patch)))) ≡ Stay o → small o ≡ true
+      go : (b : Bool) → cond b Lost (walk t layers k (offset_of (gradient_of patch) (bend_of patch) (det_of (bend_of patch)))) ≡ Stay o → small o ≡ true
       go true f = let z : ◌≡◌ {A = ℕ} 0 1 = cc in absurd (omega arith)
-      go false f = walk-stay (offset_of (gradientOf patch) (bendOf patch) (detOf (bendOf patch))) o f
+      go false f = walk_stay (offset_of (gradient_of patch) (bend_of patch) (det_of (bend_of patch))) o f
 
   -- and its offset is the fit's
-  walk-offset : (o o' : Offset) → walk t layers k o ≡ Stay o' → o' ≡ o
+  walk_offset : (o o' : Offset) → walk t layers k o ≡ Stay o' → o' ≡ o
   unfolding walk
-  walk-offset o o' e = go (small o) (huge o) e
+  walk_offset o o' e = go (small o) (huge o) e
     where
       go : (a b : Bool) → cond a (Stay o) (cond b Lost (goes o)) ≡ Stay o' → o' ≡ o
       go true b f = cc
       go false true f = let z : ◌≡◌ {A = ℕ} 0 1 = cc in absurd (omega arith)
-      go false false f = absurd (stay-goes o o' f)
+      go false false f = absurd (stay_goes o o' f)
 
-  pub step-offset : (patch : Patch) (o : Offset) → step_of t layers k patch ≡ Stay o → o ≡ offset_of (gradientOf patch) (bendOf patch) (detOf (bendOf patch))
+  pub step_offset : (patch : Patch) (o : Offset) → step_of t layers k patch ≡ Stay o → o ≡ offset_of (gradient_of patch) (bend_of patch) (det_of (bend_of patch))
   unfolding step_of
-  step-offset patch o e = go (singular (detOf (bendOf patch))) e
+  step_offset patch o e = go (singular (det_of (bend_of patch))) e
     where
-      go : (b : Bool) → cond b Lost (walk t layers k (offset_of (gradientOf patch) (bendOf patch) (detOf (bendOf patch)))) ≡ Stay o
-          → o ≡ offset_of (gradientOf patch) (bendOf patch) (detOf (bendOf patch))
+      go : (b : Bool) → cond b Lost (walk t layers k (offset_of (gradient_of patch) (bend_of patch) (det_of (bend_of patch)))) ≡ Stay o
+          → o ≡ offset_of (gradient_of patch) (bend_of patch) (det_of (bend_of patch))
       go true f = let z : ◌≡◌ {A = ℕ} 0 1 = cc in absurd (omega arith)
-      go false f = walk-offset (offset_of (gradientOf patch) (bendOf patch) (detOf (bendOf patch))) o f
+      go false f = walk_offset (offset_of (gradient_of patch) (bend_of patch) (det_of (bend_of patch))) o f
 
-  pub step-go : (patch : Patch) (k' : Cell) → step_of t layers k patch ≡ Go k' → Placed t layers k'
+  pub step_go : (patch : Patch) (k' : Cell) → step_of t layers k patch ≡ Go k' → Placed t layers k'
   unfolding step_of
-  step-go patch k' e = go (singular (detOf (bendOf patch))) e
+  step_go patch k' e = go (singular (det_of (bend_of patch))) e
     where
-      go : (b : Bool) → cond b Lost (walk t layers k (offset_of (gradientOf patch) (bendOf patch) (detOf (bendOf patch)))) ≡ Go k' → Placed t layers k'
+      go : (b : Bool) → cond b Lost (walk t layers k (offset_of (gradient_of patch) (bend_of patch) (det_of (bend_of patch)))) ≡ Go k' → Placed t layers k'
       go true f = let z : ◌≡◌ {A = ℕ} 0 1 = cc in absurd (omega arith)
-      go false f = walk-go (offset_of (gradientOf patch) (bendOf patch) (detOf (bendOf patch))) k' f
+      go false f = walk_go (offset_of (gradient_of patch) (bend_of patch) (det_of (bend_of patch))) k' f

@@ -1,13 +1,13 @@
 -- One step of the refinement, rules D8 to D11: the cell is lost, stays, or moves by the rounded offsets. Definitions only.
 use Rattle.std.specs.Prelude.{ℕ, ◌+◌, ◌-◌, Bool, ◌&&◌, ◌||◌, cond, leb, ltb, ℤ, pos, negsuc, ◌+ℤ◌, Float}
-use Rattle.ieee.specs.F32.{f32, ◌<ᶠ◌, ◌=ᶠ◌, absOf}
+use Rattle.ieee.specs.F32.{f32, ◌<ᶠ◌, ◌=ᶠ◌, abs_of}
 use Rattle.ieee.specs.Numbers.{nought}
 use Rattle.params.specs.Limits.{border}
 use Rattle.picture.specs.declared.Shape.{Shape}
-use Rattle.detect_fit.specs.Fit.{gradientOf, bendOf, detOf, offset_of}
+use Rattle.detect_fit.specs.Fit.{gradient_of, bend_of, det_of, offset_of}
 use Rattle.detect_fit.specs.declared.Patch.{Patch}
 use Rattle.detect_fit.specs.declared.Offset.{Offset}
-use Rattle.detect_keypoint.specs.Offsets.{small, cvRound}
+use Rattle.detect_keypoint.specs.Offsets.{small, cv_round}
 use Rattle.detect_keypoint.specs.declared.Cell.{Cell}
 use Rattle.detect_refine.specs.declared.Moved.{Moved}
 use Rattle.detect_refine.specs.declared.Moved.TheVariants.{Out, In}
@@ -20,7 +20,7 @@ limit = f32 0x4e2a_aaab
 
 -- one of the three offsets is above the limit
 unfoldable pub huge : Offset → Bool
-huge o = (limit <ᶠ absOf o.xi) || ((limit <ᶠ absOf o.xr) || (limit <ᶠ absOf o.xc))
+huge o = (limit <ᶠ abs_of o.xi) || ((limit <ᶠ abs_of o.xr) || (limit <ᶠ abs_of o.xc))
 
 -- u, where it lies from lo to below hi
 unfoldable pub placed : ℕ → ℕ → ℤ → Moved
@@ -29,7 +29,7 @@ placed lo hi (negsuc u) = Out
 
 -- v moved by the rounded offset x; a not-a-number moves by 0
 unfoldable pub moved : ℕ → ℕ → ℕ → Float → Moved
-moved lo hi v x = placed lo hi (pos v +ℤ cvRound x)
+moved lo hi v x = placed lo hi (pos v +ℤ cv_round x)
 
 abbrev pub three : Moved → Moved → Moved → Step
 three (In p) (In r) (In c) = Go (record { p = p; r = r; c = c })
@@ -51,5 +51,5 @@ singular det = det =ᶠ nought
 -- such a cell is lost
 unfoldable pub step_of : Shape → ℕ → Cell → Patch → Step
 step_of t layers k patch =
-    let det = detOf (bendOf patch) in
-    cond (singular det) Lost (walk t layers k (offset_of (gradientOf patch) (bendOf patch) det))
+    let det = det_of (bend_of patch) in
+    cond (singular det) Lost (walk t layers k (offset_of (gradient_of patch) (bend_of patch) det))

@@ -6,5 +6,5 @@ use Rattle.detect_refine.specs.declared.Refined.TheVariants.{Dropped, At}
 
 -- both dropped, or both kept and the same
 pub data SameRefined : Refined → Refined → Type 0 where
-  both-dropped : SameRefined Dropped Dropped
+  both_dropped : SameRefined Dropped Dropped
   both_at : {k l : RawKeypoint} → SameKeypoint k l → SameRefined (At k) (At l)

@@ -2,10 +2,10 @@
 #![tactic(auto)]
 
 ghost use Rattle.std.specs.Prelude.{◌≡◌, true, ◌≤◌, length};
-ghost use Rattle.params.specs.Limits.{maxSide, maxLayers, maxOctave};
+ghost use Rattle.params.specs.Limits.{max_side, max_layers, max_octave};
 ghost use Rattle.detect_keypoint.specs.Offsets.{small};
 ghost use Rattle.detect_refine.specs.Moves.{huge, placed, moved, walk, step_of};
-ghost use Rattle.detect_refine.specs.Settle.{ended, refineOf};
+ghost use Rattle.detect_refine.specs.Settle.{ended, refine_of};
 ghost use Rattle.detect_refine.specs.Place.{Searched, Placed};
 
 use detect_fit::{Offset, Patch};
@@ -76,7 +76,7 @@ fn place(lo: usize, hi: usize, u: i64) -> Moved
 
 // v moved by the rounded offset x; a not-a-number moves by 0.
 fn move_by(lo: usize, hi: usize, v: usize, x: f32) -> Moved
-    requires { v ≤ maxSide }
+    requires { v ≤ max_side }
     ensures { result ≡ moved lo hi v x }
 {
     place(lo, hi, v as i64 + ieee_whole::round_to_i32(x) as i64)
@@ -84,7 +84,7 @@ fn move_by(lo: usize, hi: usize, v: usize, x: f32) -> Moved
 
 // One step from the cell k with the offset o: it stays, is lost, or moves within the layers and the border.
 fn walk_by(t: Shape, layers: usize, k: Cell, o: Offset) -> Step
-    requires width_le_max_side { (t.width ≤ maxSide) × (t.height ≤ maxSide) × (layers ≤ maxLayers) }
+    requires width_le_max_side { (t.width ≤ max_side) × (t.height ≤ max_side) × (layers ≤ max_layers) }
     requires placed { Placed t layers k }
     ensures { result ≡ walk t layers k o }
 {
@@ -112,7 +112,7 @@ fn walk_by(t: Shape, layers: usize, k: Cell, o: Offset) -> Step
 
 // One step on the samples about the cell k: lost where the determinant is 0.
 pub fn step_of(t: Shape, layers: usize, k: Cell, patch: Patch) -> Step
-    requires width_le_max_side { (t.width ≤ maxSide) × (t.height ≤ maxSide) × (layers ≤ maxLayers) }
+    requires width_le_max_side { (t.width ≤ max_side) × (t.height ≤ max_side) × (layers ≤ max_layers) }
     requires placed { Placed t layers k }
     ensures { result ≡ step_of t layers k patch }
 {
@@ -131,7 +131,7 @@ pub fn step_of(t: Shape, layers: usize, k: Cell, patch: Patch) -> Step
 
 // What a settled cell gives: dropped by its contrast or its edge, or the keypoint.
 fn end_at(s: Search, moves: u32, k: Cell, patch: Patch, o: Offset) -> Refined
-    requires octave_le_max_octave { (s.octave ≤ maxOctave) × (s.settings.layers ≤ maxLayers) × (k.p ≤ maxLayers) × (k.r ≤ maxSide) × (k.c ≤ maxSide) }
+    requires octave_le_max_octave { (s.octave ≤ max_octave) × (s.settings.layers ≤ max_layers) × (k.p ≤ max_layers) × (k.r ≤ max_side) × (k.c ≤ max_side) }
     requires o_value { small o ≡ true }
     ensures { result ≡ ended s moves k patch o }
 {
@@ -149,7 +149,7 @@ fn end_at(s: Search, moves: u32, k: Cell, patch: Patch, o: Offset) -> Refined
 pub fn refine(dog: &[f32], t: Shape, s: Search, k: Cell) -> Refined
     requires searched { Searched (length dog.now) t s }
     requires placed { Placed t s.settings.layers k }
-    ensures { result ≡ refineOf dog.now t s k }
+    ensures { result ≡ refine_of dog.now t s k }
 {
     let layers = s.settings.layers;
     let mut at = k;

@@ -8,7 +8,7 @@ ghost use Rattle.detect_refine.specs.Place.{Searched};
 ghost use Rattle.detect_extrema.specs.Neighbours.{tied};
 ghost use Rattle.detect_extrema.specs.Scan.{keypoints, words};
 ghost use Rattle.detect_hold.specs.Front.{Holds};
-ghost use Rattle.detect_room.specs.Room.{roomAnswer, sampleAnswer};
+ghost use Rattle.detect_room.specs.Room.{room_answer, sample_answer};
 
 use detect_hold::Front;
 use detect_keypoint::Search;
@@ -30,8 +30,8 @@ fn land(dog: &[f32], t: Shape, s: Search, f: Front, hold: &[u32], out: &mut [u32
     requires searched { Searched (length dog.now) t s }
     requires border_bound { 2 * border < t.width }
     requires holds { Holds dog.now t s f.row f.count hold.now }
-    ensures value { result ≡ roomAnswer (keypoints tied dog.now t s) (length out.old) }
-    ensures out_after { out.new ≡ landed (roomAnswer (keypoints tied dog.now t s) (length out.old)) (words (keypoints tied dog.now t s)) out.old }
+    ensures value { result ≡ room_answer (keypoints tied dog.now t s) (length out.old) }
+    ensures out_after { out.new ≡ landed (room_answer (keypoints tied dog.now t s) (length out.old)) (words (keypoints tied dog.now t s)) out.old }
 {
     let room = out.len();
     if KEYPOINT_WORDS * (f.count + detect_hold::rest_hints(dog, t, s, f.row)) <= room {
@@ -61,8 +61,8 @@ fn land(dog: &[f32], t: Shape, s: Search, f: Front, hold: &[u32], out: &mut [u32
 pub fn search(dog: &[f32], t: Shape, s: Search, out: &mut [u32]) -> Answer
     requires searched { Searched (length dog.now) t s }
     requires border_bound { (2 * border < t.width) × (2 * border < t.height) }
-    ensures value { result ≡ sampleAnswer dog.now (keypoints tied dog.now t s) (length out.old) }
-    ensures out_after { out.new ≡ landed (sampleAnswer dog.now (keypoints tied dog.now t s) (length out.old)) (words (keypoints tied dog.now t s)) out.old }
+    ensures value { result ≡ sample_answer dog.now (keypoints tied dog.now t s) (length out.old) }
+    ensures out_after { out.new ≡ landed (sample_answer dog.now (keypoints tied dog.now t s) (length out.old)) (words (keypoints tied dog.now t s)) out.old }
 {
     if KEYPOINT_WORDS * ((t.width - BORDERS) * (t.height - BORDERS)) <= out.len() {
         if !samples::all_good(dog) {

@@ -3,12 +3,12 @@
 
 ghost use Rattle.std.specs.Prelude.{◌≡◌, ◌+◌, ◌-◌, ◌*◌, ◌^◌, ◌<◌, ◌≤◌, min, length, take};
 ghost use Rattle.std.proofs.lemmas.List.Edits.{sets};
-ghost use Rattle.params.specs.Limits.{border, maxSide};
-ghost use Rattle.detect_samples.specs.Rows.{spanGood};
+ghost use Rattle.params.specs.Limits.{border, max_side};
+ghost use Rattle.detect_samples.specs.Rows.{span_good};
 ghost use Rattle.detect_refine.specs.Place.{Searched, Placed};
 ghost use Rattle.detect_look.specs.Place.{group, Along};
 ghost use Rattle.detect_words.specs.Leaves.{cell_at};
-ghost use Rattle.detect_rows.specs.Forms.{runLeaves, rowLeaves, again, allAgain, Cells};
+ghost use Rattle.detect_rows.specs.Forms.{run_leaves, row_leaves, again, all_again, Cells};
 
 use detect_keypoint::{Cell, Search};
 use detect_look::Run;
@@ -30,8 +30,8 @@ fn marked_words(dog: &[f32], t: Shape, s: Search, u: Run, p: Place, out: &mut [u
     requires along { Along t u }
     requires hi_bound { u.hi ≤ u.lo + group }
     requires from_bound { p.from < 2 ^ 39 + 2 ^ 21 }
-    ensures value { result ≡ length (runLeaves p.cells dog.now t s u.row u.lo u.hi) }
-    ensures out_after { out.new ≡ sets out.old p.from (runLeaves p.cells dog.now t s u.row u.lo u.hi) }
+    ensures value { result ≡ length (run_leaves p.cells dog.now t s u.row u.lo u.hi) }
+    ensures out_after { out.new ≡ sets out.old p.from (run_leaves p.cells dog.now t s u.row u.lo u.hi) }
 {
     let marks = detect_look::mark(dog, t, s, u);
     let mut n: usize = 0;
@@ -57,8 +57,8 @@ fn group_words(dog: &[f32], t: Shape, s: Search, u: Run, p: Place, out: &mut [u3
     requires along { Along t u }
     requires hi_bound { u.hi ≤ u.lo + group }
     requires from_bound { p.from < 2 ^ 39 + 2 ^ 21 }
-    ensures value { result ≡ length (runLeaves p.cells dog.now t s u.row u.lo u.hi) }
-    ensures out_after { out.new ≡ sets out.old p.from (runLeaves p.cells dog.now t s u.row u.lo u.hi) }
+    ensures value { result ≡ length (run_leaves p.cells dog.now t s u.row u.lo u.hi) }
+    ensures out_after { out.new ≡ sets out.old p.from (run_leaves p.cells dog.now t s u.row u.lo u.hi) }
 {
     if !detect_look::any_hint(dog, t, s, u) {
         return 0;
@@ -79,8 +79,8 @@ pub fn block_words(dog: &[f32], t: Shape, s: Search, u: Run, p: Place, out: &mut
     requires searched { Searched (length dog.now) t s }
     requires along { Along t u }
     requires from_bound { p.from < 2 ^ 39 + 2 ^ 20 }
-    ensures value { result ≡ length (runLeaves p.cells dog.now t s u.row u.lo u.hi) }
-    ensures out_after { out.new ≡ sets out.old p.from (runLeaves p.cells dog.now t s u.row u.lo u.hi) }
+    ensures value { result ≡ length (run_leaves p.cells dog.now t s u.row u.lo u.hi) }
+    ensures out_after { out.new ≡ sets out.old p.from (run_leaves p.cells dog.now t s u.row u.lo u.hi) }
 {
     if !detect_look::any_loud(dog, t, s, u) {
         return 0;
@@ -116,9 +116,9 @@ pub fn row_words(dog: &[f32], t: Shape, s: Search, r: usize, p: Place, out: &mut
     requires searched { Searched (length dog.now) t s }
     requires border_bound { (2 * border < t.width) × (border ≤ r) × (r < t.height - border) }
     requires from_bound { p.from < 2 ^ 39 }
-    ensures words_value { result.words ≡ length (rowLeaves p.cells dog.now t s r) }
-    ensures good_value { result.good ≡ spanGood t (r + 1) 0 t.width dog.now }
-    ensures out_after { out.new ≡ sets out.old p.from (rowLeaves p.cells dog.now t s r) }
+    ensures words_value { result.words ≡ length (row_leaves p.cells dog.now t s r) }
+    ensures good_value { result.good ≡ span_good t (r + 1) 0 t.width dog.now }
+    ensures out_after { out.new ≡ sets out.old p.from (row_leaves p.cells dog.now t s r) }
 {
     let below = r + 1;
     let end = t.width - detect_refine::BORDER;
@@ -184,9 +184,9 @@ fn refined(dog: &[f32], t: Shape, s: Search, w: u32, from: usize, out: &mut [u32
 // Refines the cells of the first k words of `hold` again, and writes the words that they give, as far as there is room.
 pub fn refined_words(dog: &[f32], t: Shape, s: Search, hold: &[u32], k: usize, out: &mut [u32])
     requires searched { Searched (length dog.now) t s }
-    requires k_in_bounds { (k ≤ length hold.now) × (k ≤ maxSide * maxSide) }
+    requires k_in_bounds { (k ≤ length hold.now) × (k ≤ max_side * max_side) }
     requires cells { Cells t s k hold.now }
-    ensures { out.new ≡ sets out.old 0 (allAgain dog.now t s (take k hold.now)) }
+    ensures { out.new ≡ sets out.old 0 (all_again dog.now t s (take k hold.now)) }
 {
     let mut n: usize = 0;
     for i in 0..k {

@@ -2,7 +2,7 @@
 #![tactic(auto)]
 
 ghost use Rattle.std.specs.Prelude.{◌≡◌, ◌+◌, ◌*◌, ◌<◌, ◌≤◌, length};
-ghost use Rattle.detect_samples.specs.Rows.{usual, spanGood, rowsGood};
+ghost use Rattle.detect_samples.specs.Rows.{usual, span_good, rows_good};
 
 use picture::Shape;
 
@@ -12,7 +12,7 @@ const USUAL: usize = 5;
 // Whether the cell (r, c) is good in each of the usual planes.
 fn column_good(d: &[f32], t: Shape, r: usize, c: usize) -> bool
     requires { (length d.now ≡ t.planes * t.height * t.width) × ((t.planes ≡ usual) × ((r < t.height) × (c < t.width))) }
-    ensures { result ≡ spanGood t r c (c + 1) d.now }
+    ensures { result ≡ span_good t r c (c + 1) d.now }
 {
     let mut ok = true;
     for p in 0..USUAL {
@@ -24,7 +24,7 @@ fn column_good(d: &[f32], t: Shape, r: usize, c: usize) -> bool
 // Whether the cells of row r from column lo to below hi are: one run through the row, which the machine makes several columns at a time.
 fn columns_good(d: &[f32], t: Shape, r: usize, lo: usize, hi: usize) -> bool
     requires { (length d.now ≡ t.planes * t.height * t.width) × ((t.planes ≡ usual) × ((r < t.height) × ((lo ≤ hi) × (hi ≤ t.width)))) }
-    ensures { result ≡ spanGood t r lo hi d.now }
+    ensures { result ≡ span_good t r lo hi d.now }
 {
     let mut ok = true;
     for c in lo..hi {
@@ -36,7 +36,7 @@ fn columns_good(d: &[f32], t: Shape, r: usize, lo: usize, hi: usize) -> bool
 // Whether the cells of row r from column lo to below hi are good in every plane. The place is worked out from products that are no longer than the list, whatever the shape.
 pub fn span_good(d: &[f32], t: Shape, r: usize, lo: usize, hi: usize) -> bool
     requires { (length d.now ≡ t.planes * t.height * t.width) × ((r < t.height) × ((lo ≤ hi) × (hi ≤ t.width))) }
-    ensures { result ≡ spanGood t r lo hi d.now }
+    ensures { result ≡ span_good t r lo hi d.now }
 {
     if t.planes == USUAL {
         return columns_good(d, t, r, lo, hi);
@@ -52,7 +52,7 @@ pub fn span_good(d: &[f32], t: Shape, r: usize, lo: usize, hi: usize) -> bool
 // Whether the rows from a to below b are good in every plane: no further than the first that is not.
 pub fn rows_good(d: &[f32], t: Shape, a: usize, b: usize) -> bool
     requires { (length d.now ≡ t.planes * t.height * t.width) × ((a ≤ b) × (b ≤ t.height)) }
-    ensures { result ≡ rowsGood t a b d.now }
+    ensures { result ≡ rows_good t a b d.now }
 {
     for r in a..b {
         if !span_good(d, t, r, 0, t.width) {

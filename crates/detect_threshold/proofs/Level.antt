@@ -7,33 +7,33 @@ use Rattle.ieee.specs.F32.{f32}
 use Rattle.ieee.specs.Numbers.{nought}
 use Rattle.ieee_laws.proofs.Order.{le_lt_trans}
 use Rattle.ieee_laws.proofs.Monotone.{nil}
-use Rattle.ieee_laws.proofs.Bounds.{Bounds, bounds-point, mul-bounds, mul-bounds-by, div-bounds, floor-bounds, convert-bounds, ofInt-bounds}
-use Rattle.params.specs.Limits.{maxLayers, contrastLow, contrastHigh}
-use Rattle.params.specs.Table.{contrastWrong}
-use Rattle.params.proofs.Accepted.{contrast-bounds}
-use Rattle.detect_threshold.specs.Threshold.{half64, full64, levelOf, thresholdOf}
+use Rattle.ieee_laws.proofs.Bounds.{Bounds, bounds_point, mul_bounds, mul_bounds_by, div_bounds, floor_bounds, convert_bounds, of_int_bounds}
+use Rattle.params.specs.Limits.{max_layers, contrast_low, contrast_high}
+use Rattle.params.specs.Table.{contrast_wrong}
+use Rattle.params.proofs.Accepted.{contrast_bounds}
+use Rattle.detect_threshold.specs.Threshold.{half64, full64, level_of, threshold_of}
 
-module _ (contrast : Float) (right : contrastWrong contrast ≡ false) (layers : ℕ) (some : 1 ≤ layers) (few : layers ≤ maxLayers) where
+module _ (contrast : Float) (right : contrast_wrong contrast ≡ false) (layers : ℕ) (some : 1 ≤ layers) (few : layers ≤ max_layers) where
   -- 127.5
   abbrev most : Float
   most = of_bits binary64 0x405f_e000_0000_0000
 
   abbrev level : Float
-  level = levelOf contrast layers
+  level = level_of contrast layers
 
-  pub level-bounds : Bounds nil most level
+  pub level_bounds : Bounds nil most level
   unfolding of_bits mul div of_int lt le
-  level-bounds =
-      mul-bounds-by binary64 {a = nil} {b = half64} full64 refl refl refl refl
-      (div-bounds binary64 {a = nil} {b = half64} {c = of_int binary64 (pos 1)} {d = of_int binary64 (pos 15)} refl refl refl refl
-      (mul-bounds binary64 {a = half64} {b = half64} {c = contrastLow} {d = contrastHigh} refl refl refl refl (bounds-point half64 refl) (contrast-bounds contrast right))
-      (ofInt-bounds binary64 1 15 layers refl refl some few))
+  level_bounds =
+      mul_bounds_by binary64 {a = nil} {b = half64} full64 refl refl refl refl
+      (div_bounds binary64 {a = nil} {b = half64} {c = of_int binary64 (pos 1)} {d = of_int binary64 (pos 15)} refl refl refl refl
+      (mul_bounds binary64 {a = half64} {b = half64} {c = contrast_low} {d = contrast_high} refl refl refl refl (bounds_point half64 refl) (contrast_bounds contrast right))
+      (of_int_bounds binary64 1 15 layers refl refl some few))
 
-  pub level-below : lt level (fin false 1 (pos 64)) ≡ true
+  pub level_below : lt level (fin false 1 (pos 64)) ≡ true
   unfolding of_bits lt
-  level-below = le_lt_trans level most (fin false 1 (pos 64)) level-bounds.high refl
+  level_below = le_lt_trans level most (fin false 1 (pos 64)) level_bounds.high refl
 
   -- the threshold lies in 0 to 127
-  pub threshold-bounds : Bounds nought (f32 0x42fe_0000) (thresholdOf contrast layers)
-  unfolding thresholdOf of_bits floor convert
-  threshold-bounds = convert-bounds binary32 {a = nil} {b = of_bits binary64 0x405f_c000_0000_0000} refl refl (floor-bounds binary64 {a = nil} {b = most} refl refl level-bounds)
+  pub threshold_bounds : Bounds nought (f32 0x42fe_0000) (threshold_of contrast layers)
+  unfolding threshold_of of_bits floor convert
+  threshold_bounds = convert_bounds binary32 {a = nil} {b = of_bits binary64 0x405f_c000_0000_0000} refl refl (floor_bounds binary64 {a = nil} {b = most} refl refl level_bounds)

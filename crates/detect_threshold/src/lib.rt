@@ -5,9 +5,9 @@ ghost use Rattle.std.specs.Prelude.{◌≡◌, ◌≤◌, true, false, pos};
 ghost use Rattle.std.specs.Float.{fin, binary64};
 ghost use Rattle.std.specs.Float.Ieee.{le, lt};
 ghost use Rattle.ieee.specs.Whole.{floor};
-ghost use Rattle.params.specs.Limits.{maxLayers};
-ghost use Rattle.params.specs.Table.{contrastWrong};
-ghost use Rattle.detect_threshold.specs.Threshold.{levelOf, thresholdOf, thresholdAnswer, thresholdNumber, thresholdValue};
+ghost use Rattle.params.specs.Limits.{max_layers};
+ghost use Rattle.params.specs.Table.{contrast_wrong};
+ghost use Rattle.detect_threshold.specs.Threshold.{level_of, threshold_of, threshold_answer, threshold_number, threshold_value};
 
 use params::MAX_LAYERS;
 
@@ -32,23 +32,23 @@ fn floor_of(x: f64) -> f64
 
 // Half of the contrast, over the layers, times 255: rule D1, whose order decides the last bit.
 fn level_of(contrast: f64, layers: usize) -> f64
-    requires { layers ≤ maxLayers }
-    ensures { result ≡ levelOf contrast layers }
+    requires { layers ≤ max_layers }
+    ensures { result ≡ level_of contrast layers }
 {
     0.5 * contrast / (layers as f64) * 255.0
 }
 
 // The threshold: the level's floor, as f32.
 pub fn threshold_of(contrast: f64, layers: usize) -> f32
-    requires { (contrastWrong contrast ≡ false) × (1 ≤ layers) × (layers ≤ maxLayers) }
-    ensures { result ≡ thresholdOf contrast layers }
+    requires { (contrast_wrong contrast ≡ false) × (1 ≤ layers) × (layers ≤ max_layers) }
+    ensures { result ≡ threshold_of contrast layers }
 {
     ieee_fused::narrow(floor_of(level_of(contrast, layers)))
 }
 
 // The entry: the threshold, or 2 for the layers, or 4 for the contrast.
 pub fn extrema_threshold(contrast: f64, layers: usize) -> Threshold
-    ensures { result ≡ thresholdAnswer contrast layers }
+    ensures { result ≡ threshold_answer contrast layers }
 {
     if (layers == 0) | (layers > MAX_LAYERS) {
         return Threshold::Refused(2);
@@ -61,7 +61,7 @@ pub fn extrema_threshold(contrast: f64, layers: usize) -> Threshold
 
 // The number of the threshold's answer, and the threshold beside it, 0 where it is refused.
 pub fn threshold_number(t: Threshold) -> u32
-    ensures { result ≡ thresholdNumber t }
+    ensures { result ≡ threshold_number t }
 {
     match t {
         Threshold::Given(_) => 0,
@@ -70,7 +70,7 @@ pub fn threshold_number(t: Threshold) -> u32
 }
 
 pub fn threshold_value(t: Threshold) -> f32
-    ensures { result ≡ thresholdValue t }
+    ensures { result ≡ threshold_value t }
 {
     match t {
         Threshold::Given(x) => x,

@@ -3,9 +3,9 @@
 
 ghost use Rattle.std.specs.Prelude.{◌≡◌, ◌^◌, ◌<◌, ◌≤◌, length, set, take};
 ghost use Rattle.std.proofs.lemmas.List.Edits.{sets};
-ghost use Rattle.params.specs.Limits.{maxSide};
+ghost use Rattle.params.specs.Limits.{max_side};
 ghost use Rattle.detect_extrema.specs.Scan.{kept, words_of};
-ghost use Rattle.detect_words.specs.Leaves.{cellWord, leaves};
+ghost use Rattle.detect_words.specs.Leaves.{cell_word, leaves};
 
 use detect_keypoint::RawKeypoint;
 use detect_refine::Refined;
@@ -60,15 +60,15 @@ fn put(out: &mut [u32], at: usize, k: RawKeypoint)
 
 // A cell as one word: no column is as large as the longest side.
 fn cell_word(r: usize, c: usize) -> u32
-    requires { (r < maxSide) × (c < maxSide) }
-    ensures { result ≡ cellWord r c }
+    requires { (r < max_side) × (c < max_side) }
+    ensures { result ≡ cell_word r c }
 {
     (r * MAX_SIDE + c) as u32
 }
 
 // Writes what is left of what the cell at row r, column c, gives, as far as there is room, and counts its words.
 pub fn leave(x: Refined, r: usize, c: usize, p: Place, out: &mut [u32]) -> usize
-    requires { (r < maxSide) × (c < maxSide) × (p.from < 2 ^ 40) }
+    requires { (r < max_side) × (c < max_side) × (p.from < 2 ^ 40) }
     ensures value { result ≡ length (leaves p.cells r c (kept x)) }
     ensures out_after { out.new ≡ sets out.old p.from (leaves p.cells r c (kept x)) }
 {

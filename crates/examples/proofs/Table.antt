@@ -2,10 +2,10 @@
 use mathlib.Core.Path.{refl}
 use lib.Ieee.{of_bits, add, mul, div, of_int}
 use Rattle.ieee.specs.Fused.{fma, convert}
-use Rattle.ieee.specs.Whole.{floor, roundEven}
-use Rattle.detect_threshold.specs.Threshold.{thresholdOf}
+use Rattle.ieee.specs.Whole.{floor, round_even}
+use Rattle.detect_threshold.specs.Threshold.{threshold_of}
 use Rattle.examples.specs.Marked.{marked, Holds}
 
-pub marked-hold : Holds marked
-unfolding of_bits add mul div of_int fma convert floor roundEven thresholdOf
-marked-hold = (refl, (refl, (refl, (refl, (refl, (refl, (refl, (refl, (refl, (refl, (refl, tt)))))))))))
+pub marked_hold : Holds marked
+unfolding of_bits add mul div of_int fma convert floor round_even threshold_of
+marked_hold = (refl, (refl, (refl, (refl, (refl, (refl, (refl, (refl, (refl, (refl, (refl, tt)))))))))))

@@ -25,21 +25,21 @@ half_at : (j : ℕ) → j < 512 → get_or pairs j 0 ≡ half (j / 2) (j % 2)
 unfolding place
 half_at j h = eqb→eq (get_or pairs j 0) (half (j / 2) (j % 2)) (place_at j h)
 
-pair-entry : (i : ℕ) → i < 256 → get_or pairs (2 * i) 0 ≡ entry_of i
-pair-entry i h =
+pair_entry : (i : ℕ) → i < 256 → get_or pairs (2 * i) 0 ≡ entry_of i
+pair_entry i h =
     let p : 2 * i / 2 ≡ i = omega arith in
     let q : 2 * i % 2 ≡ 0 = omega arith in
     half_at (2 * i) (omega arith) ∙ ap (λ (z : ℕ). half z (2 * i % 2)) p ∙ ap (half i) q
 
-pair-rise : (i : ℕ) → i < 256 → get_or pairs (2 * i + 1) 0 ≡ entry_of (i + 1) - entry_of i
-pair-rise i h =
+pair_rise : (i : ℕ) → i < 256 → get_or pairs (2 * i + 1) 0 ≡ entry_of (i + 1) - entry_of i
+pair_rise i h =
     let p : (2 * i + 1) / 2 ≡ i = omega arith in
     let q : (2 * i + 1) % 2 ≡ 1 = omega arith in
     half_at (2 * i + 1) (omega arith) ∙ ap (λ (z : ℕ). half z ((2 * i + 1) % 2)) p ∙ ap (half i) q
 
 -- the same of a list that is this table
 pub entry_at : (t : List ℕ) → t ≡ pairs → (i : ℕ) → i < 256 → get_or t (2 * i) 0 ≡ entry_of i
-entry_at t e i h = ap (λ (l : List ℕ). get_or l (2 * i) 0) e ∙ pair-entry i h
+entry_at t e i h = ap (λ (l : List ℕ). get_or l (2 * i) 0) e ∙ pair_entry i h
 
-pub rise-at : (t : List ℕ) → t ≡ pairs → (i : ℕ) → i < 256 → get_or t (2 * i + 1) 0 ≡ entry_of (i + 1) - entry_of i
-rise-at t e i h = ap (λ (l : List ℕ). get_or l (2 * i + 1) 0) e ∙ pair-rise i h
+pub rise_at : (t : List ℕ) → t ≡ pairs → (i : ℕ) → i < 256 → get_or t (2 * i + 1) 0 ≡ entry_of (i + 1) - entry_of i
+rise_at t e i h = ap (λ (l : List ℕ). get_or l (2 * i + 1) 0) e ∙ pair_rise i h

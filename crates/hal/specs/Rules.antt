@@ -1,5 +1,5 @@
 -- Law: what rules F3 to F5 ask of the routines, of the definitions beside this page; and what callers ask besides.
--- proofs/Rules.antt proves each: `table-rule : TableRule`, and so on. Accuracy (rule F9) is no statement here: `run_hal` measures it. Definitions only.
+-- proofs/Rules.antt proves each: `table_rule : TableRule`, and so on. Accuracy (rule F9) is no statement here: `run_hal` measures it. Definitions only.
 use Rattle.std.specs.Prelude.{◌≡◌, Bool, false, ℕ, ◌+◌, ◌*◌, ◌/◌, ◌%◌, ◌^◌, ◌≤◌, ◌<◌, T, length, pos, Float}
 use Rattle.std.specs.Float.{nan, fin, binary32}
 use Rattle.std.specs.Float.Ieee.{fits}
@@ -8,7 +8,7 @@ use Rattle.std.specs.Float.Ieee.Positive.{num, den}
 use Rattle.ieee.specs.F32.{◌<ᶠ◌, ◌≤ᶠ◌}
 use Rattle.ieee.specs.Numbers.{nought, one, four}
 use Rattle.hal.specs.Powers.{powers, entry_of}
-use Rattle.hal.specs.Exp.{scaledOf, inUp, exp2Of, inDown, expOf}
+use Rattle.hal.specs.Exp.{scaled_of, in_up, exp2_of, in_down, exp_of}
 
 -- r lies in lo to hi, and so is a finite number where those are
 pub record In (lo hi r : Float) : Type 0 where
@@ -26,28 +26,28 @@ pub record TableRule : Type 0 where
 -- ---- exp2: rule F4
 
 -- the whole part of 256 * x. x lies from there to the next, in 256ths; the entries of the first 256 stand for 1 to 2, of the next for 2 to 4
-abbrev pub placeOf : Float → ℕ
-placeOf x = num x * 256 / den x
+abbrev pub place_of : Float → ℕ
+place_of x = num x * 256 / den x
 
 -- entry i scaled: entry i * 2 ^ k / 2 ^ 23
-unfoldable pub scaledEntry : ℕ → ℕ → Float
-scaledEntry i k = scaledOf (entry_of i) (104 + k)
+unfoldable pub scaled_entry : ℕ → ℕ → Float
+scaled_entry i k = scaled_of (entry_of i) (104 + k)
 
 pub record Exp2Rule : Type 0 where
   -- the result is not below the entry of its place, scaled, and not above the next
-  pub between : (x : Float) → T (inUp x) → In (scaledEntry (placeOf x % 256) (placeOf x / 256)) (scaledEntry (placeOf x % 256 + 1) (placeOf x / 256)) (exp2Of x)
+  pub between : (x : Float) → T (in_up x) → In (scaled_entry (place_of x % 256) (place_of x / 256)) (scaled_entry (place_of x % 256 + 1) (place_of x / 256)) (exp2_of x)
   -- where 256 * x is whole it is that entry, scaled
-  pub at : (x : Float) → T (inUp x) → placeOf x * den x ≡ num x * 256 → exp2Of x ≡ scaledEntry (placeOf x % 256) (placeOf x / 256)
-  pub scaled : (i k : ℕ) → i ≤ 256 → k ≤ 2 → HasValue (scaledEntry i k) false (entry_of i * 2 ^ k) (2 ^ 23)
-  pub within : (x : Float) → T (inUp x) → In one four (exp2Of x)
-  pub outside : (x : Float) → inUp x ≡ false → exp2Of x ≡ nan
-  pub held : (x : Float) → T (fits binary32 (exp2Of x))
+  pub at : (x : Float) → T (in_up x) → place_of x * den x ≡ num x * 256 → exp2_of x ≡ scaled_entry (place_of x % 256) (place_of x / 256)
+  pub scaled : (i k : ℕ) → i ≤ 256 → k ≤ 2 → HasValue (scaled_entry i k) false (entry_of i * 2 ^ k) (2 ^ 23)
+  pub within : (x : Float) → T (in_up x) → In one four (exp2_of x)
+  pub outside : (x : Float) → in_up x ≡ false → exp2_of x ≡ nan
+  pub held : (x : Float) → T (fits binary32 (exp2_of x))
 
 -- ---- exp: rule F5
 pub record ExpRule : Type 0 where
-  pub within : (x : Float) → T (inDown x) → In nought one (expOf x)
+  pub within : (x : Float) → T (in_down x) → In nought one (exp_of x)
   -- 1 at zero, at both of them
-  pub zero : (s : Bool) → expOf (fin s 0 (pos 0)) ≡ one
-  pub above : (x : Float) → T (inDown x) → T (nought <ᶠ expOf x)
-  pub outside : (x : Float) → inDown x ≡ false → expOf x ≡ nan
-  pub held : (x : Float) → T (fits binary32 (expOf x))
+  pub zero : (s : Bool) → exp_of (fin s 0 (pos 0)) ≡ one
+  pub above : (x : Float) → T (in_down x) → T (nought <ᶠ exp_of x)
+  pub outside : (x : Float) → in_down x ≡ false → exp_of x ≡ nan
+  pub held : (x : Float) → T (fits binary32 (exp_of x))

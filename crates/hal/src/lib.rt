@@ -8,7 +8,7 @@ ghost use Rattle.std.specs.Prelude.{◌≡◌, true, ◌&&◌, ◌+◌, ◌/◌,
 ghost use Rattle.std.specs.Float.{nan};
 ghost use Rattle.std.specs.Float.Ieee.{le};
 ghost use Rattle.hal.specs.Powers.{pairs};
-ghost use Rattle.hal.specs.Exp.{mixOf, scaledOf, powerOf, exp2Of, inDown, expOf};
+ghost use Rattle.hal.specs.Exp.{mix_of, scaled_of, power_of, exp2_of, in_down, exp_of};
 
 // What each routine answers outside its range: a not-a-number.
 pub fn outside() -> f32
@@ -28,7 +28,7 @@ pub fn pair_table() -> [u32; 512]
 fn mix(t: &[u32; 512], i: usize, g: u64) -> u64
     requires fact_1 { t.now ≡ pairs }
     requires fact_2 { (i < 256) × (g ≤ 8388608) }
-    ensures { result ≡ mixOf i g }
+    ensures { result ≡ mix_of i g }
 {
     t[2 * i] as u64 + (t[2 * i + 1] as u64) * g / 8388608
 }
@@ -36,7 +36,7 @@ fn mix(t: &[u32; 512], i: usize, g: u64) -> u64
 // m times 2^(s - 127), m from 2^23 to 2^24: the leading digit of m adds one to the field, or two, so that the field is s + 23 or s + 24.
 fn scaled(m: u64, s: u64) -> f32
     requires { (8388608 ≤ m) × (m ≤ 16777216) × (0 < s) × (s ≤ 127) }
-    ensures { result ≡ scaledOf m s }
+    ensures { result ≡ scaled_of m s }
 {
     f32::from_bits((m + (s + 22) * 8388608) as u32)
 }
@@ -45,7 +45,7 @@ fn scaled(m: u64, s: u64) -> f32
 fn power(t: &[u32; 512], s: u64, v: u64) -> f32
     requires fact_1 { t.now ≡ pairs }
     requires fact_2 { (0 < s) × (s + v / 2147483648 % 128 ≤ 127) }
-    ensures { result ≡ powerOf s (v % 274877906944) }
+    ensures { result ≡ power_of s (v % 274877906944) }
 {
     let k = v / 2147483648 % 128;
     let i = (v / 8388608 % 256) as usize;
@@ -63,7 +63,7 @@ pub fn within(x: f32, lo: f32, hi: f32) -> bool
 // of 2^-23, by which an entry (2^23 to 2^24) is scaled to 1 to 2.
 pub fn exp2_with(t: &[u32; 512], x: f32) -> f32
     requires { t.now ≡ pairs }
-    ensures { result ≡ exp2Of x }
+    ensures { result ≡ exp2_of x }
 {
     if within(x, 0.0, 2.0) {
         power(
@@ -79,8 +79,8 @@ pub fn exp2_with(t: &[u32; 512], x: f32) -> f32
 // 3098164009.3597403 is log2(e) * 2^31. Since 32 * log2(e) is 46.2, the exponent is counted from -47: 4503700559101952 is 2^52 + 47 * 2^31, and what is handed on goes
 // from 1790483156, at -32, up to 47 * 2^31, at 0, besides the pattern's exponent. 57 is 104 - 47. For loops: x is in the range.
 pub fn exp_in(t: &[u32; 512], x: f32) -> f32
-    requires { (t.now ≡ pairs) × (inDown x ≡ true) }
-    ensures { result ≡ expOf x }
+    requires { (t.now ≡ pairs) × (in_down x ≡ true) }
+    ensures { result ≡ exp_of x }
 {
     power(
         t,
@@ -91,7 +91,7 @@ pub fn exp_in(t: &[u32; 512], x: f32) -> f32
 
 pub fn exp_with(t: &[u32; 512], x: f32) -> f32
     requires { t.now ≡ pairs }
-    ensures { result ≡ expOf x }
+    ensures { result ≡ exp_of x }
 {
     if within(x, -32.0, 0.0) {
         exp_in(t, x)
@@ -102,13 +102,13 @@ pub fn exp_with(t: &[u32; 512], x: f32) -> f32
 
 // With a table of its own, which is made at each call.
 pub fn exp2(x: f32) -> f32
-    ensures { result ≡ exp2Of x }
+    ensures { result ≡ exp2_of x }
 {
     exp2_with(&pairs::PAIRS, x)
 }
 
 pub fn exp(x: f32) -> f32
-    ensures { result ≡ expOf x }
+    ensures { result ≡ exp_of x }
 {
     exp_with(&pairs::PAIRS, x)
 }

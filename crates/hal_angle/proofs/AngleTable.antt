@@ -9,96 +9,96 @@ use lib.IntN.{ℤ}
 use lib.ListN.{get_or}
 use lib.Ieee.{Float, nan, inf, fin, binary32, unlike, up, down, lt, add, sub, mul, div, sum, round, is_nan, of_bits, fits}
 use Rattle.ieee.specs.Numbers.{nought}
-use Rattle.ieee.specs.F32.{absOf}
-use Rattle.ieee.proofs.Doubled.{round-no-nan}
+use Rattle.ieee.specs.F32.{abs_of}
+use Rattle.ieee.proofs.Doubled.{round_no_nan}
 use Rattle.hal_angle.specs.Numbers.{shift}
-use Rattle.hal_angle.specs.Turns.{turns, placeOf}
-use Rattle.hal_reach.specs.Reach.{inAngle}
-use Rattle.hal_angle.specs.Angle.{sum_of, ahead_of, quarterOf, alongOf, lesserOf, greater_of, directionOf, angleOf}
-use Rattle.hal_angle.proofs.AngleLaws.{angle-level, angle-direction}
-use Rattle.hal_reach.proofs.Reach.{reach-dx, reach-dy}
-use Rattle.hal_angle.proofs.AngleUnits.{near, apart, Whole, whole_of, both_most, sum-test, ahead-units}
+use Rattle.hal_angle.specs.Turns.{turns, place_of}
+use Rattle.hal_reach.specs.Reach.{in_angle}
+use Rattle.hal_angle.specs.Angle.{sum_of, ahead_of, quarter_of, along_of, lesser_of, greater_of, direction_of, angle_of}
+use Rattle.hal_angle.proofs.AngleLaws.{angle_level, angle_direction}
+use Rattle.hal_reach.proofs.Reach.{reach_dx, reach_dy}
+use Rattle.hal_angle.proofs.AngleUnits.{near, apart, Whole, whole_of, both_most, sum_test, ahead_units}
 
 -- ---- a quarter's four numbers, from place i on
 pub record Row (t : List Float) (i : ℕ) (left down : Bool) : Type 0 where
-  pub middle : get_or t i nan ≡ (quarterOf left down).middle
-  pub steps : get_or t (i + 1) nan ≡ (quarterOf left down).steps
-  pub least : get_or t (i + 2) nan ≡ (quarterOf left down).least
-  pub largest : get_or t (i + 3) nan ≡ (quarterOf left down).largest
+  pub middle : get_or t i nan ≡ (quarter_of left down).middle
+  pub steps : get_or t (i + 1) nan ≡ (quarter_of left down).steps
+  pub least : get_or t (i + 2) nan ≡ (quarter_of left down).least
+  pub largest : get_or t (i + 3) nan ≡ (quarter_of left down).largest
 
-row : (left down : Bool) → Row turns (placeOf left down) left down
+row : (left down : Bool) → Row turns (place_of left down) left down
 unfolding turns of_bits
 row false false = record { middle = refl; steps = refl; least = refl; largest = refl }
 row true false = record { middle = refl; steps = refl; least = refl; largest = refl }
 row true true = record { middle = refl; steps = refl; least = refl; largest = refl }
 row false true = record { middle = refl; steps = refl; least = refl; largest = refl }
 
-pub row_of : (t : List Float) (i : ℕ) (left down : Bool) → t ≡ turns → i ≡ placeOf left down → Row t i left down
+pub row_of : (t : List Float) (i : ℕ) (left down : Bool) → t ≡ turns → i ≡ place_of left down → Row t i left down
 row_of t i left down e p = subst (λ (z : List Float). Row z i left down) (sym e) (subst (λ (k : ℕ). Row turns k left down) (sym p) (row left down))
 
 -- what the code has by then: q by the line, g and r held
-pub direction-at : (t : List Float) (i : ℕ) (left down : Bool) (ahead q g r : Float) → Row t i left down → q ≡ alongOf (get_or t i nan) (mul binary32 ahead (get_or t (i + 1) nan)) → g ≡ greater_of (get_or t (i + 2) nan) q → r ≡ lesserOf g (get_or t (i + 3) nan) → r ≡ directionOf (quarterOf left down) ahead
-unfolding directionOf
-direction-at t i left down ahead q g r x p e f =
-    let k = quarterOf left down in
-    f ∙ ap (lesserOf g) x.largest
-    ∙ ap (λ (z : Float). lesserOf z k.largest)
+pub direction_at : (t : List Float) (i : ℕ) (left down : Bool) (ahead q g r : Float) → Row t i left down → q ≡ along_of (get_or t i nan) (mul binary32 ahead (get_or t (i + 1) nan)) → g ≡ greater_of (get_or t (i + 2) nan) q → r ≡ lesser_of g (get_or t (i + 3) nan) → r ≡ direction_of (quarter_of left down) ahead
+unfolding direction_of
+direction_at t i left down ahead q g r x p e f =
+    let k = quarter_of left down in
+    f ∙ ap (lesser_of g) x.largest
+    ∙ ap (λ (z : Float). lesser_of z k.largest)
     (e ∙ ap (λ (z : Float). greater_of z q) x.least
-    ∙ ap (greater_of k.least) (p ∙ ap (λ (z : Float). alongOf z (mul binary32 ahead (get_or t (i + 1) nan))) x.middle ∙ ap (λ (z : Float). alongOf k.middle (mul binary32 ahead z)) x.steps))
+    ∙ ap (greater_of k.least) (p ∙ ap (λ (z : Float). along_of z (mul binary32 ahead (get_or t (i + 1) nan))) x.middle ∙ ap (λ (z : Float). along_of k.middle (mul binary32 ahead z)) x.steps))
 
 -- ---- numbers
-times-number : (x : Float) (t : Bool) (n : ℕ) (d : ℤ) → eqb n 0 ≡ false → T (not (is_nan x)) → T (not (is_nan (mul binary32 x (fin t n d))))
+times_number : (x : Float) (t : Bool) (n : ℕ) (d : ℤ) → eqb n 0 ≡ false → T (not (is_nan x)) → T (not (is_nan (mul binary32 x (fin t n d))))
 unfolding mul
-times-number nan t n d z h = absurd (unfold is_nan in h)
-times-number (inf s) t n d z h = rw z (unfold is_nan in tt)
-times-number (fin s m e) t n d z h = round-no-nan binary32 (unlike s t) (m * up e * (n * up d)) (down e * down d)
+times_number nan t n d z h = absurd (unfold is_nan in h)
+times_number (inf s) t n d z h = rw z (unfold is_nan in tt)
+times_number (fin s m e) t n d z h = round_no_nan binary32 (unlike s t) (m * up e * (n * up d)) (down e * down d)
 
 sum_number : (s t : Bool) (a b c : ℕ) → T (not (is_nan (sum binary32 s a t b c)))
 unfolding sum
 sum_number s t a b c = go (beq s t) (ltb a b)
   where
     go : (x y : Bool) → T (not (is_nan (cond x (round binary32 s (a + b) c) (cond y (round binary32 t (b - a) c) (round binary32 (s && ltb b a) (a - b) c)))))
-    go true y = round-no-nan binary32 s (a + b) c
-    go false true = round-no-nan binary32 t (b - a) c
-    go false false = round-no-nan binary32 (s && ltb b a) (a - b) c
+    go true y = round_no_nan binary32 s (a + b) c
+    go false true = round_no_nan binary32 t (b - a) c
+    go false false = round_no_nan binary32 (s && ltb b a) (a - b) c
 
-plus-number : (x : Float) (t : Bool) (n : ℕ) (d : ℤ) → T (not (is_nan x)) → T (not (is_nan (add binary32 x (fin t n d))))
+plus_number : (x : Float) (t : Bool) (n : ℕ) (d : ℤ) → T (not (is_nan x)) → T (not (is_nan (add binary32 x (fin t n d))))
 unfolding add
-plus-number nan t n d h = absurd (unfold is_nan in h)
-plus-number (inf s) t n d h = unfold is_nan in tt
-plus-number (fin s m e) t n d h = sum_number s t (m * up e * down d) (n * up d * down e) (down e * down d)
+plus_number nan t n d h = absurd (unfold is_nan in h)
+plus_number (inf s) t n d h = unfold is_nan in tt
+plus_number (fin s m e) t n d h = sum_number s t (m * up e * down d) (n * up d * down e) (down e * down d)
 
-pub step-number : (left down : Bool) (ahead : Float) → T (not (is_nan ahead)) → T (not (is_nan (add binary32 (mul binary32 ahead (quarterOf left down).steps) shift)))
+pub step_number : (left down : Bool) (ahead : Float) → T (not (is_nan ahead)) → T (not (is_nan (add binary32 (mul binary32 ahead (quarter_of left down).steps) shift)))
 unfolding of_bits
-step-number false false ahead h = plus-number _ _ _ _ (times-number ahead _ _ _ refl h)
-step-number true false ahead h = plus-number _ _ _ _ (times-number ahead _ _ _ refl h)
-step-number true true ahead h = plus-number _ _ _ _ (times-number ahead _ _ _ refl h)
-step-number false true ahead h = plus-number _ _ _ _ (times-number ahead _ _ _ refl h)
+step_number false false ahead h = plus_number _ _ _ _ (times_number ahead _ _ _ refl h)
+step_number true false ahead h = plus_number _ _ _ _ (times_number ahead _ _ _ refl h)
+step_number true true ahead h = plus_number _ _ _ _ (times_number ahead _ _ _ refl h)
+step_number false true ahead h = plus_number _ _ _ _ (times_number ahead _ _ _ refl h)
 
 -- the quotient, where the sum is above 0
-ahead-number : (dx dy : Float) → T (fits binary32 dx) → T (fits binary32 dy) → T (inAngle dx dy) → lt nought (sum_of dx dy) ≡ true → T (not (is_nan (ahead_of dx dy)))
+ahead_number : (dx dy : Float) → T (fits binary32 dx) → T (fits binary32 dy) → T (in_angle dx dy) → lt nought (sum_of dx dy) ≡ true → T (not (is_nan (ahead_of dx dy)))
 unfolding ahead_of
-ahead-number dx dy fx fy h e =
-    let x = whole_of dx fx (reach-dx dx dy h) in
-    let y = whole_of dy fy (reach-dy dx dy h) in
+ahead_number dx dy fx fy h e =
+    let x = whole_of dx fx (reach_dx dx dy h) in
+    let y = whole_of dy fy (reach_dy dx dy h) in
     let m = both_most x.units y.units (2 ^ 149) x.most y.most in
-    let p = ltb-true 0 (near (y.units + x.units)) (sym (sum-test (absOf dy) (absOf dx) y.units x.units m y.value x.value) ∙ e) in
-    subst (λ (z : Float). T (not (is_nan z))) (sym (ahead-units (absOf dy) (absOf dx) y.units x.units m y.value x.value p)) (round-no-nan binary32 (ltb y.units x.units) (near (apart y.units x.units)) (near (y.units + x.units)))
+    let p = ltb-true 0 (near (y.units + x.units)) (sym (sum_test (abs_of dy) (abs_of dx) y.units x.units m y.value x.value) ∙ e) in
+    subst (λ (z : Float). T (not (is_nan z))) (sym (ahead_units (abs_of dy) (abs_of dx) y.units x.units m y.value x.value p)) (round_no_nan binary32 (ltb y.units x.units) (near (apart y.units x.units)) (near (y.units + x.units)))
 
 -- ---- with the sizes a and b
-module _ (dx dy a b : Float) (p : a ≡ absOf dx) (q : b ≡ absOf dy) where
+module _ (dx dy a b : Float) (p : a ≡ abs_of dx) (q : b ≡ abs_of dy) where
   sum_is : lt nought (add binary32 b a) ≡ lt nought (sum_of dx dy)
-  sum_is = ap (λ (z : Float). lt nought (add binary32 z a)) q ∙ ap (λ (z : Float). lt nought (add binary32 (absOf dy) z)) p
+  sum_is = ap (λ (z : Float). lt nought (add binary32 z a)) q ∙ ap (λ (z : Float). lt nought (add binary32 (abs_of dy) z)) p
 
-  ahead-is : div binary32 (sub binary32 b a) (add binary32 b a) ≡ ahead_of dx dy
+  ahead_is : div binary32 (sub binary32 b a) (add binary32 b a) ≡ ahead_of dx dy
   unfolding ahead_of
-  ahead-is = ap (λ (z : Float). div binary32 (sub binary32 z a) (add binary32 z a)) q ∙ ap (λ (z : Float). div binary32 (sub binary32 (absOf dy) z) (add binary32 (absOf dy) z)) p
+  ahead_is = ap (λ (z : Float). div binary32 (sub binary32 z a) (add binary32 z a)) q ∙ ap (λ (z : Float). div binary32 (sub binary32 (abs_of dy) z) (add binary32 (abs_of dy) z)) p
 
-  pub number_at : T (fits binary32 dx) → T (fits binary32 dy) → inAngle dx dy ≡ true → lt nought (add binary32 b a) ≡ true → T (not (is_nan (div binary32 (sub binary32 b a) (add binary32 b a))))
-  number_at fx fy h e = subst (λ (z : Float). T (not (is_nan z))) (sym ahead-is) (ahead-number dx dy fx fy (subst T (sym h) tt) (sym sum_is ∙ e))
+  pub number_at : T (fits binary32 dx) → T (fits binary32 dy) → in_angle dx dy ≡ true → lt nought (add binary32 b a) ≡ true → T (not (is_nan (div binary32 (sub binary32 b a) (add binary32 b a))))
+  number_at fx fy h e = subst (λ (z : Float). T (not (is_nan z))) (sym ahead_is) (ahead_number dx dy fx fy (subst T (sym h) tt) (sym sum_is ∙ e))
 
-  pub angle-at : (r : Float) → inAngle dx dy ≡ true → lt nought (add binary32 b a) ≡ true → r ≡ directionOf (quarterOf (lt dx nought) (lt dy nought)) (div binary32 (sub binary32 b a) (add binary32 b a)) → r ≡ angleOf dx dy
-  angle-at r h e f = f ∙ ap (directionOf (quarterOf (lt dx nought) (lt dy nought))) ahead-is ∙ sym (angle-direction dx dy (subst T (sym h) tt) (sym sum_is ∙ e))
+  pub angle_at : (r : Float) → in_angle dx dy ≡ true → lt nought (add binary32 b a) ≡ true → r ≡ direction_of (quarter_of (lt dx nought) (lt dy nought)) (div binary32 (sub binary32 b a) (add binary32 b a)) → r ≡ angle_of dx dy
+  angle_at r h e f = f ∙ ap (direction_of (quarter_of (lt dx nought) (lt dy nought))) ahead_is ∙ sym (angle_direction dx dy (subst T (sym h) tt) (sym sum_is ∙ e))
 
-  pub level-at : inAngle dx dy ≡ true → lt nought (add binary32 b a) ≡ false → nought ≡ angleOf dx dy
-  level-at h e = sym (angle-level dx dy (subst T (sym h) tt) (sym sum_is ∙ e))
+  pub level_at : in_angle dx dy ≡ true → lt nought (add binary32 b a) ≡ false → nought ≡ angle_of dx dy
+  level_at h e = sym (angle_level dx dy (subst T (sym h) tt) (sym sum_is ∙ e))

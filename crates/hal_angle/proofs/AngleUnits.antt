@@ -18,58 +18,58 @@ use lib.Ieee.Order.{drop, kept, round_mono}
 use lib.Ieee.Positive.{num, den}
 use lib.Ieee.Scale.{grid, overflow, finite, round_same, round_under, grid_scale, normal_of_fraction}
 use Rattle.packing.proofs.Sums.{sum_same}
-use Rattle.lists.proofs.Naturals.{le-or-lt}
+use Rattle.lists.proofs.Naturals.{le_or_lt}
 use Rattle.ieee_laws.proofs.Order.{lt_not_le}
-use Rattle.ieee.specs.F32.{absOf}
+use Rattle.ieee.specs.F32.{abs_of}
 use Rattle.ieee.specs.Numbers.{nought}
 use Rattle.ieee.proofs.Values.{stored}
-use Rattle.ieee.proofs.Doubled.{round-no-nan}
-use Rattle.hal_reach.specs.Reach.{inReach, inAngle}
+use Rattle.ieee.proofs.Doubled.{round_no_nan}
+use Rattle.hal_reach.specs.Reach.{in_reach, in_angle}
 use Rattle.hal_angle.specs.Angle.{sum_of}
-use Rattle.hal.proofs.Range.{Within, Exact, round-within}
-use Rattle.hal_reach.proofs.Reach.{zero_or, bounded, reach-nan, reach-inf, reach-dx, reach-dy}
-use Rattle.hal_angle.proofs.AngleValues.{lt-value, div-signed, null}
+use Rattle.hal.proofs.Range.{Within, Exact, round_within}
+use Rattle.hal_reach.proofs.Reach.{zero_or, bounded, reach_nan, reach_inf, reach_dx, reach_dy}
+use Rattle.hal_angle.proofs.AngleValues.{lt_value, div_signed, null}
 
 -- ---- a fraction N / K rounded: `grid` units
 exact : (n : ℕ) → n ≤ 16777216 → Exact binary32 n
 exact n h = round_whole binary32 false n h
 
-finite-within : (z : Float) (lo hi : ℕ) → Within lo hi z → T (finite z)
-finite-within nan lo hi w = w
-finite-within (inf s) lo hi w = w
-finite-within (fin s m e) lo hi w = tt
+finite_within : (z : Float) (lo hi : ℕ) → Within lo hi z → T (finite z)
+finite_within nan lo hi w = w
+finite_within (inf s) lo hi w = w
+finite_within (fin s m e) lo hi w = tt
 
 module _ (N K : ℕ) (k : 0 < K) (h : N ≤ 16777216 * K) where
   under : grid binary32 N K < overflow binary32
   under =
       round_under binary32 N K
-      (finite-within (round binary32 false N K) 0 16777216 (round-within binary32 0 16777216 N K k (exact 0 (lit≤ tt)) (exact 16777216 (lit≤ tt)) (le_trans (le_of_eq (zero-mul K)) zero-le) h))
+      (finite_within (round binary32 false N K) 0 16777216 (round_within binary32 0 16777216 N K k (exact 0 (lit≤ tt)) (exact 16777216 (lit≤ tt)) (le_trans (le_of_eq (zero-mul K)) zero-le) h))
 
-  pub rounded-value : (s : Bool) → HasValue (round binary32 s N K) s (grid binary32 N K) (2 ^ 149)
-  rounded-value s = subst (λ (z : Float). HasValue z s (grid binary32 N K) (2 ^ 149)) (sym (round_is binary32 s N K)) (units_val binary32 s (kept 24 (N * 2 ^ 149) K) (drop 24 (N * 2 ^ 149) K) under)
+  pub rounded_value : (s : Bool) → HasValue (round binary32 s N K) s (grid binary32 N K) (2 ^ 149)
+  rounded_value s = subst (λ (z : Float). HasValue z s (grid binary32 N K) (2 ^ 149)) (sym (round_is binary32 s N K)) (units_val binary32 s (kept 24 (N * 2 ^ 149) K) (drop 24 (N * 2 ^ 149) K) under)
 
-  pub rounded-above : lt nought (round binary32 false N K) ≡ ltb 0 (grid binary32 N K)
+  pub rounded_above : lt nought (round binary32 false N K) ≡ ltb 0 (grid binary32 N K)
   unfolding of_bits
-  rounded-above =
-      lt-value (fin false 0 (pos 0)) (round binary32 false N K) 0 1 (grid binary32 N K) (2 ^ 149) (lit< tt) (pow_pos 149) (refl, refl) (rounded-value false)
+  rounded_above =
+      lt_value (fin false 0 (pos 0)) (round binary32 false N K) 0 1 (grid binary32 N K) (2 ^ 149) (lit< tt) (pow_pos 149) (refl, refl) (rounded_value false)
       ∙ ap (λ (z : ℕ). ltb z (grid binary32 N K * 1)) (zero-mul (2 ^ 149)) ∙ ap (ltb 0) (mul-one (grid binary32 N K))
 
 -- the quotient of two of them goes by those numbers of units
-pub rounded-over : (s : Bool) (N M K : ℕ) → 0 < K → N ≤ 16777216 * K → M ≤ 16777216 * K → 0 < grid binary32 M K → div binary32 (round binary32 s N K) (round binary32 false M K) ≡ round binary32 s (grid binary32 N K) (grid binary32 M K)
-rounded-over s N M K k n m p =
+pub rounded_over : (s : Bool) (N M K : ℕ) → 0 < K → N ≤ 16777216 * K → M ≤ 16777216 * K → 0 < grid binary32 M K → div binary32 (round binary32 s N K) (round binary32 false M K) ≡ round binary32 s (grid binary32 N K) (grid binary32 M K)
+rounded_over s N M K k n m p =
     let g = grid binary32 N K in
     let h = grid binary32 M K in
-    div-signed binary32 (round binary32 s N K) (round binary32 false M K) s g (2 ^ 149) h (2 ^ 149) (pow_pos 149) (pow_pos 149) p (rounded-value N K k n s) (rounded-value M K k m false)
+    div_signed binary32 (round binary32 s N K) (round binary32 false M K) s g (2 ^ 149) h (2 ^ 149) (pow_pos 149) (pow_pos 149) p (rounded_value N K k n s) (rounded_value M K k m false)
     ∙ round_same binary32 s (g * 2 ^ 149) (h * 2 ^ 149) g h (mul-pos p (pow_pos 149)) p (mul_assoc g (2 ^ 149) h ∙ ap (λ (z : ℕ). g * z) (mul_comm (2 ^ 149) h))
 
 -- ---- sum and difference of two values in units
-sum-units : (x y : Float) (s t : Bool) (R P : ℕ) → HasValue x s R (2 ^ 149) → HasValue y t P (2 ^ 149) → add binary32 x y ≡ sum binary32 s R t P (2 ^ 149)
+sum_units : (x y : Float) (s t : Bool) (R P : ℕ) → HasValue x s R (2 ^ 149) → HasValue y t P (2 ^ 149) → add binary32 x y ≡ sum binary32 s R t P (2 ^ 149)
 unfolding add
-sum-units nan y s t R P X Y = absurd X
-sum-units (inf u) y s t R P X Y = absurd X
-sum-units (fin u n d) nan s t R P X Y = absurd Y
-sum-units (fin u n d) (inf v) s t R P X Y = absurd Y
-sum-units (fin u n d) (fin v m e) s t R P X Y =
+sum_units nan y s t R P X Y = absurd X
+sum_units (inf u) y s t R P X Y = absurd X
+sum_units (fin u n d) nan s t R P X Y = absurd Y
+sum_units (fin u n d) (inf v) s t R P X Y = absurd Y
+sum_units (fin u n d) (fin v m e) s t R P X Y =
     ap (λ (z : Bool). sum binary32 z (n * up d * down e) v (m * up e * down d) (down d * down e)) X.0
     ∙ ap (λ (z : Bool). sum binary32 s (n * up d * down e) z (m * up e * down d) (down d * down e)) Y.0
     ∙ sum_same binary32 s (n * up d * down e) t (m * up e * down d) (down d * down e) R P (2 ^ 149) (mul-pos (down_pos d) (down_pos e)) (pow_pos 149)
@@ -109,11 +109,11 @@ unfolding sum
 total R P K = refl
 
 module _ (x y : Float) (R P : ℕ) (X : HasValue x false R (2 ^ 149)) (Y : HasValue y false P (2 ^ 149)) where
-  pub add-units : add binary32 x y ≡ round binary32 false (R + P) (2 ^ 149)
-  add-units = sum-units x y false false R P X Y ∙ total R P (2 ^ 149)
+  pub add_units : add binary32 x y ≡ round binary32 false (R + P) (2 ^ 149)
+  add_units = sum_units x y false false R P X Y ∙ total R P (2 ^ 149)
 
-  pub sub-units : sub binary32 x y ≡ round binary32 (ltb R P) (apart R P) (2 ^ 149)
-  sub-units = sub_is x y ∙ sum-units x (neg y) false true R P X (neg_value y P (2 ^ 149) Y) ∙ difference R P (2 ^ 149)
+  pub sub_units : sub binary32 x y ≡ round binary32 (ltb R P) (apart R P) (2 ^ 149)
+  sub_units = sub_is x y ∙ sum_units x (neg y) false true R P X (neg_value y P (2 ^ 149) Y) ∙ difference R P (2 ^ 149)
 
 -- ---- whole units: up to 24 digits are kept as they are
 abbrev pub near : ℕ → ℕ
@@ -124,64 +124,64 @@ same_units nan s a b h k = absurd h
 same_units (inf t) s a b h k = absurd h
 same_units (fin t m e) s a b h k = eq_of_mul-eq-mul_right (down e) (down_pos e) a b (sym h.1 ∙ k.1)
 
-few-le : (a : ℕ) → a < 16777216 → a ≤ 16777216 * 2 ^ 149
-few-le a h = le_trans (le_of_lt h) (lit≤ tt)
+few_le : (a : ℕ) → a < 16777216 → a ≤ 16777216 * 2 ^ 149
+few_le a h = le_trans (le_of_lt h) (lit≤ tt)
 
-near-few : (a : ℕ) → a < 16777216 → near a ≡ a
-near-few a h =
-    same_units (round binary32 false a (2 ^ 149)) false (near a) a (rounded-value a (2 ^ 149) (pow_pos 149) (few-le a h) false)
+near_few : (a : ℕ) → a < 16777216 → near a ≡ a
+near_few a h =
+    same_units (round binary32 false a (2 ^ 149)) false (near a) a (rounded_value a (2 ^ 149) (pow_pos 149) (few_le a h) false)
     (round_exact binary32 false a (2 ^ 149) a 0 (pow_pos 149) h (lt_of_le_of_lt (le_trans (le_of_eq (mul-one a)) (le_of_lt h)) (lit< tt)) (ap (λ (z : ℕ). z * 2 ^ 149) (sym (mul-one a))))
 
-pub near-double : (a : ℕ) → near (a * 2) ≡ near a * 2
-near-double a = elim (le-or-lt 8388608 a) [
+pub near_double : (a : ℕ) → near (a * 2) ≡ near a * 2
+near_double a = elim (le_or_lt 8388608 a) [
   | inl l ↦ grid_scale binary32 a (2 ^ 149) 1 (pow_pos 149) (normal_of_fraction binary32 a (2 ^ 149) (pow_pos 149) (mul-le-mul_right (2 ^ 149) l))
-  | inr l ↦ near-few (a * 2) (omega arith) ∙ ap (λ (z : ℕ). z * 2) (sym (near-few a (omega arith)))
+  | inr l ↦ near_few (a * 2) (omega arith) ∙ ap (λ (z : ℕ). z * 2) (sym (near_few a (omega arith)))
 ]
 
 -- nothing but 0 is rounded to 0
-pub near-some : (a : ℕ) → a ≤ 16777216 * 2 ^ 149 → 0 < a → 0 < near a
-near-some a h p = elim (zero_or (near a)) [ inl z ↦ absurd (no z) | inr q ↦ q ]
+pub near_some : (a : ℕ) → a ≤ 16777216 * 2 ^ 149 → 0 < a → 0 < near a
+near_some a h p = elim (zero_or (near a)) [ inl z ↦ absurd (no z) | inr q ↦ q ]
   where
-    one-is : near 1 ≡ 1
-    one-is = near-few 1 (lit< tt)
+    one_is : near 1 ≡ 1
+    one_is = near_few 1 (lit< tt)
 
     no : near a ≡ 0 → ⊥
     no z =
         lt_not_le (round binary32 false a (2 ^ 149)) (round binary32 false 1 (2 ^ 149))
-        (lt-value (round binary32 false a (2 ^ 149)) (round binary32 false 1 (2 ^ 149)) (near a) (2 ^ 149) (near 1) (2 ^ 149) (pow_pos 149) (pow_pos 149) (rounded-value a (2 ^ 149) (pow_pos 149) h false) (rounded-value 1 (2 ^ 149) (pow_pos 149) (lit≤ tt) false)
-        ∙ ap (λ (k : ℕ). ltb (k * 2 ^ 149) (near 1 * 2 ^ 149)) z ∙ ap (λ (k : ℕ). ltb (0 * 2 ^ 149) (k * 2 ^ 149)) one-is ∙ lt-ltb (0 * 2 ^ 149) (1 * 2 ^ 149) (lit< tt))
+        (lt_value (round binary32 false a (2 ^ 149)) (round binary32 false 1 (2 ^ 149)) (near a) (2 ^ 149) (near 1) (2 ^ 149) (pow_pos 149) (pow_pos 149) (rounded_value a (2 ^ 149) (pow_pos 149) h false) (rounded_value 1 (2 ^ 149) (pow_pos 149) (lit≤ tt) false)
+        ∙ ap (λ (k : ℕ). ltb (k * 2 ^ 149) (near 1 * 2 ^ 149)) z ∙ ap (λ (k : ℕ). ltb (0 * 2 ^ 149) (k * 2 ^ 149)) one_is ∙ lt-ltb (0 * 2 ^ 149) (1 * 2 ^ 149) (lit< tt))
         (is_true (le (round binary32 false 1 (2 ^ 149)) (round binary32 false a (2 ^ 149))) (round_mono binary32 1 (2 ^ 149) a (2 ^ 149) (pow_pos 149) (pow_pos 149) (mul-le-mul_right (2 ^ 149) p)))
 
 -- ---- the quotient in units
-pub ahead-units : (x y : Float) (R P : ℕ) → R + P ≤ 16777216 * 2 ^ 149 → HasValue x false R (2 ^ 149) → HasValue y false P (2 ^ 149) → 0 < near (R + P) → div binary32 (sub binary32 x y) (add binary32 x y) ≡ round binary32 (ltb R P) (near (apart R P)) (near (R + P))
-ahead-units x y R P h X Y p =
-    ap (λ (z : Float). div binary32 z (add binary32 x y)) (sub-units x y R P X Y)
-    ∙ ap (div binary32 (round binary32 (ltb R P) (apart R P) (2 ^ 149))) (add-units x y R P X Y)
-    ∙ rounded-over (ltb R P) (apart R P) (R + P) (2 ^ 149) (pow_pos 149) (le_trans (apart-le R P) h) h p
+pub ahead_units : (x y : Float) (R P : ℕ) → R + P ≤ 16777216 * 2 ^ 149 → HasValue x false R (2 ^ 149) → HasValue y false P (2 ^ 149) → 0 < near (R + P) → div binary32 (sub binary32 x y) (add binary32 x y) ≡ round binary32 (ltb R P) (near (apart R P)) (near (R + P))
+ahead_units x y R P h X Y p =
+    ap (λ (z : Float). div binary32 z (add binary32 x y)) (sub_units x y R P X Y)
+    ∙ ap (div binary32 (round binary32 (ltb R P) (apart R P) (2 ^ 149))) (add_units x y R P X Y)
+    ∙ rounded_over (ltb R P) (apart R P) (R + P) (2 ^ 149) (pow_pos 149) (le_trans (apart_le R P) h) h p
   where
-    apart-le : (R P : ℕ) → apart R P ≤ R + P
-    apart-le R P = omega arith
+    apart_le : (R P : ℕ) → apart R P ≤ R + P
+    apart_le R P = omega arith
 
 -- ---- dx and dy in units
 pub record Whole (x : Float) : Type 0 where
   pub units : ℕ
-  pub value : HasValue (absOf x) false units (2 ^ 149)
+  pub value : HasValue (abs_of x) false units (2 ^ 149)
   pub most : units ≤ 2097152 * 2 ^ 149
   -- as the fraction that x is
   pub size : num x * 2 ^ 149 ≡ units * den x
 
-most-of : (u a d L : ℕ) → 0 < d → a * L ≡ u * d → a ≤ 2097152 * d → u ≤ 2097152 * L
-most-of u a d L D e h = le_of_mul-le-mul_right (le_trans (le_of_eq (sym e)) (le_trans (mul-le-mul_right L h) (le_of_eq (mul_right_comm 2097152 d L)))) D
+most_of : (u a d L : ℕ) → 0 < d → a * L ≡ u * d → a ≤ 2097152 * d → u ≤ 2097152 * L
+most_of u a d L D e h = le_of_mul-le-mul_right (le_trans (le_of_eq (sym e)) (le_trans (mul-le-mul_right L h) (le_of_eq (mul_right_comm 2097152 d L)))) D
 
-pub whole_of : (x : Float) → T (fits binary32 x) → T (inReach (absOf x)) → Whole x
-whole_of nan f t = absurd (reach-nan t)
-whole_of (inf s) f t = absurd (reach-inf s t)
+pub whole_of : (x : Float) → T (fits binary32 x) → T (in_reach (abs_of x)) → Whole x
+whole_of nan f t = absurd (reach_nan t)
+whole_of (inf s) f t = absurd (reach_inf s t)
 whole_of (fin s m e) f t =
     let w = stored binary32 s m e f in
     record {
       units = w.c * 2 ^ w.k;
-      value = unfold absOf in (refl, w.size);
-      most = most-of (w.c * 2 ^ w.k) (m * up e) (down e) (2 ^ 149) (down_pos e) w.size (bounded s m e t);
+      value = unfold abs_of in (refl, w.size);
+      most = most_of (w.c * 2 ^ w.k) (m * up e) (down e) (2 ^ 149) (down_pos e) w.size (bounded s m e t);
       size = w.size;
     }
 
@@ -189,23 +189,23 @@ pub both_most : (P R Q : ℕ) → P ≤ 2097152 * Q → R ≤ 2097152 * Q → R 
 both_most P R Q h k = omega arith
 
 -- the test of the sum, in units
-pub sum-test : (x y : Float) (R P : ℕ) → R + P ≤ 16777216 * 2 ^ 149 → HasValue x false R (2 ^ 149) → HasValue y false P (2 ^ 149) → lt nought (add binary32 x y) ≡ ltb 0 (near (R + P))
-sum-test x y R P h X Y = ap (lt nought) (add-units x y R P X Y) ∙ rounded-above (R + P) (2 ^ 149) (pow_pos 149) h
+pub sum_test : (x y : Float) (R P : ℕ) → R + P ≤ 16777216 * 2 ^ 149 → HasValue x false R (2 ^ 149) → HasValue y false P (2 ^ 149) → lt nought (add binary32 x y) ≡ ltb 0 (near (R + P))
+sum_test x y R P h X Y = ap (lt nought) (add_units x y R P X Y) ∙ rounded_above (R + P) (2 ^ 149) (pow_pos 149) h
 
 -- the sum is above 0 but for (0, 0)
-pub level-none : (dx dy : Float) → T (fits binary32 dx) → T (fits binary32 dy) → T (inAngle dx dy) → lt nought (sum_of dx dy) ≡ false → (num dx ≡ 0) × (num dy ≡ 0)
-level-none dx dy fx fy h e =
-    let x = whole_of dx fx (reach-dx dx dy h) in
-    let y = whole_of dy fy (reach-dy dx dy h) in
+pub level_none : (dx dy : Float) → T (fits binary32 dx) → T (fits binary32 dy) → T (in_angle dx dy) → lt nought (sum_of dx dy) ≡ false → (num dx ≡ 0) × (num dy ≡ 0)
+level_none dx dy fx fy h e =
+    let x = whole_of dx fx (reach_dx dx dy h) in
+    let y = whole_of dy fy (reach_dy dx dy h) in
     let m = both_most x.units y.units (2 ^ 149) x.most y.most in
     let n : y.units + x.units ≡ 0 = elim (zero_or (y.units + x.units)) [
       | inl z ↦ z
-      | inr p ↦ absurd (true≢false (sym (lt-ltb 0 (near (y.units + x.units)) (near-some (y.units + x.units) m p)) ∙ sym (sum-test (absOf dy) (absOf dx) y.units x.units m y.value x.value) ∙ e))
+      | inr p ↦ absurd (true≢false (sym (lt-ltb 0 (near (y.units + x.units)) (near_some (y.units + x.units) m p)) ∙ sym (sum_test (abs_of dy) (abs_of dx) y.units x.units m y.value x.value) ∙ e))
     ] in
-    (none-of-units dx x.units x.size (first y.units x.units n), none-of-units dy y.units y.size (second y.units x.units n))
+    (none_of_units dx x.units x.size (first y.units x.units n), none_of_units dy y.units y.size (second y.units x.units n))
   where
-    none-of-units : (x : Float) (u : ℕ) → num x * 2 ^ 149 ≡ u * den x → u ≡ 0 → num x ≡ 0
-    none-of-units x u e z = null (num x) (2 ^ 149) (pow_pos 149) (e ∙ ap (λ (k : ℕ). k * den x) z ∙ zero-mul (den x))
+    none_of_units : (x : Float) (u : ℕ) → num x * 2 ^ 149 ≡ u * den x → u ≡ 0 → num x ≡ 0
+    none_of_units x u e z = null (num x) (2 ^ 149) (pow_pos 149) (e ∙ ap (λ (k : ℕ). k * den x) z ∙ zero-mul (den x))
 
     first : (a b : ℕ) → a + b ≡ 0 → b ≡ 0
     first a b e = omega arith

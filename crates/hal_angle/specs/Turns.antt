@@ -41,5 +41,5 @@ turns =
     f32 0x439d8000 ∷ f32 0xc27c0000 ∷ f32 0x43870000 ∷ f32 0x43b3ffff ∷ f32 0x43610000 ∷ f32 0x427c0000 ∷ f32 0x43340000 ∷ f32 0x43870000 ∷ []
 
 -- where the quarter stands, by whether dx and whether dy is negative
-abbrev pub placeOf : Bool → Bool → ℕ
-placeOf left down = 256 + (cond left 4 0 + cond down 8 0)
+abbrev pub place_of : Bool → Bool → ℕ
+place_of left down = 256 + (cond left 4 0 + cond down 8 0)

@@ -6,22 +6,22 @@ mod turns;
 
 ghost use Rattle.std.specs.Prelude.{◌≡◌, true, not, cond, ◌≤◌, T};
 ghost use Rattle.std.specs.Float.Ieee.{is_nan};
-ghost use Rattle.ieee.specs.F32.{◌⊕◌, absOf};
-ghost use Rattle.hal_reach.specs.Reach.{inAngle};
+ghost use Rattle.ieee.specs.F32.{◌⊕◌, abs_of};
+ghost use Rattle.hal_reach.specs.Reach.{in_angle};
 ghost use Rattle.hal_angle.specs.Numbers.{shift};
-ghost use Rattle.hal_angle.specs.Turns.{turns, placeOf};
-ghost use Rattle.hal_angle.specs.Angle.{quarterOf, alongOf, lesserOf, greater_of, directionOf, angleOf};
+ghost use Rattle.hal_angle.specs.Turns.{turns, place_of};
+ghost use Rattle.hal_angle.specs.Angle.{quarter_of, along_of, lesser_of, greater_of, direction_of, angle_of};
 
 // |x|, of an x that is a number.
 fn size(x: f32) -> f32
     requires { T (not (is_nan x)) }
-    ensures { result ≡ absOf x }
+    ensures { result ≡ abs_of x }
 {
     f32::from_bits(f32::to_bits(x) % 0x8000_0000)
 }
 
 fn lesser(a: f32, b: f32) -> f32
-    ensures { result ≡ lesserOf a b }
+    ensures { result ≡ lesser_of a b }
 {
     if a < b { a } else { b }
 }
@@ -43,7 +43,7 @@ pub fn turn_table() -> [f32; 272]
 fn along(t: &[f32; 272], middle: f32, u: f32) -> f32
     requires fact_1 { t.now ≡ turns }
     requires fact_2 { T (not (is_nan (u ⊕ shift))) }
-    ensures { result ≡ alongOf middle u }
+    ensures { result ≡ along_of middle u }
 {
     let r = u + 12582975.0;
     let k = (f32::to_bits(r) % 128) as usize;
@@ -60,7 +60,7 @@ fn part(c: bool, n: usize) -> usize
 
 // Where the table has the quarter that the signs name.
 fn quarter(left: bool, down: bool) -> usize
-    ensures { (result ≡ placeOf left down) × (result ≤ 268) }
+    ensures { (result ≡ place_of left down) × (result ≤ 268) }
 {
     256 + (part(left, 4) + part(down, 8))
 }
@@ -69,7 +69,7 @@ fn quarter(left: bool, down: bool) -> usize
 fn direction(t: &[f32; 272], left: bool, down: bool, ahead: f32) -> f32
     requires fact_1 { t.now ≡ turns }
     requires fact_2 { T (not (is_nan ahead)) }
-    ensures { result ≡ directionOf (quarterOf left down) ahead }
+    ensures { result ≡ direction_of (quarter_of left down) ahead }
 {
     let i = quarter(left, down);
     let q = along(t, t[i], ahead * t[i + 1]);
@@ -78,8 +78,8 @@ fn direction(t: &[f32; 272], left: bool, down: bool, ahead: f32) -> f32
 
 // For loops: both are in the range.
 pub fn angle_in(t: &[f32; 272], dx: f32, dy: f32) -> f32
-    requires { (t.now ≡ turns) × (inAngle dx dy ≡ true) }
-    ensures { result ≡ angleOf dx dy }
+    requires { (t.now ≡ turns) × (in_angle dx dy ≡ true) }
+    ensures { result ≡ angle_of dx dy }
 {
     let a = size(dx);
     let b = size(dy);
@@ -92,7 +92,7 @@ pub fn angle_in(t: &[f32; 272], dx: f32, dy: f32) -> f32
 }
 
 pub fn angle(dx: f32, dy: f32) -> f32
-    ensures { result ≡ angleOf dx dy }
+    ensures { result ≡ angle_of dx dy }
 {
     if hal_reach::in_reach(dx, dy) {
         angle_in(&turns::TURNS, dx, dy)

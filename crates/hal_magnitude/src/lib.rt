@@ -5,12 +5,12 @@
 mod cubics;
 
 ghost use Rattle.std.specs.Prelude.{◌≡◌, true};
-ghost use Rattle.hal_reach.specs.Reach.{inAngle};
+ghost use Rattle.hal_reach.specs.Reach.{in_angle};
 ghost use Rattle.hal_magnitude.specs.Cubics.{cubics};
-ghost use Rattle.hal_magnitude.specs.Magnitude.{magnitudeOf};
+ghost use Rattle.hal_magnitude.specs.Magnitude.{magnitude_of};
 
 pub fn magnitude(dx: f32, dy: f32) -> f32
-    ensures { result ≡ magnitudeOf dx dy }
+    ensures { result ≡ magnitude_of dx dy }
 {
     if hal_reach::in_reach(dx, dy) {
         ieee_length::length(dx, dy)
@@ -28,8 +28,8 @@ pub fn cubic_table() -> [f64; 256]
 
 // For loops: both are in the range.
 pub fn magnitude_in(t: &[f64; 256], dx: f32, dy: f32) -> f32
-    requires { (t.now ≡ cubics) × (inAngle dx dy ≡ true) }
-    ensures { result ≡ magnitudeOf dx dy }
+    requires { (t.now ≡ cubics) × (in_angle dx dy ≡ true) }
+    ensures { result ≡ magnitude_of dx dy }
 {
     ieee_length::length_with(t, dx, dy)
 }

@@ -11,32 +11,32 @@ use lib.Ieee.{Float, nan, inf, fin, up, down, le, eq, is_nan, of_bits}
 use lib.Ieee.Bits.{is_true}
 use lib.Ieee.Fits.{and_l, and_r}
 use lib.Ieee.Positive.{num}
-use Rattle.ieee.specs.F32.{absOf}
+use Rattle.ieee.specs.F32.{abs_of}
 use Rattle.ieee.specs.Numbers.{nought}
-use Rattle.ieee_laws.proofs.Order.{Leq, le-fin}
-use Rattle.hal_reach.specs.Reach.{furthest, inReach, inAngle}
+use Rattle.ieee_laws.proofs.Order.{Leq, le_fin}
+use Rattle.hal_reach.specs.Reach.{furthest, in_reach, in_angle}
 
 -- the named number is what its page says
 pub named : furthest ≡ fin false 1 (pos 21)
 unfolding of_bits
 named = refl
 
-pub reach-nan : T (inReach (absOf nan)) → ⊥
-unfolding absOf le
-reach-nan t = t
+pub reach_nan : T (in_reach (abs_of nan)) → ⊥
+unfolding abs_of le
+reach_nan t = t
 
-pub reach-inf : (s : Bool) → T (inReach (absOf (inf s))) → ⊥
-unfolding absOf le of_bits
-reach-inf s t = t
+pub reach_inf : (s : Bool) → T (in_reach (abs_of (inf s))) → ⊥
+unfolding abs_of le of_bits
+reach_inf s t = t
 
-pub reach-number : (x : Float) → T (inReach (absOf x)) → T (not (is_nan x))
-reach-number nan t = absurd (reach-nan t)
-reach-number (inf s) t = unfold is_nan in tt
-reach-number (fin s m e) t = unfold is_nan in tt
+pub reach_number : (x : Float) → T (in_reach (abs_of x)) → T (not (is_nan x))
+reach_number nan t = absurd (reach_nan t)
+reach_number (inf s) t = unfold is_nan in tt
+reach_number (fin s m e) t = unfold is_nan in tt
 
-pub bounded : (s : Bool) (m : ℕ) (e : ℤ) → T (inReach (absOf (fin s m e))) → m * up e ≤ 2097152 * down e
-unfolding absOf of_bits
-bounded s m e t = let h : Leq false (m * up e) (down e) false (1 * up (pos 21)) (down (pos 21)) = le-fin false m e false 1 (pos 21) (is_true (inReach (fin false m e)) t) in omega (arith, h.cross)
+pub bounded : (s : Bool) (m : ℕ) (e : ℤ) → T (in_reach (abs_of (fin s m e))) → m * up e ≤ 2097152 * down e
+unfolding abs_of of_bits
+bounded s m e t = let h : Leq false (m * up e) (down e) false (1 * up (pos 21)) (down (pos 21)) = le_fin false m e false 1 (pos 21) (is_true (in_reach (fin false m e)) t) in omega (arith, h.cross)
 
 pub zero_or : (a : ℕ) → (a ≡ 0) ⊎ (0 < a)
 zero_or zero = inl refl
@@ -60,15 +60,15 @@ zero_of s m e = elim (zero_or (m * up e)) [
     no_zero : (a : ℕ) → 0 < a → a ≡ 0 → ⊥
     no_zero a h p = omega arith
 
-pub zero-num : (x : Float) → T (inReach (absOf x)) → eq x nought ≡ eqb (num x) 0
-zero-num nan t = absurd (reach-nan t)
-zero-num (inf s) t = absurd (reach-inf s t)
-zero-num (fin s m e) t = zero_of s m e
+pub zero_num : (x : Float) → T (in_reach (abs_of x)) → eq x nought ≡ eqb (num x) 0
+zero_num nan t = absurd (reach_nan t)
+zero_num (inf s) t = absurd (reach_inf s t)
+zero_num (fin s m e) t = zero_of s m e
 
 -- of both
-module _ (dx dy : Float) (h : T (inAngle dx dy)) where
-  pub reach-dx : T (inReach (absOf dx))
-  reach-dx = and_l (inReach (absOf dx)) (inReach (absOf dy)) h
+module _ (dx dy : Float) (h : T (in_angle dx dy)) where
+  pub reach_dx : T (in_reach (abs_of dx))
+  reach_dx = and_l (in_reach (abs_of dx)) (in_reach (abs_of dy)) h
 
-  pub reach-dy : T (inReach (absOf dy))
-  reach-dy = and_r (inReach (absOf dx)) (inReach (absOf dy)) h
+  pub reach_dy : T (in_reach (abs_of dy))
+  reach_dy = and_r (in_reach (abs_of dx)) (in_reach (abs_of dy)) h

@@ -3,11 +3,11 @@
 #![tactic(auto)]
 
 ghost use Rattle.std.specs.Prelude.{◌≡◌};
-ghost use Rattle.hal_turn.specs.Turn.{holdOf, negatedOf, quarterSineOf, sinOf, cosOf};
+ghost use Rattle.hal_turn.specs.Turn.{hold_of, negated_of, quarter_sine_of, sin_of, cos_of};
 
 // p brought into 0 to top.
 fn hold(p: f32, top: f32) -> f32
-    ensures { result ≡ holdOf p top }
+    ensures { result ≡ hold_of p top }
 {
     if p > 0.0 {
         if p < top { p } else { top }
@@ -18,7 +18,7 @@ fn hold(p: f32, top: f32) -> f32
 
 // -v, with +0 for a zero.
 fn negated(v: f32) -> f32
-    ensures { result ≡ negatedOf v }
+    ensures { result ≡ negated_of v }
 {
     if v > 0.0 { -v } else { 0.0 }
 }
@@ -26,7 +26,7 @@ fn negated(v: f32) -> f32
 // The sine of a degrees, a in 0 to 90. The odd polynomial of degree nine whose largest error on 0 to 90 is least (3.4e-9), its coefficients rounded to f32 and the first
 // one place higher, so that it passes 1 at 90 and is held there.
 fn quarter_sine(a: f32) -> f32
-    ensures { result ≡ quarterSineOf a }
+    ensures { result ≡ quarter_sine_of a }
 {
     let z = a * a;
     hold(
@@ -39,7 +39,7 @@ fn quarter_sine(a: f32) -> f32
 }
 
 pub fn sin(d: f32) -> f32
-    ensures { result ≡ sinOf d }
+    ensures { result ≡ sin_of d }
 {
     if hal::within(d, 0.0, 360.0) {
         if d <= 90.0 {
@@ -57,7 +57,7 @@ pub fn sin(d: f32) -> f32
 }
 
 pub fn cos(d: f32) -> f32
-    ensures { result ≡ cosOf d }
+    ensures { result ≡ cos_of d }
 {
     if hal::within(d, 0.0, 360.0) {
         if d <= 90.0 {

@@ -27,11 +27,11 @@ zero_of (fin s (suc m) d) h e =
     none a b p z q = omega arith
 
 -- 2 ^ -(k + 1)
-pub power-of : (w : Float) (k : ℕ) → eq w (fin false 1 (negsuc k)) ≡ true → HasValue w false 1 (2 ^ suc k)
+pub power_of_lem : (w : Float) (k : ℕ) → eq w (fin false 1 (negsuc k)) ≡ true → HasValue w false 1 (2 ^ suc k)
 unfolding eq
-power-of nan k e = absurd (false≢true e)
-power-of (inf s) k e = absurd (false≢true e)
-power-of (fin t n d) k e =
+power_of_lem nan k e = absurd (false≢true e)
+power_of_lem (inf s) k e = absurd (false≢true e)
+power_of_lem (fin t n d) k e =
     let a = n * up d * 2 ^ suc k in
     let q : a ≡ 1 * down d = same a (1 * 1 * down d) (beq t false || eqb a 0) e in
     (plus t a (subst (λ (z : ℕ). 0 < z) (sym (q ∙ one-mul (down d))) (down_pos d)) (and_r (eqb a (1 * 1 * down d)) (beq t false || eqb a 0) (subst T (sym e) tt)), q)

@@ -20,13 +20,13 @@ pair X Y De Dd A C B D p q = regroup ∙ ap₂ (λ (a b : ℕ). a * b) p q ∙ s
     regroup : X * Y * (C * D) ≡ X * C * (Y * D)
     regroup = simp ac
 
-mul-parts : (f : Format) (x y : Float) (s t : Bool) (A C B D : ℕ) → 0 < C → 0 < D → HasValue x s A C → HasValue y t B D → mul f x y ≡ round f (unlike s t) (A * B) (C * D)
+mul_parts : (f : Format) (x y : Float) (s t : Bool) (A C B D : ℕ) → 0 < C → 0 < D → HasValue x s A C → HasValue y t B D → mul f x y ≡ round f (unlike s t) (A * B) (C * D)
 unfolding mul
-mul-parts f nan y s t A C B D P Q X Y = absurd X
-mul-parts f (inf _) y s t A C B D P Q X Y = absurd X
-mul-parts f (fin s' M e) nan s t A C B D P Q X Y = absurd Y
-mul-parts f (fin s' M e) (inf _) s t A C B D P Q X Y = absurd Y
-mul-parts f (fin s' M e) (fin t' N d) s t A C B D P Q X Y =
+mul_parts f nan y s t A C B D P Q X Y = absurd X
+mul_parts f (inf _) y s t A C B D P Q X Y = absurd X
+mul_parts f (fin s' M e) nan s t A C B D P Q X Y = absurd Y
+mul_parts f (fin s' M e) (inf _) s t A C B D P Q X Y = absurd Y
+mul_parts f (fin s' M e) (fin t' N d) s t A C B D P Q X Y =
     ap (λ (u : Bool). round f u (M * up e * (N * up d)) (down e * down d)) (ap₂ unlike X.0 Y.0)
     ∙ round_same f (unlike s t) (M * up e * (N * up d)) (down e * down d) (A * B) (C * D) (mul-pos (down_pos e) (down_pos d)) (mul-pos P Q) (pair (M * up e) (N * up d) (down e) (down d) A C B D X.1 Y.1)
 
@@ -68,18 +68,18 @@ own nan u u' X Y De Dd A C B D P Q w p q v = absurd v
 own (inf _) u u' X Y De Dd A C B D P Q w p q v = absurd v
 own (fin a k g) u u' X Y De Dd A C B D P Q w p q v = (v.0 ∙ w, cross X Y (k * up g) De Dd (down g) A C B D P Q p q v.1)
 
-pub fused-exact : (f : Format) (x y z : Float) (s t : Bool) (A C B D : ℕ) → 0 < C → 0 < D → HasValue x s A C → HasValue y t B D → HasValue (mul f x y) (unlike s t) (A * B) (C * D) → add f (mul f x y) z ≡ fma f x y z
-fused-exact f nan y z s t A C B D P Q X Y v = absurd X
-fused-exact f (inf _) y z s t A C B D P Q X Y v = absurd X
-fused-exact f (fin s' M e) nan z s t A C B D P Q X Y v = absurd Y
-fused-exact f (fin s' M e) (inf _) z s t A C B D P Q X Y v = absurd Y
-fused-exact f (fin s' M e) (fin t' N d) z s t A C B D P Q X Y v =
+pub fused_exact : (f : Format) (x y z : Float) (s t : Bool) (A C B D : ℕ) → 0 < C → 0 < D → HasValue x s A C → HasValue y t B D → HasValue (mul f x y) (unlike s t) (A * B) (C * D) → add f (mul f x y) z ≡ fma f x y z
+fused_exact f nan y z s t A C B D P Q X Y v = absurd X
+fused_exact f (inf _) y z s t A C B D P Q X Y v = absurd X
+fused_exact f (fin s' M e) nan z s t A C B D P Q X Y v = absurd Y
+fused_exact f (fin s' M e) (inf _) z s t A C B D P Q X Y v = absurd Y
+fused_exact f (fin s' M e) (fin t' N d) z s t A C B D P Q X Y v =
     beside f (mul f (fin s' M e) (fin t' N d)) s' M e t' N d z
     (own (mul f (fin s' M e) (fin t' N d)) (unlike s t) (unlike s' t') (M * up e) (N * up d) (down e) (down d) A C B D P Q (sym (ap₂ unlike X.0 Y.0)) X.1 Y.1 v)
 
 -- so it is where the format has digits enough for the product
-pub fused-digits : (f : Format) (x y z : Float) (s t : Bool) (A C B D q j : ℕ) → 0 < C → 0 < D → HasValue x s A C → HasValue y t B D
+pub fused_digits : (f : Format) (x y z : Float) (s t : Bool) (A C B D q j : ℕ) → 0 < C → 0 < D → HasValue x s A C → HasValue y t B D
     → q < 2 ^ prec f → q * 2 ^ j < 2 ^ (low f + suc (emax f)) → A * B * 2 ^ low f ≡ q * 2 ^ j * (C * D) → add f (mul f x y) z ≡ fma f x y z
-fused-digits f x y z s t A C B D q j P Q X Y small fine e =
-    fused-exact f x y z s t A C B D P Q X Y
-    (subst (λ (r : Float). HasValue r (unlike s t) (A * B) (C * D)) (sym (mul-parts f x y s t A C B D P Q X Y)) (round_exact f (unlike s t) (A * B) (C * D) q j (mul-pos P Q) small fine e))
+fused_digits f x y z s t A C B D q j P Q X Y small fine e =
+    fused_exact f x y z s t A C B D P Q X Y
+    (subst (λ (r : Float). HasValue r (unlike s t) (A * B) (C * D)) (sym (mul_parts f x y s t A C B D P Q X Y)) (round_exact f (unlike s t) (A * B) (C * D) q j (mul-pos P Q) small fine e))

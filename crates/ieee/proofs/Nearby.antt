@@ -9,8 +9,8 @@ use lib.Ieee.{size}
 use lib.Ieee.Digits.{size_reaches, back}
 use lib.Ieee.Nearest.{closest, nearest-ge}
 use lib.Ieee.Order.{drop, kept}
-use Rattle.lists.proofs.Naturals.{le-or-lt}
-use Rattle.packing.proofs.Half.{cmp-lt, cmp-eq, cmp-gt, closest-is}
+use Rattle.lists.proofs.Naturals.{le_or_lt}
+use Rattle.packing.proofs.Half.{cmp_lt, cmp_eq, cmp_gt, closest_is}
 
 -- ---- within a half
 abbrev Near : ℕ → ℕ → ℕ → Type 0
@@ -24,20 +24,20 @@ tie a b q r t e h (inr z) =
     let y : (q + t) * b ≡ q * b + b = add-mul q t b ∙ ap (λ (x : ℕ). q * b + x) (ap (λ (x : ℕ). x * b) z ∙ one-mul b) in
     (omega arith, omega arith)
 
-pub even-or-odd : (h : ℕ) → (h % 2 ≡ 0) ⊎ (h % 2 ≡ 1)
-even-or-odd h = elim (le-or-lt (h % 2) 0) [ inl z ↦ inl (omega arith) | inr z ↦ inr (omega arith) ]
+pub even_or_odd : (h : ℕ) → (h % 2 ≡ 0) ⊎ (h % 2 ≡ 1)
+even_or_odd h = elim (le_or_lt (h % 2) 0) [ inl z ↦ inl (omega arith) | inr z ↦ inr (omega arith) ]
 
-near-at : (a b q r : ℕ) → a ≡ q * b + r → r < b → Near a b (closest a b)
-near-at a b q r e l = elim (le-or-lt (r * 2) b) [
-  | inr h ↦ subst (Near a b) (sym (closest-is a b q r Ordering.gt e l (cmp-gt (r * 2) b h))) (let s : suc q * b ≡ q * b + b = suc-mul q b in (omega arith, omega arith))
-  | inl h ↦ elim (le-or-lt b (r * 2)) [
-    | inr g ↦ subst (Near a b) (sym (closest-is a b q r Ordering.lt e l (cmp-lt (r * 2) b g))) (omega arith, omega arith)
-    | inl g ↦ subst (Near a b) (sym (closest-is a b q r Ordering.eq e l (cmp-eq (r * 2) b (omega arith)))) (tie a b q r (q % 2) e (omega arith) (even-or-odd q))
+near_at : (a b q r : ℕ) → a ≡ q * b + r → r < b → Near a b (closest a b)
+near_at a b q r e l = elim (le_or_lt (r * 2) b) [
+  | inr h ↦ subst (Near a b) (sym (closest_is a b q r Ordering.gt e l (cmp_gt (r * 2) b h))) (let s : suc q * b ≡ q * b + b = suc-mul q b in (omega arith, omega arith))
+  | inl h ↦ elim (le_or_lt b (r * 2)) [
+    | inr g ↦ subst (Near a b) (sym (closest_is a b q r Ordering.lt e l (cmp_lt (r * 2) b g))) (omega arith, omega arith)
+    | inl g ↦ subst (Near a b) (sym (closest_is a b q r Ordering.eq e l (cmp_eq (r * 2) b (omega arith)))) (tie a b q r (q % 2) e (omega arith) (even_or_odd q))
   ]
 ]
 
 near : (a b : ℕ) → 0 < b → Near a b (closest a b)
-near a b B = near-at a b (a / b) (a % b) (sym (div-add-mod' a b)) (mod-lt a B)
+near a b B = near_at a b (a / b) (a % b) (sym (div-add-mod' a b)) (mod-lt a B)
 
 -- ---- n / den to p digits: q * 2 ^ k, with k digits of the whole part dropped
 module _ (p n den : ℕ) (P : 0 < p) (D : 0 < den) where
@@ -50,32 +50,32 @@ module _ (p n den : ℕ) (P : 0 < p) (D : 0 < den) where
   abbrev R : ℕ
   R = kept p n den * 2 ^ drop p n den
 
-  u-is : (x : ℕ) → x * (den * 2 ^ k) ≡ x * 2 ^ k * den
-  u-is x = ap (λ (y : ℕ). x * y) (mul_comm den (2 ^ k)) ∙ sym (mul_assoc x (2 ^ k) den)
+  u_is : (x : ℕ) → x * (den * 2 ^ k) ≡ x * 2 ^ k * den
+  u_is x = ap (λ (y : ℕ). x * y) (mul_comm den (2 ^ k)) ∙ sym (mul_assoc x (2 ^ k) den)
 
   pub bounds : (2 * n ≤ 2 * (R * den) + 2 ^ k * den) × (2 * (R * den) ≤ 2 * n + 2 ^ k * den)
   bounds =
       let w = near n (den * 2 ^ k) (mul-pos D (pow_pos k)) in
       let e : den * 2 ^ k ≡ 2 ^ k * den = mul_comm den (2 ^ k) in
-      let f : q * (den * 2 ^ k) ≡ R * den = u-is q in
+      let f : q * (den * 2 ^ k) ≡ R * den = u_is q in
       (omega (arith, w.0), omega (arith, w.1))
 
   -- where digits are dropped, the whole part fills p digits and the dropped ones
-  whole-ge : 0 < k → 2 ^ (p - 1 + k) ≤ n / den
-  whole-ge h = size_reaches (n / den) (p - 1 + k) (omega arith)
+  whole_ge : 0 < k → 2 ^ (p - 1 + k) ≤ n / den
+  whole_ge h = size_reaches (n / den) (p - 1 + k) (omega arith)
 
-  pub q-ge : 0 < k → 2 ^ (p - 1) ≤ q
-  q-ge h =
+  pub q_ge : 0 < k → 2 ^ (p - 1) ≤ q
+  q_ge h =
       le_trans
-      (le_trans ((le-div_iff_mul-le (pow_pos k)).1 (le_trans (le_of_eq (sym (pow-add 2 (p - 1) k))) (whole-ge h))) (le_of_eq (div-div-eq-div-mul n den (2 ^ k))))
+      (le_trans ((le-div_iff_mul-le (pow_pos k)).1 (le_trans (le_of_eq (sym (pow-add 2 (p - 1) k))) (whole_ge h))) (le_of_eq (div-div-eq-div-mul n den (2 ^ k))))
       (nearest-ge (n / (den * 2 ^ k)) (compare (n % (den * 2 ^ k) * 2) (den * 2 ^ k)))
 
-  R-ge : 0 < k → 2 ^ (p - 1 + k) ≤ R
-  R-ge h = le_trans (le_of_eq (pow-add 2 (p - 1) k)) (mul-le-mul_right (2 ^ k) (q-ge h))
+  R_ge : 0 < k → 2 ^ (p - 1 + k) ≤ R
+  R_ge h = le_trans (le_of_eq (pow-add 2 (p - 1) k)) (mul-le-mul_right (2 ^ k) (q_ge h))
 
   -- a value y * 2 ^ j of p digits from 2 ^ (p - 1 + k) on is a multiple of 2 ^ k
   coarse : (y j : ℕ) → y < 2 ^ p → 2 ^ (p - 1 + k) ≤ y * 2 ^ j → k ≤ j
-  coarse y j h l = elim (le-or-lt k j) [
+  coarse y j h l = elim (le_or_lt k j) [
     | inl g ↦ g
     | inr g ↦ absurd (lt_irrefl (y * 2 ^ j) (lt_of_lt_of_le (shl_lt p j h) (le_trans (pow_mono {i = p + j} {j = p - 1 + k} (omega arith)) l)))
   ]
@@ -84,18 +84,18 @@ module _ (p n den : ℕ) (P : 0 < p) (D : 0 < den) where
   multiple y j h = sym (mul_assoc y (2 ^ (j - k)) (2 ^ k) ∙ ap (λ (x : ℕ). y * x) (sym (pow-add 2 (j - k) k) ∙ ap (λ (x : ℕ). 2 ^ x) (back j k h)))
 
   -- a value above the result is a whole step above it
-  pub step-up : (y j : ℕ) → y < 2 ^ p → R < y * 2 ^ j → R + 2 ^ k ≤ y * 2 ^ j
-  step-up y j h l = elim (eq-zero-or-pos k) [
+  pub step_up : (y j : ℕ) → y < 2 ^ p → R < y * 2 ^ j → R + 2 ^ k ≤ y * 2 ^ j
+  step_up y j h l = elim (eq-zero-or-pos k) [
     | inl z ↦ let e : 2 ^ k ≡ 1 = ap (λ (x : ℕ). 2 ^ x) z in omega arith
     | inr g ↦
-        (let e : y * 2 ^ j ≡ y * 2 ^ (j - k) * 2 ^ k = multiple y j (coarse y j h (le_trans (R-ge g) (le_of_lt l))) in
+        (let e : y * 2 ^ j ≡ y * 2 ^ (j - k) * 2 ^ k = multiple y j (coarse y j h (le_trans (R_ge g) (le_of_lt l))) in
         let t : q < y * 2 ^ (j - k) = lt_of_mul-lt-mul_right (2 ^ k) (subst (λ (x : ℕ). R < x) e l) in
         le_trans (le_of_eq (sym (suc-mul q (2 ^ k)))) (le_trans (mul-le-mul_right (2 ^ k) t) (le_of_eq (sym e))))
   ]
 
-  pub nearest-up : (y j : ℕ) → y < 2 ^ p → R < y * 2 ^ j → 2 * n ≤ (R + y * 2 ^ j) * den
-  nearest-up y j h l =
-      let s : (R + 2 ^ k) * den ≤ y * 2 ^ j * den = mul-le-mul_right den (step-up y j h l) in
+  pub nearest_up : (y j : ℕ) → y < 2 ^ p → R < y * 2 ^ j → 2 * n ≤ (R + y * 2 ^ j) * den
+  nearest_up y j h l =
+      let s : (R + 2 ^ k) * den ≤ y * 2 ^ j * den = mul-le-mul_right den (step_up y j h l) in
       let e : (R + 2 ^ k) * den ≡ R * den + 2 ^ k * den = add-mul R (2 ^ k) den in
       let f : (R + y * 2 ^ j) * den ≡ R * den + y * 2 ^ j * den = add-mul R (y * 2 ^ j) den in
       omega (arith, bounds.0)
@@ -104,10 +104,10 @@ module _ (p n den : ℕ) (P : 0 < p) (D : 0 < den) where
   pub step_down : (y j : ℕ) → y < 2 ^ p → y * 2 ^ j < R → (y * 2 ^ j + 2 ^ k ≤ R) ⊎ (R * den ≤ n)
   step_down y j h l = elim (eq-zero-or-pos k) [
     | inl z ↦ let e : 2 ^ k ≡ 1 = ap (λ (x : ℕ). 2 ^ x) z in inl (omega arith)
-    | inr g ↦ elim (le-or-lt (y * 2 ^ j + 2 ^ k) R) [
+    | inr g ↦ elim (le_or_lt (y * 2 ^ j + 2 ^ k) R) [
       | inl a ↦ inl a
-      | inr a ↦ elim (le-or-lt q (2 ^ (p - 1))) [
-        | inl b ↦ inr (le_trans (mul-le-mul_right den (le_trans (mul-le-mul_right (2 ^ k) b) (le_trans (le_of_eq (sym (pow-add 2 (p - 1) k))) (whole-ge g)))) (div-mul-le_self n den))
+      | inr a ↦ elim (le_or_lt q (2 ^ (p - 1))) [
+        | inl b ↦ inr (le_trans (mul-le-mul_right den (le_trans (mul-le-mul_right (2 ^ k) b) (le_trans (le_of_eq (sym (pow-add 2 (p - 1) k))) (whole_ge g)))) (div-mul-le_self n den))
         | inr b ↦ absurd (between y j h l g a b)
       ]
     ]
@@ -124,8 +124,8 @@ module _ (p n den : ℕ) (P : 0 < p) (D : 0 < den) where
           let r : suc (y * 2 ^ (j - k)) * 2 ^ k ≡ y * 2 ^ (j - k) * 2 ^ k + 2 ^ k = suc-mul (y * 2 ^ (j - k)) (2 ^ k) in
           omega arith
 
-  pub nearest-down : (y j : ℕ) → y < 2 ^ p → y * 2 ^ j < R → (R + y * 2 ^ j) * den ≤ 2 * n
-  nearest-down y j h l =
+  pub nearest_down : (y j : ℕ) → y < 2 ^ p → y * 2 ^ j < R → (R + y * 2 ^ j) * den ≤ 2 * n
+  nearest_down y j h l =
       let f : (R + y * 2 ^ j) * den ≡ R * den + y * 2 ^ j * den = add-mul R (y * 2 ^ j) den in
       elim (step_down y j h l) [
         | inl a ↦
@@ -138,8 +138,8 @@ module _ (p n den : ℕ) (P : 0 < p) (D : 0 < den) where
       ]
 
   -- the result is at most twice the fraction
-  pub at-most-twice : R * den ≤ 2 * n
-  at-most-twice = elim (eq-zero-or-pos q) [
+  pub at_most_twice : R * den ≤ 2 * n
+  at_most_twice = elim (eq-zero-or-pos q) [
     | inl z ↦ let e : R * den ≡ 0 = ap (λ (x : ℕ). x * 2 ^ k * den) z ∙ ap (λ (x : ℕ). x * den) (zero-mul (2 ^ k)) ∙ zero-mul den in omega arith
     | inr g ↦
         (let s : 1 * (2 ^ k * den) ≤ q * (2 ^ k * den) = mul-le-mul_right (2 ^ k * den) g in

@@ -11,29 +11,29 @@ use lib.Ieee.Scale.{finite}
 use Rattle.ieee.specs.Fused.{fma}
 use Rattle.packing.proofs.Sums.{sum_same}
 
-pub fma-left : (f : Format) (x y z : Float) → finite x ≡ false → add f (mul f x y) z ≡ fma f x y z
+pub fma_left : (f : Format) (x y z : Float) → finite x ≡ false → add f (mul f x y) z ≡ fma f x y z
 unfolding fma add mul
-fma-left f nan y z h = refl
-fma-left f (inf s) y z h = refl
-fma-left f (fin s m e) y z h = absurd (true≢false h)
+fma_left f nan y z h = refl
+fma_left f (inf s) y z h = refl
+fma_left f (fin s m e) y z h = absurd (true≢false h)
 
-pub fma-right : (f : Format) (x y z : Float) → finite x ≡ true → finite y ≡ false → add f (mul f x y) z ≡ fma f x y z
+pub fma_right : (f : Format) (x y z : Float) → finite x ≡ true → finite y ≡ false → add f (mul f x y) z ≡ fma f x y z
 unfolding fma add mul
-fma-right f nan y z g h = absurd (false≢true g)
-fma-right f (inf s) y z g h = absurd (false≢true g)
-fma-right f (fin s m e) nan z g h = refl
-fma-right f (fin s m e) (inf t) z g h = refl
-fma-right f (fin s m e) (fin t n d) z g h = absurd (true≢false h)
+fma_right f nan y z g h = absurd (false≢true g)
+fma_right f (inf s) y z g h = absurd (false≢true g)
+fma_right f (fin s m e) nan z g h = refl
+fma_right f (fin s m e) (inf t) z g h = refl
+fma_right f (fin s m e) (fin t n d) z g h = absurd (true≢false h)
 
-pub fma-last : (f : Format) (x y z : Float) → finite x ≡ true → finite y ≡ true → finite z ≡ false → z ≡ fma f x y z
+pub fma_last : (f : Format) (x y z : Float) → finite x ≡ true → finite y ≡ true → finite z ≡ false → z ≡ fma f x y z
 unfolding fma
-fma-last f nan y z g h k = absurd (false≢true g)
-fma-last f (inf s) y z g h k = absurd (false≢true g)
-fma-last f (fin s m e) nan z g h k = absurd (false≢true h)
-fma-last f (fin s m e) (inf t) z g h k = absurd (false≢true h)
-fma-last f (fin s m e) (fin t n d) nan g h k = refl
-fma-last f (fin s m e) (fin t n d) (inf u) g h k = refl
-fma-last f (fin s m e) (fin t n d) (fin u p r) g h k = absurd (true≢false k)
+fma_last f nan y z g h k = absurd (false≢true g)
+fma_last f (inf s) y z g h k = absurd (false≢true g)
+fma_last f (fin s m e) nan z g h k = absurd (false≢true h)
+fma_last f (fin s m e) (inf t) z g h k = absurd (false≢true h)
+fma_last f (fin s m e) (fin t n d) nan g h k = refl
+fma_last f (fin s m e) (fin t n d) (inf u) g h k = refl
+fma_last f (fin s m e) (fin t n d) (fin u p r) g h k = absurd (true≢false k)
 
 -- ---- the three as fractions over L
 ruleset ac = (mul_assoc, mul_comm, mul_left_comm)
@@ -56,16 +56,16 @@ powers m n x y = simp (pow-add, mul_assoc, mul_comm, mul_left_comm)
 pub later : (p z l : ℕ) → p * 2 ^ z * 2 ^ l ≡ p * 2 ^ (z + l)
 later p z l = mul_assoc p (2 ^ z) (2 ^ l) ∙ ap (λ (k : ℕ). p * k) (sym (pow-add 2 z l))
 
-pub fma-parts : (f : Format) (x y z : Float) (s t u : Bool) (m n p i j k l : ℕ) → HasValue x s (m * 2 ^ i) (2 ^ l) → HasValue y t (n * 2 ^ j) (2 ^ l) → HasValue z u (p * 2 ^ k) (2 ^ l)
+pub fma_parts : (f : Format) (x y z : Float) (s t u : Bool) (m n p i j k l : ℕ) → HasValue x s (m * 2 ^ i) (2 ^ l) → HasValue y t (n * 2 ^ j) (2 ^ l) → HasValue z u (p * 2 ^ k) (2 ^ l)
     → fma f x y z ≡ sum f (unlike s t) (m * n * 2 ^ (i + j)) u (p * 2 ^ (k + l)) (2 ^ l * 2 ^ l)
 unfolding fma
-fma-parts f nan y z s t u m n p i j k l X Y Z = absurd X
-fma-parts f (inf _) y z s t u m n p i j k l X Y Z = absurd X
-fma-parts f (fin s' M e) nan z s t u m n p i j k l X Y Z = absurd Y
-fma-parts f (fin s' M e) (inf _) z s t u m n p i j k l X Y Z = absurd Y
-fma-parts f (fin s' M e) (fin t' N d) nan s t u m n p i j k l X Y Z = absurd Z
-fma-parts f (fin s' M e) (fin t' N d) (inf _) s t u m n p i j k l X Y Z = absurd Z
-fma-parts f (fin s' M e) (fin t' N d) (fin u' P g) s t u m n p i j k l X Y Z =
+fma_parts f nan y z s t u m n p i j k l X Y Z = absurd X
+fma_parts f (inf _) y z s t u m n p i j k l X Y Z = absurd X
+fma_parts f (fin s' M e) nan z s t u m n p i j k l X Y Z = absurd Y
+fma_parts f (fin s' M e) (inf _) z s t u m n p i j k l X Y Z = absurd Y
+fma_parts f (fin s' M e) (fin t' N d) nan s t u m n p i j k l X Y Z = absurd Z
+fma_parts f (fin s' M e) (fin t' N d) (inf _) s t u m n p i j k l X Y Z = absurd Z
+fma_parts f (fin s' M e) (fin t' N d) (fin u' P g) s t u m n p i j k l X Y Z =
     ap₂ (λ (a b : Bool). sum f a (M * up e * (N * up d) * down g) b (P * up g * (down e * down d)) (down e * down d * down g)) (ap₂ unlike X.0 Y.0) Z.0
     ∙ sum_same f (unlike s t) (M * up e * (N * up d) * down g) u (P * up g * (down e * down d)) (down e * down d * down g) (m * n * 2 ^ (i + j)) (p * 2 ^ (k + l)) (2 ^ l * 2 ^ l)
     (mul-pos (mul-pos (down_pos e) (down_pos d)) (down_pos g)) (mul-pos (pow_pos l) (pow_pos l))

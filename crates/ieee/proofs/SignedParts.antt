@@ -12,13 +12,13 @@ use lib.Ieee.Scale.{round_same}
 
 -- ---- zero
 
-round-zero-one : (f : Format) (s : Bool) → round f s 0 1 ≡ fin s 0 (pos 0)
+round_zero_one : (f : Format) (s : Bool) → round f s 0 1 ≡ fin s 0 (pos 0)
 unfolding round
-round-zero-one binary32 s = refl
-round-zero-one binary64 s = refl
+round_zero_one binary32 s = refl
+round_zero_one binary64 s = refl
 
-pub round-zero : (f : Format) (s : Bool) (n d : ℕ) → 0 < d → n ≡ 0 → round f s n d ≡ fin s 0 (pos 0)
-round-zero f s n d h e = round_same f s n d 0 1 h (omega arith) (rw (e, zero-mul, zero-mul)) ∙ round-zero-one f s
+pub round_zero : (f : Format) (s : Bool) (n d : ℕ) → 0 < d → n ≡ 0 → round f s n d ≡ fin s 0 (pos 0)
+round_zero f s n d h e = round_same f s n d 0 1 h (omega arith) (rw (e, zero-mul, zero-mul)) ∙ round_zero_one f s
 
 -- ---- the part of ±a above zero and the part below: ±a is plus - minus
 
@@ -28,13 +28,13 @@ plus s a = cond s 0 a
 abbrev pub minus : Bool → ℕ → ℕ
 minus s a = cond s a 0
 
-pub plus-mul : (s : Bool) (a k : ℕ) → plus s (a * k) ≡ plus s a * k
-plus-mul true a k = sym (zero-mul k)
-plus-mul false a k = refl
+pub plus_mul : (s : Bool) (a k : ℕ) → plus s (a * k) ≡ plus s a * k
+plus_mul true a k = sym (zero-mul k)
+plus_mul false a k = refl
 
-pub minus-mul : (s : Bool) (a k : ℕ) → minus s (a * k) ≡ minus s a * k
-minus-mul true a k = refl
-minus-mul false a k = sym (zero-mul k)
+pub minus_mul : (s : Bool) (a k : ℕ) → minus s (a * k) ≡ minus s a * k
+minus_mul true a k = refl
+minus_mul false a k = sym (zero-mul k)
 
 -- ---- a sum of two fractions ±a / p and ±b / q
 

@@ -11,11 +11,11 @@ use lib.Pow.{pow_pos, pow_mono}
 use lib.Ieee.{Float, nan, inf, fin, Format, prec, emax, low, up, down, odd, fits}
 use lib.Ieee.Fits.{two, down_pos, odd-fits}
 use lib.Ieee.Exact.{odd_sign}
-use Rattle.lists.proofs.Naturals.{le-or-lt}
+use Rattle.lists.proofs.Naturals.{le_or_lt}
 use Rattle.ieee.specs.Rounding.{threshold, Number, Significand, Size, Signed, RoundTiesToEven}
-use Rattle.ieee.proofs.Meaning.{round-held}
+use Rattle.ieee.proofs.Meaning.{round_held}
 use Rattle.ieee.proofs.Ties.{half}
-use Rattle.ieee.proofs.Rounded.{round-ties, last, top-is, size_of, sign_of}
+use Rattle.ieee.proofs.Rounded.{round_ties, last, top_is, size_of, sign_of}
 
 -- ---- the significand of a float: a float that fits is its own rounding
 pub record Stored (f : Format) (r : Float) : Type 0 where
@@ -26,37 +26,37 @@ pub record Stored (f : Format) (r : Float) : Type 0 where
 
 pub stored : (f : Format) (s : Bool) (m : ℕ) (e : ℤ) → T (fits f (fin s m e)) → Stored f (fin s m e)
 stored f s m e h =
-    let r = subst (λ (x : Float). RoundTiesToEven f s (m * up e) (down e) x) (round-held f s m e h) (round-ties f s (m * up e) (down e) (down_pos e)) in
-    elim (le-or-lt (threshold f * down e) (m * up e * 2 ^ prec f)) [
-      | inl g ↦ absurd (no-inf (r.beyond g))
+    let r = subst (λ (x : Float). RoundTiesToEven f s (m * up e) (down e) x) (round_held f s m e h) (round_ties f s (m * up e) (down e) (down_pos e)) in
+    elim (le_or_lt (threshold f * down e) (m * up e * 2 ^ prec f)) [
+      | inl g ↦ absurd (no_inf (r.beyond g))
       | inr g ↦ let w = r.within g in record { c = w.c; k = w.k; significand = w.significand; size = w.size }
     ]
   where
-    no-inf : fin s m e ≡ inf s → ⊥
-    no-inf e = let z : ◌≡◌ {A = ℕ} 0 1 = cc in omega arith
+    no_inf : fin s m e ≡ inf s → ⊥
+    no_inf e = let z : ◌≡◌ {A = ℕ} 0 1 = cc in omega arith
 
 -- ---- the float of a number
-pub record Float-of (f : Format) (s : Bool) (a : ℕ) : Type 0 where
+pub record Float_of (f : Format) (s : Bool) (a : ℕ) : Type 0 where
   pub r : Float
   pub held : T (fits f r)
   pub sign : Signed r s
   pub size : Size f r a
 
-pub number-under : (f : Format) (c k : ℕ) → Number f c k → c * 2 ^ k < 2 ^ (low f + suc (emax f))
-number-under f c k u =
+pub number_under : (f : Format) (c k : ℕ) → Number f c k → c * 2 ^ k < 2 ^ (low f + suc (emax f))
+number_under f c k u =
     let l : k ≤ 2 * emax f - 1 = fewer k (2 * emax f) u.place in
-    lt_of_lt_of_le (mul-lt-mul_of_pos_right u.digits (pow_pos k)) (le_trans (mul-le-mul_left (2 ^ prec f) (pow_mono {i = k} {j = last f} l)) (le_of_eq (sym (top-is f))))
+    lt_of_lt_of_le (mul-lt-mul_of_pos_right u.digits (pow_pos k)) (le_trans (mul-le-mul_left (2 ^ prec f) (pow_mono {i = k} {j = last f} l)) (le_of_eq (sym (top_is f))))
   where
     fewer : (k m : ℕ) → k < m → k ≤ m - 1
     fewer k m h = omega arith
 
-pub float_of : (f : Format) (s : Bool) (c k : ℕ) → Number f c k → Float-of f s (c * 2 ^ k)
+pub float_of : (f : Format) (s : Bool) (c k : ℕ) → Number f c k → Float_of f s (c * 2 ^ k)
 float_of f s c k u =
     let r = odd (suc (prec f)) s c k (low f) in
     let v = odd_sign (suc (prec f)) s c k (low f) in
     record {
       r = r;
-      held = odd-fits f (suc (prec f)) s c k (lt_of_lt_of_le u.digits (pow_mono {i = prec f} {j = suc (prec f)} (omega arith))) (le_of_lt u.digits) (number-under f c k u);
+      held = odd-fits f (suc (prec f)) s c k (lt_of_lt_of_le u.digits (pow_mono {i = prec f} {j = suc (prec f)} (omega arith))) (le_of_lt u.digits) (number_under f c k u);
       sign = sign_of r s (c * 2 ^ k) (2 ^ low f) v;
       size = size_of f r s (c * 2 ^ k) v;
     }
@@ -72,7 +72,7 @@ canonical f y j u = let w = float_of f false y j u in go w.r w.held w.size
 
 -- ---- the smaller of two numbers has no larger exponent
 pub places : (f : Format) (c k y j : ℕ) → Significand f c k → Number f y j → c * 2 ^ k < y * 2 ^ j → k ≤ j
-places f c k y j u v h = elim (le-or-lt k j) [
+places f c k y j u v h = elim (le_or_lt k j) [
   | inl l ↦ l
   | inr l ↦ elim u.full [
     | inl z ↦ absurd (omega arith)

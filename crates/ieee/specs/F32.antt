@@ -5,7 +5,7 @@ use Rattle.std.specs.Float.{nan, inf, fin, binary32, binary64}
 use Rattle.std.specs.Float.Ieee.{of_bits, to_bits, to_signed, of_int, add, sub, mul, div, lt, le, eq}
 use Rattle.ieee.specs.Fused.{fma, convert}
 use Rattle.ieee.specs.Root.{sqrt}
-use Rattle.ieee.specs.Whole.{floor, roundEven}
+use Rattle.ieee.specs.Whole.{floor, round_even}
 
 infixl 6 ◌⊕◌ ◌⊖◌
 infixl 7 ◌⊗◌ ◌⊘◌
@@ -41,37 +41,37 @@ f32 b = of_bits binary32 b
 abbrev pub float : ℕ → Float
 float n = of_int binary32 (pos n)
 
-abbrev pub floatZ : ℤ → Float
-floatZ z = of_int binary32 z
+abbrev pub float_z : ℤ → Float
+float_z z = of_int binary32 z
 
 -- x * y + z, rounded once
 abbrev pub fused : Float → Float → Float → Float
 fused x y z = fma binary32 x y z
 
-abbrev pub rootOf : Float → Float
-rootOf x = sqrt binary32 x
+abbrev pub root_of : Float → Float
+root_of x = sqrt binary32 x
 
 -- an f64 as an f32, rounded once
 abbrev pub narrowed : Float → Float
 narrowed x = convert binary32 x
 
 -- toward minus infinity, and to the nearest whole number with ties to even
-abbrev pub floorOf : Float → Float
-floorOf x = floor binary32 x
+abbrev pub floor_of : Float → Float
+floor_of x = floor binary32 x
 
 abbrev pub rounded : Float → Float
-rounded x = roundEven binary32 x
+rounded x = round_even binary32 x
 
 -- Rust's `as i32`: toward zero, stopped at the ends of the range, and 0 for a not-a-number
-abbrev pub toI32 : Float → ℤ
-toI32 x = to_signed 31 x
+abbrev pub to_i32 : Float → ℤ
+to_i32 x = to_signed 31 x
 
 -- the bits of a float, 2143289344 for a not-a-number
 abbrev pub bits_of : Float → ℕ
 bits_of x = to_bits binary32 x
 
 -- the absolute value, which clears the sign of a zero too
-unfoldable pub absOf : Float → Float
-absOf nan = nan
-absOf (inf s) = inf false
-absOf (fin s m e) = fin false m e
+unfoldable pub abs_of : Float → Float
+abs_of nan = nan
+abs_of (inf s) = inf false
+abs_of (fin s m e) = fin false m e

@@ -16,16 +16,16 @@ abbrev pub one : Float
 one = f32 0x3f80_0000
 
 -- -1
-abbrev pub minusOne : Float
-minusOne = f32 0xbf80_0000
+abbrev pub minus_one : Float
+minus_one = f32 0xbf80_0000
 
 -- 1.41421354, the square root of 2
 abbrev pub root2 : Float
 root2 = f32 0x3fb5_04f3
 
 -- 1.5
-abbrev pub threeHalves : Float
-threeHalves = f32 0x3fc0_0000
+abbrev pub three_halves : Float
+three_halves = f32 0x3fc0_0000
 
 -- 2
 abbrev pub two : Float
@@ -48,28 +48,28 @@ abbrev pub ten : Float
 ten = f32 0x4120_0000
 
 -- 45, an eighth of a turn in degrees
-abbrev pub eighthTurn : Float
-eighthTurn = f32 0x4234_0000
+abbrev pub eighth_turn : Float
+eighth_turn = f32 0x4234_0000
 
 -- 90, a quarter
-abbrev pub quarterTurn : Float
-quarterTurn = f32 0x42b4_0000
+abbrev pub quarter_turn : Float
+quarter_turn = f32 0x42b4_0000
 
 -- 180, half a turn
-abbrev pub halfTurn : Float
-halfTurn = f32 0x4334_0000
+abbrev pub half_turn : Float
+half_turn = f32 0x4334_0000
 
 -- 255, the largest byte
-abbrev pub topByte : Float
-topByte = f32 0x437f_0000
+abbrev pub top_byte : Float
+top_byte = f32 0x437f_0000
 
 -- 270, three quarters of a turn
-abbrev pub threeQuarterTurn : Float
-threeQuarterTurn = f32 0x4387_0000
+abbrev pub three_quarter_turn : Float
+three_quarter_turn = f32 0x4387_0000
 
 -- 360, a whole turn in degrees
-abbrev pub wholeTurn : Float
-wholeTurn = f32 0x43b4_0000
+abbrev pub whole_turn : Float
+whole_turn = f32 0x43b4_0000
 
 -- 2 ^ -23, how far the next f32 above 1 lies from it
 abbrev pub epsilon : Float

@@ -12,7 +12,7 @@ signed_of s n = cond s (neg_ℤ (pos n)) (pos n)
 -- ---- r is a / i + b / j, rounded, by whatever fraction ±n / d that is written: the denominators are multiplied out. Where it is zero, r is the zero of the sign o
 pub record RoundedSum (f : Format) (a : ℤ) (i : ℕ) (b : ℤ) (j : ℕ) (o : Bool) (r : Float) : Type 0 where
   pub rounded : (s : Bool) (n d : ℕ) → 0 < n → 0 < d → signed_of s n *ℤ pos (i * j) ≡ (a *ℤ pos j +ℤ b *ℤ pos i) *ℤ pos d → RoundTiesToEven f s n d r
-  pub exact-zero : a *ℤ pos j +ℤ b *ℤ pos i ≡ pos 0 → r ≡ fin o 0 (pos 0)
+  pub exact_zero : a *ℤ pos j +ℤ b *ℤ pos i ≡ pos 0 → r ≡ fin o 0 (pos 0)
 
 -- ---- r is x + y. An exact zero is -0 where both have the sign minus, and +0 otherwise
 abbrev pub IsSum : Format → Float → Float → Float → Type 0

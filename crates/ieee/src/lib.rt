@@ -7,7 +7,7 @@ ghost use Rattle.std.specs.Prelude.{◌≡◌};
 ghost use Rattle.std.specs.Float.{binary64};
 ghost use Rattle.std.specs.Float.Ieee.{of_bits};
 ghost use Rattle.std.specs.Float.Ieee.Scale.{finite};
-ghost use Rattle.ieee.specs.F32.{f32, bits_of, absOf};
+ghost use Rattle.ieee.specs.F32.{f32, bits_of, abs_of};
 
 // Neither an infinity nor a NaN (IEEE 754-2019, 5.7.2).
 pub fn is_finite(v: f32) -> bool
@@ -48,7 +48,7 @@ pub fn of_bits64(b: u64) -> f64
 
 // The absolute value (IEEE 754-2019, 5.5.1): the sign bit cleared, a zero's too. A NaN stays one.
 pub fn abs(x: f32) -> f32
-    ensures { result ≡ absOf x }
+    ensures { result ≡ abs_of x }
 {
     if x != x {
         x

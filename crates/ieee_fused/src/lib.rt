@@ -11,7 +11,7 @@ ghost use Rattle.std.specs.Float.Ieee.Scale.{finite};
 ghost use Rattle.ieee.specs.Operations.{IsFma, IsConverted};
 ghost use Rattle.ieee.specs.F32.{fused, narrowed};
 ghost use Rattle.ieee.specs.Fused.{fma, convert};
-ghost use Rattle.ieee.specs.Parts.{RoundsOnce, narrowBits, FusedWide};
+ghost use Rattle.ieee.specs.Parts.{RoundsOnce, narrow_bits, FusedWide};
 
 // Neither an infinity nor a NaN, of an f64.
 fn is_finite64(v: f64) -> bool
@@ -42,7 +42,7 @@ fn rounds_once(n: u64) -> bool
 // unit added, and 29 digits dropped. A carry goes into the exponent by itself.
 pub fn narrow_bits(n: u64) -> u32
     requires { RoundsOnce n }
-    ensures { result ≡ narrowBits n }
+    ensures { result ≡ narrow_bits n }
 {
     ((n % 0x8000_0000_0000_0000 - 0x3800_0000_0000_0000 + 0x1000_0000) / 0x2000_0000) as u32
 }

@@ -7,10 +7,10 @@ use lib.Ieee.{Float, nan, inf, fin, Format, prec, emax, low, up, down, odd, unit
 use lib.Ieee.Fits.{down_pos}
 use lib.Ieee.Bits.{is_true}
 use lib.Ieee.Order.{round_mono}
-use Rattle.lists.proofs.Bools.{and_left, and_right, both-and, or_right, or_cases}
+use Rattle.lists.proofs.Bools.{and_left, and_right, both_and, or_right, or_cases}
 use Rattle.ieee_laws.specs.Sign.{turned}
-use Rattle.ieee.proofs.SignedParts.{round-zero, plus, minus, plus-mul, minus-mul}
-use Rattle.ieee_laws.proofs.Turned.{round-turned, le-turned, neg-opp}
+use Rattle.ieee.proofs.SignedParts.{round_zero, plus, minus, plus_mul, minus_mul}
+use Rattle.ieee_laws.proofs.Turned.{round_turned, le_turned, neg_opp}
 
 -- ±a / c ≤ ±b / d, and ±a / c < ±b / d, with the denominators multiplied out
 pub record Leq (s : Bool) (a c : ℕ) (t : Bool) (b d : ℕ) : Type 0 where
@@ -21,14 +21,14 @@ pub record Less (s : Bool) (a c : ℕ) (t : Bool) (b d : ℕ) : Type 0 where
 
 -- ---- the tests of `lib.Ieee` are this order
 
-test-le : (s t : Bool) (x y : ℕ) → (below s x t y || level s x t y) ≡ true → plus s x + minus t y ≤ plus t y + minus s x
-test-le false false x y h = ⊎_elim (λ l. let k = ltb-true x y l in omega arith) (λ l. let k = eqb-true x y (and_left (eqb x y) true l) in omega arith) (or_cases (ltb x y) (eqb x y && true) h)
-test-le false true x y h =
+test_le : (s t : Bool) (x y : ℕ) → (below s x t y || level s x t y) ≡ true → plus s x + minus t y ≤ plus t y + minus s x
+test_le false false x y h = ⊎_elim (λ l. let k = ltb-true x y l in omega arith) (λ l. let k = eqb-true x y (and_left (eqb x y) true l) in omega arith) (or_cases (ltb x y) (eqb x y && true) h)
+test_le false true x y h =
     let k = eqb-true x y (and_left (eqb x y) (eqb x 0) h) in
     let l = eqb-true x 0 (and_right (eqb x y) (eqb x 0) h) in
     omega arith
-test-le true false x y h = omega arith
-test-le true true x y h = ⊎_elim (λ l. let k = ltb-true y x l in omega arith) (λ l. let k = eqb-true x y (and_left (eqb x y) true l) in omega arith) (or_cases (ltb y x) (eqb x y && true) h)
+test_le true false x y h = omega arith
+test_le true true x y h = ⊎_elim (λ l. let k = ltb-true y x l in omega arith) (λ l. let k = eqb-true x y (and_left (eqb x y) true l) in omega arith) (or_cases (ltb y x) (eqb x y && true) h)
 
 or_left : (a b : Bool) → a ≡ true → (a || b) ≡ true
 or_left true b h = refl
@@ -39,10 +39,10 @@ least x y h = go (ltb x y) refl
   where
     go : (b : Bool) → ltb x y ≡ b → (ltb x y || (eqb x y && true)) ≡ true
     go true e = or_left (ltb x y) (eqb x y && true) e
-    go false e = let k = ltb-false x y e in or_right (ltb x y) (eqb x y && true) (both-and (eqb x y) true (eq-eqb x y (omega arith)) refl)
+    go false e = let k = ltb-false x y e in or_right (ltb x y) (eqb x y && true) (both_and (eqb x y) true (eq-eqb x y (omega arith)) refl)
 
-eqb-turn : (x y : ℕ) → eqb x y ≡ eqb y x
-eqb-turn x y = go (eqb y x) refl
+eqb_turn : (x y : ℕ) → eqb x y ≡ eqb y x
+eqb_turn x y = go (eqb y x) refl
   where
     go : (b : Bool) → eqb y x ≡ b → eqb x y ≡ eqb y x
     go true e = eq-eqb x y (sym (eqb-true y x e)) ∙ sym e
@@ -50,19 +50,19 @@ eqb-turn x y = go (eqb y x) refl
 
 le_test : (s t : Bool) (x y : ℕ) → plus s x + minus t y ≤ plus t y + minus s x → (below s x t y || level s x t y) ≡ true
 le_test false false x y h = least x y (omega arith)
-le_test false true x y h = both-and (eqb x y) (eqb x 0) (eq-eqb x y (omega arith)) (eq-eqb x 0 (omega arith))
+le_test false true x y h = both_and (eqb x y) (eqb x 0) (eq-eqb x y (omega arith)) (eq-eqb x 0 (omega arith))
 le_test true false x y h = go (eq-zero-or-pos (x + y))
   where
     go : ((x + y) ≡ 0) ⊎ (0 < x + y) → (ltb 0 (x + y) || (eqb x y && (false || eqb x 0))) ≡ true
-    go (inl z) = or_right (ltb 0 (x + y)) (eqb x y && eqb x 0) (both-and (eqb x y) (eqb x 0) (eq-eqb x y (omega arith)) (eq-eqb x 0 (omega arith)))
+    go (inl z) = or_right (ltb 0 (x + y)) (eqb x y && eqb x 0) (both_and (eqb x y) (eqb x 0) (eq-eqb x y (omega arith)) (eq-eqb x 0 (omega arith)))
     go (inr p) = or_left (ltb 0 (x + y)) (eqb x y && eqb x 0) (lt-ltb 0 (x + y) p)
-le_test true true x y h = rw (eqb-turn x y) (least y x (omega arith))
+le_test true true x y h = rw (eqb_turn x y) (least y x (omega arith))
 
-test-lt : (s t : Bool) (x y : ℕ) → below s x t y ≡ true → plus s x + minus t y < plus t y + minus s x
-test-lt false false x y h = let k = ltb-true x y h in omega arith
-test-lt false true x y h = absurd (false≢true h)
-test-lt true false x y h = let k = ltb-true 0 (x + y) h in omega arith
-test-lt true true x y h = let k = ltb-true y x h in omega arith
+test_lt : (s t : Bool) (x y : ℕ) → below s x t y ≡ true → plus s x + minus t y < plus t y + minus s x
+test_lt false false x y h = let k = ltb-true x y h in omega arith
+test_lt false true x y h = absurd (false≢true h)
+test_lt true false x y h = let k = ltb-true 0 (x + y) h in omega arith
+test_lt true true x y h = let k = ltb-true y x h in omega arith
 
 lt_test : (s t : Bool) (x y : ℕ) → plus s x + minus t y < plus t y + minus s x → below s x t y ≡ true
 lt_test false false x y h = lt-ltb x y (omega arith)
@@ -70,27 +70,27 @@ lt_test false true x y h = absurd (omega arith)
 lt_test true false x y h = lt-ltb 0 (x + y) (omega arith)
 lt_test true true x y h = lt-ltb y x (omega arith)
 
-pub le-fin : (s : Bool) (m : ℕ) (e : ℤ) (t : Bool) (n : ℕ) (d : ℤ) → le (fin s m e) (fin t n d) ≡ true → Leq s (m * up e) (down e) t (n * up d) (down d)
+pub le_fin : (s : Bool) (m : ℕ) (e : ℤ) (t : Bool) (n : ℕ) (d : ℤ) → le (fin s m e) (fin t n d) ≡ true → Leq s (m * up e) (down e) t (n * up d) (down d)
 unfolding le
-le-fin s m e t n d h =
-    record { cross = rw (← plus-mul s (m * up e) (down d), ← minus-mul t (n * up d) (down e), ← plus-mul t (n * up d) (down e), ← minus-mul s (m * up e) (down d)) (test-le s t (m * up e * down d) (n * up d * down e) h) }
+le_fin s m e t n d h =
+    record { cross = rw (← plus_mul s (m * up e) (down d), ← minus_mul t (n * up d) (down e), ← plus_mul t (n * up d) (down e), ← minus_mul s (m * up e) (down d)) (test_le s t (m * up e * down d) (n * up d * down e) h) }
 
-pub fin-le : (s : Bool) (m : ℕ) (e : ℤ) (t : Bool) (n : ℕ) (d : ℤ) → Leq s (m * up e) (down e) t (n * up d) (down d) → le (fin s m e) (fin t n d) ≡ true
+pub fin_le : (s : Bool) (m : ℕ) (e : ℤ) (t : Bool) (n : ℕ) (d : ℤ) → Leq s (m * up e) (down e) t (n * up d) (down d) → le (fin s m e) (fin t n d) ≡ true
 unfolding le
-fin-le s m e t n d h =
+fin_le s m e t n d h =
     le_test s t (m * up e * down d) (n * up d * down e)
-    (rw (plus-mul s (m * up e) (down d), minus-mul t (n * up d) (down e), plus-mul t (n * up d) (down e), minus-mul s (m * up e) (down d)) h.cross)
+    (rw (plus_mul s (m * up e) (down d), minus_mul t (n * up d) (down e), plus_mul t (n * up d) (down e), minus_mul s (m * up e) (down d)) h.cross)
 
-pub lt-fin : (s : Bool) (m : ℕ) (e : ℤ) (t : Bool) (n : ℕ) (d : ℤ) → lt (fin s m e) (fin t n d) ≡ true → Less s (m * up e) (down e) t (n * up d) (down d)
+pub lt_fin : (s : Bool) (m : ℕ) (e : ℤ) (t : Bool) (n : ℕ) (d : ℤ) → lt (fin s m e) (fin t n d) ≡ true → Less s (m * up e) (down e) t (n * up d) (down d)
 unfolding lt
-lt-fin s m e t n d h =
-    record { cross = rw (← plus-mul s (m * up e) (down d), ← minus-mul t (n * up d) (down e), ← plus-mul t (n * up d) (down e), ← minus-mul s (m * up e) (down d)) (test-lt s t (m * up e * down d) (n * up d * down e) h) }
+lt_fin s m e t n d h =
+    record { cross = rw (← plus_mul s (m * up e) (down d), ← minus_mul t (n * up d) (down e), ← plus_mul t (n * up d) (down e), ← minus_mul s (m * up e) (down d)) (test_lt s t (m * up e * down d) (n * up d * down e) h) }
 
-pub fin-lt : (s : Bool) (m : ℕ) (e : ℤ) (t : Bool) (n : ℕ) (d : ℤ) → Less s (m * up e) (down e) t (n * up d) (down d) → lt (fin s m e) (fin t n d) ≡ true
+pub fin_lt : (s : Bool) (m : ℕ) (e : ℤ) (t : Bool) (n : ℕ) (d : ℤ) → Less s (m * up e) (down e) t (n * up d) (down d) → lt (fin s m e) (fin t n d) ≡ true
 unfolding lt
-fin-lt s m e t n d h =
+fin_lt s m e t n d h =
     lt_test s t (m * up e * down d) (n * up d * down e)
-    (rw (plus-mul s (m * up e) (down d), minus-mul t (n * up d) (down e), plus-mul t (n * up d) (down e), minus-mul s (m * up e) (down d)) h.cross)
+    (rw (plus_mul s (m * up e) (down d), minus_mul t (n * up d) (down e), plus_mul t (n * up d) (down e), minus_mul s (m * up e) (down d)) h.cross)
 
 -- ---- transitive, and total but for a not-a-number
 
@@ -101,8 +101,8 @@ scaled : (X X' B B' p q r : ℕ) → Cross X X' p B B' q → X * q * r + B' * p 
 scaled X X' B B' p q r h = le_trans (le_of_eq (sym (add-mul (X * q) (B' * p) r))) (le_trans (mul-le-mul_right r h) (le_of_eq (add-mul (B * p) (X' * q) r)))
 
 -- the numbers are X - X' over p, B - B' over q, C - C' over r
-cross-trans : (X X' B B' C C' p q r : ℕ) → 0 < q → Cross X X' p B B' q → Cross B B' q C C' r → Cross X X' p C C' r
-cross-trans X X' B B' C C' p q r Q h k =
+cross_trans : (X X' B B' C C' p q r : ℕ) → 0 < q → Cross X X' p B B' q → Cross B B' q C C' r → Cross X X' p C C' r
+cross_trans X X' B B' C C' p q r Q h k =
     let u = scaled X X' B B' p q r h in
     let v = scaled B B' C C' q r p k in
     let w : (X * r + C' * p) * q ≤ (C * p + X' * r) * q =
@@ -110,48 +110,48 @@ cross-trans X X' B B' C C' p q r Q h k =
     (omega (arith, mul_right_comm X q r, mul_right_comm X' q r, mul_right_comm B r p, mul_right_comm B' r p, mul_right_comm C q p, mul_right_comm C' q p)) in
     le_of_mul-le-mul_right w Q
 
-pub le-trans-float : (x y z : Float) → le x y ≡ true → le y z ≡ true → le x z ≡ true
+pub le_trans_float : (x y z : Float) → le x y ≡ true → le y z ≡ true → le x z ≡ true
 unfolding le
-le-trans-float nan y z h k = absurd (false≢true h)
-le-trans-float (inf false) nan z h k = absurd (false≢true h)
-le-trans-float (inf false) (inf true) z h k = absurd (false≢true h)
-le-trans-float (inf false) (inf false) z h k = k
-le-trans-float (inf false) (fin t n d) z h k = absurd (false≢true h)
-le-trans-float (inf true) y (inf true) h k = refl
-le-trans-float (inf true) y (inf false) h k = refl
-le-trans-float (inf true) y (fin u o g) h k = refl
-le-trans-float (inf true) nan nan h k = k
-le-trans-float (inf true) (inf t) nan h k = k
-le-trans-float (inf true) (fin t n d) nan h k = k
-le-trans-float (fin s m e) nan z h k = absurd (false≢true h)
-le-trans-float (fin s m e) (inf true) z h k = absurd (false≢true h)
-le-trans-float (fin s m e) (inf false) nan h k = k
-le-trans-float (fin s m e) (inf false) (inf true) h k = k
-le-trans-float (fin s m e) (inf false) (inf false) h k = refl
-le-trans-float (fin s m e) (inf false) (fin u o g) h k = absurd (false≢true k)
-le-trans-float (fin s m e) (fin t n d) nan h k = k
-le-trans-float (fin s m e) (fin t n d) (inf true) h k = k
-le-trans-float (fin s m e) (fin t n d) (inf false) h k = refl
-le-trans-float (fin s m e) (fin t n d) (fin u o g) h k =
-    fin-le s m e u o g
+le_trans_float nan y z h k = absurd (false≢true h)
+le_trans_float (inf false) nan z h k = absurd (false≢true h)
+le_trans_float (inf false) (inf true) z h k = absurd (false≢true h)
+le_trans_float (inf false) (inf false) z h k = k
+le_trans_float (inf false) (fin t n d) z h k = absurd (false≢true h)
+le_trans_float (inf true) y (inf true) h k = refl
+le_trans_float (inf true) y (inf false) h k = refl
+le_trans_float (inf true) y (fin u o g) h k = refl
+le_trans_float (inf true) nan nan h k = k
+le_trans_float (inf true) (inf t) nan h k = k
+le_trans_float (inf true) (fin t n d) nan h k = k
+le_trans_float (fin s m e) nan z h k = absurd (false≢true h)
+le_trans_float (fin s m e) (inf true) z h k = absurd (false≢true h)
+le_trans_float (fin s m e) (inf false) nan h k = k
+le_trans_float (fin s m e) (inf false) (inf true) h k = k
+le_trans_float (fin s m e) (inf false) (inf false) h k = refl
+le_trans_float (fin s m e) (inf false) (fin u o g) h k = absurd (false≢true k)
+le_trans_float (fin s m e) (fin t n d) nan h k = k
+le_trans_float (fin s m e) (fin t n d) (inf true) h k = k
+le_trans_float (fin s m e) (fin t n d) (inf false) h k = refl
+le_trans_float (fin s m e) (fin t n d) (fin u o g) h k =
+    fin_le s m e u o g
     (record {
-      cross = cross-trans (plus s (m * up e)) (minus s (m * up e)) (plus t (n * up d)) (minus t (n * up d)) (plus u (o * up g)) (minus u (o * up g)) (down e) (down d) (down g) (down_pos d)
-          (le-fin s m e t n d h).cross (le-fin t n d u o g k).cross;
+      cross = cross_trans (plus s (m * up e)) (minus s (m * up e)) (plus t (n * up d)) (minus t (n * up d)) (plus u (o * up g)) (minus u (o * up g)) (down e) (down d) (down g) (down_pos d)
+          (le_fin s m e t n d h).cross (le_fin t n d u o g k).cross;
     })
 
-pub lt-le : (x y : Float) → lt x y ≡ true → le x y ≡ true
+pub lt_le : (x y : Float) → lt x y ≡ true → le x y ≡ true
 unfolding le
-lt-le x y h = or_left (lt x y) (eq x y) h
+lt_le x y h = or_left (lt x y) (eq x y) h
 
-pub le-refl-float : (x : Float) → T (not (is_nan x)) → le x x ≡ true
+pub le_refl_float : (x : Float) → T (not (is_nan x)) → le x x ≡ true
 unfolding le is_nan
-le-refl-float nan h = absurd h
-le-refl-float (inf true) h = refl
-le-refl-float (inf false) h = refl
-le-refl-float (fin s m e) h = fin-le s m e s m e (record { cross = omega arith })
+le_refl_float nan h = absurd h
+le_refl_float (inf true) h = refl
+le_refl_float (inf false) h = refl
+le_refl_float (fin s m e) h = fin_le s m e s m e (record { cross = omega arith })
 
-less-not : (s : Bool) (a c : ℕ) (t : Bool) (b d : ℕ) → (Leq s a c t b d → ⊥) → Less t b d s a c
-less-not s a c t b d h = ⊎_elim (λ l. absurd (h (record { cross = l }))) (λ l. record { cross = l }) (split (plus s a * d + minus t b * c) (plus t b * c + minus s a * d))
+less_not : (s : Bool) (a c : ℕ) (t : Bool) (b d : ℕ) → (Leq s a c t b d → ⊥) → Less t b d s a c
+less_not s a c t b d h = ⊎_elim (λ l. absurd (h (record { cross = l }))) (λ l. record { cross = l }) (split (plus s a * d + minus t b * c) (plus t b * c + minus s a * d))
   where
     split : (x y : ℕ) → (x ≤ y) ⊎ (y < x)
     split x y = go (ltb y x) refl
@@ -161,36 +161,36 @@ less-not s a c t b d h = ⊎_elim (λ l. absurd (h (record { cross = l }))) (λ 
         go false e = inl (ltb-false y x e)
 
 -- what is not at most y is above y
-pub le-or-lt-float : (x y : Float) → T (not (is_nan x)) → T (not (is_nan y)) → (le x y ≡ true) ⊎ (lt y x ≡ true)
+pub le_or_lt_float : (x y : Float) → T (not (is_nan x)) → T (not (is_nan y)) → (le x y ≡ true) ⊎ (lt y x ≡ true)
 unfolding le is_nan
-le-or-lt-float nan y h k = absurd h
-le-or-lt-float (inf s) nan h k = absurd k
-le-or-lt-float (inf true) (inf true) h k = inl refl
-le-or-lt-float (inf true) (inf false) h k = inl refl
-le-or-lt-float (inf false) (inf true) h k = inr refl
-le-or-lt-float (inf false) (inf false) h k = inl refl
-le-or-lt-float (inf true) (fin t n d) h k = inl refl
-le-or-lt-float (inf false) (fin t n d) h k = inr refl
-le-or-lt-float (fin s m e) nan h k = absurd k
-le-or-lt-float (fin s m e) (inf true) h k = inr refl
-le-or-lt-float (fin s m e) (inf false) h k = inl refl
-le-or-lt-float (fin s m e) (fin t n d) h k = go (le (fin s m e) (fin t n d)) refl
+le_or_lt_float nan y h k = absurd h
+le_or_lt_float (inf s) nan h k = absurd k
+le_or_lt_float (inf true) (inf true) h k = inl refl
+le_or_lt_float (inf true) (inf false) h k = inl refl
+le_or_lt_float (inf false) (inf true) h k = inr refl
+le_or_lt_float (inf false) (inf false) h k = inl refl
+le_or_lt_float (inf true) (fin t n d) h k = inl refl
+le_or_lt_float (inf false) (fin t n d) h k = inr refl
+le_or_lt_float (fin s m e) nan h k = absurd k
+le_or_lt_float (fin s m e) (inf true) h k = inr refl
+le_or_lt_float (fin s m e) (inf false) h k = inl refl
+le_or_lt_float (fin s m e) (fin t n d) h k = go (le (fin s m e) (fin t n d)) refl
   where
     go : (b : Bool) → le (fin s m e) (fin t n d) ≡ b → (le (fin s m e) (fin t n d) ≡ true) ⊎ (lt (fin t n d) (fin s m e) ≡ true)
     go true q = inl q
-    go false q = inr (fin-lt t n d s m e (less-not s (m * up e) (down e) t (n * up d) (down d) (λ l. true≢false (sym (fin-le s m e t n d l) ∙ q))))
+    go false q = inr (fin_lt t n d s m e (less_not s (m * up e) (down e) t (n * up d) (down d) (λ l. true≢false (sym (fin_le s m e t n d l) ∙ q))))
 
 -- ---- what a comparison that holds tells
 
-pub le-number : (x y : Float) → le x y ≡ true → T (not (is_nan x)) × T (not (is_nan y))
+pub le_number : (x y : Float) → le x y ≡ true → T (not (is_nan x)) × T (not (is_nan y))
 unfolding le is_nan
-le-number nan y h = absurd (false≢true h)
-le-number (inf s) nan h = absurd (false≢true h)
-le-number (inf s) (inf t) h = (tt, tt)
-le-number (inf s) (fin t n d) h = (tt, tt)
-le-number (fin s m e) nan h = absurd (false≢true h)
-le-number (fin s m e) (inf t) h = (tt, tt)
-le-number (fin s m e) (fin t n d) h = (tt, tt)
+le_number nan y h = absurd (false≢true h)
+le_number (inf s) nan h = absurd (false≢true h)
+le_number (inf s) (inf t) h = (tt, tt)
+le_number (inf s) (fin t n d) h = (tt, tt)
+le_number (fin s m e) nan h = absurd (false≢true h)
+le_number (fin s m e) (inf t) h = (tt, tt)
+le_number (fin s m e) (fin t n d) h = (tt, tt)
 
 pub lt_not_le : (x y : Float) → lt x y ≡ true → le y x ≡ true → ⊥
 unfolding le
@@ -206,22 +206,22 @@ lt_not_le (fin s m e) nan h k = false≢true h
 lt_not_le (fin s m e) (inf true) h k = false≢true h
 lt_not_le (fin s m e) (inf false) h k = false≢true k
 lt_not_le (fin s m e) (fin t n d) h k =
-    let u = (lt-fin s m e t n d h).cross in
-    let v = (le-fin t n d s m e k).cross in
+    let u = (lt_fin s m e t n d h).cross in
+    let v = (le_fin t n d s m e k).cross in
     omega arith
 
-pub lt-le-trans : (x y z : Float) → lt x y ≡ true → le y z ≡ true → lt x z ≡ true
-lt-le-trans x y z h k =
-    ⊎_elim (λ l. absurd (lt_not_le x y h (le-trans-float y z x k l))) (λ l. l)
-    (le-or-lt-float z x (le-number y z k).1 (le-number x y (lt-le x y h)).0)
+pub lt_le_trans : (x y z : Float) → lt x y ≡ true → le y z ≡ true → lt x z ≡ true
+lt_le_trans x y z h k =
+    ⊎_elim (λ l. absurd (lt_not_le x y h (le_trans_float y z x k l))) (λ l. l)
+    (le_or_lt_float z x (le_number y z k).1 (le_number x y (lt_le x y h)).0)
 
 pub le_lt_trans : (x y z : Float) → le x y ≡ true → lt y z ≡ true → lt x z ≡ true
 le_lt_trans x y z h k =
-    ⊎_elim (λ l. absurd (lt_not_le y z k (le-trans-float z x y l h))) (λ l. l)
-    (le-or-lt-float z x (le-number y z (lt-le y z k)).1 (le-number x y h).0)
+    ⊎_elim (λ l. absurd (lt_not_le y z k (le_trans_float z x y l h))) (λ l. l)
+    (le_or_lt_float z x (le_number y z (lt_le y z k)).1 (le_number x y h).0)
 
-pub neg-le : (x y : Float) → le x y ≡ true → le (neg y) (neg x) ≡ true
-neg-le x y h = le-turned (neg-opp y) (neg-opp x) ∙ h
+pub neg_le : (x y : Float) → le x y ≡ true → le (neg y) (neg x) ≡ true
+neg_le x y h = le_turned (neg_opp y) (neg_opp x) ∙ h
 
 -- ---- rounding keeps the order
 
@@ -230,51 +230,51 @@ pub data Marked (s : Bool) : Float → Type 0 where
   endless : Marked s (inf s)
   ended : {m : ℕ} {e : ℤ} → Marked s (fin s m e)
 
-marked-cond : {s : Bool} (b : Bool) {x y : Float} → Marked s x → Marked s y → Marked s (cond b x y)
-marked-cond true p q = p
-marked-cond false p q = q
+marked_cond : {s : Bool} (b : Bool) {x y : Float} → Marked s x → Marked s y → Marked s (cond b x y)
+marked_cond true p q = p
+marked_cond false p q = q
 
-odd-marked : (d : ℕ) (s : Bool) (q k l : ℕ) → Marked s (odd d s q k l)
+odd_marked : (d : ℕ) (s : Bool) (q k l : ℕ) → Marked s (odd d s q k l)
 unfolding odd
-odd-marked d s zero k l = ended
-odd-marked d s (suc q) k l = ended
+odd_marked d s zero k l = ended
+odd_marked d s (suc q) k l = ended
 
-units-marked : (f : Format) (s : Bool) (q k : ℕ) → Marked s (units f s q k)
+units_marked : (f : Format) (s : Bool) (q k : ℕ) → Marked s (units f s q k)
 unfolding units
-units-marked f s q k = marked-cond (ltb (q * 2 ^ k) (2 ^ (low f + suc (emax f)))) (odd-marked (suc (prec f)) s q k (low f)) endless
+units_marked f s q k = marked_cond (ltb (q * 2 ^ k) (2 ^ (low f + suc (emax f)))) (odd_marked (suc (prec f)) s q k (low f)) endless
 
-pub round-marked : (f : Format) (s : Bool) (a c : ℕ) → Marked s (round f s a c)
+pub round_marked : (f : Format) (s : Bool) (a c : ℕ) → Marked s (round f s a c)
 unfolding round
-round-marked f s a c = units-marked f s _ _
+round_marked f s a c = units_marked f s _ _
 
-pub marked-number : {s : Bool} {x : Float} → Marked s x → T (not (is_nan x))
+pub marked_number : {s : Bool} {x : Float} → Marked s x → T (not (is_nan x))
 unfolding is_nan
-marked-number endless = tt
-marked-number ended = tt
+marked_number endless = tt
+marked_number ended = tt
 
-pub marked-le : {x y : Float} → Marked true x → Marked false y → le x y ≡ true
+pub marked_le : {x y : Float} → Marked true x → Marked false y → le x y ≡ true
 unfolding le
-marked-le endless endless = refl
-marked-le endless ended = refl
-marked-le ended endless = refl
-marked-le (ended {m = m} {e = e}) (ended {m = n} {e = d}) = le_test true false (m * up e * down d) (n * up d * down e) (omega arith)
+marked_le endless endless = refl
+marked_le endless ended = refl
+marked_le ended endless = refl
+marked_le (ended {m = m} {e = e}) (ended {m = n} {e = d}) = le_test true false (m * up e * down d) (n * up d * down e) (omega arith)
 
-zeros-le : le (fin false 0 (pos 0)) (fin true 0 (pos 0)) ≡ true
+zeros_le : le (fin false 0 (pos 0)) (fin true 0 (pos 0)) ≡ true
 unfolding le
-zeros-le = refl
+zeros_le = refl
 
-no-product : (a d : ℕ) → 0 < d → a * d ≡ 0 → a ≡ 0
-no-product a d h e = ⊎_elim (λ z. z) (λ p. let q = mul-pos p h in absurd (omega arith)) (eq-zero-or-pos a)
+no_product : (a d : ℕ) → 0 < d → a * d ≡ 0 → a ≡ 0
+no_product a d h e = ⊎_elim (λ z. z) (λ p. let q = mul-pos p h in absurd (omega arith)) (eq-zero-or-pos a)
 
-pub round-le : (f : Format) (s : Bool) (a c : ℕ) (t : Bool) (b d : ℕ) → 0 < c → 0 < d → Leq s a c t b d → le (round f s a c) (round f t b d) ≡ true
-round-le f false a c false b d C D h =
+pub round_le : (f : Format) (s : Bool) (a c : ℕ) (t : Bool) (b d : ℕ) → 0 < c → 0 < d → Leq s a c t b d → le (round f s a c) (round f t b d) ≡ true
+round_le f false a c false b d C D h =
     is_true (le (round f false a c) (round f false b d)) (round_mono f a c b d C D (let l = h.cross in omega (arith, zero-mul c, zero-mul d)))
-round-le f true a c true b d C D h =
-    le-turned {b = true} (round-turned f false true a c C (turned refl)) (round-turned f false true b d D (turned refl))
+round_le f true a c true b d C D h =
+    le_turned {b = true} (round_turned f false true a c C (turned refl)) (round_turned f false true b d D (turned refl))
     ∙ is_true (le (round f false b d) (round f false a c)) (round_mono f b d a c D C (let l = h.cross in omega (arith, zero-mul c, zero-mul d)))
-round-le f true a c false b d C D h = marked-le (round-marked f true a c) (round-marked f false b d)
-round-le f false a c true b d C D h =
+round_le f true a c false b d C D h = marked_le (round_marked f true a c) (round_marked f false b d)
+round_le f false a c true b d C D h =
     let l = h.cross in
-    let A : a ≡ 0 = no-product a d D (omega (arith, zero-mul c, zero-mul d)) in
-    let B : b ≡ 0 = no-product b c C (omega (arith, zero-mul c, zero-mul d)) in
-    rw (round-zero f false a c C A, round-zero f true b d D B) zeros-le
+    let A : a ≡ 0 = no_product a d D (omega (arith, zero-mul c, zero-mul d)) in
+    let B : b ≡ 0 = no_product b c C (omega (arith, zero-mul c, zero-mul d)) in
+    rw (round_zero f false a c C A, round_zero f true b d D B) zeros_le

@@ -20,9 +20,9 @@ pub record Exact (f : Format) : Type 0 where
   pub root : (n d y j : ℕ) (r : Float) → 0 < d → Number f y j → n * square (2 ^ low f) ≡ square (y * 2 ^ j) * d → NearestRoot f n d r → Size f r (y * 2 ^ j)
 
 -- ---- no float of the format is nearer, of whatever sign. How far ±n / d is from ±a units: across zero where the signs s and t differ
-abbrev pub signedDistance : Format → Bool → ℕ → ℕ → Bool → ℕ → ℕ
-signedDistance f s n d t a = cond (beq s t) (distance f n d a) (a * d + n * 2 ^ low f)
+abbrev pub signed_distance : Format → Bool → ℕ → ℕ → Bool → ℕ → ℕ
+signed_distance f s n d t a = cond (beq s t) (distance f n d a) (a * d + n * 2 ^ low f)
 
 abbrev pub NoneNearer : Format → Type 0
 NoneNearer f =
-    (s : Bool) (n d : ℕ) (r : Float) (u : Nearest f n d r) (y : Float) (t : Bool) (b : ℕ) → T (fits f y) → Signed y t → Size f y b → signedDistance f s n d s (u.c * 2 ^ u.k) ≤ signedDistance f s n d t b
+    (s : Bool) (n d : ℕ) (r : Float) (u : Nearest f n d r) (y : Float) (t : Bool) (b : ℕ) → T (fits f y) → Signed y t → Size f y b → signed_distance f s n d s (u.c * 2 ^ u.k) ≤ signed_distance f s n d t b

@@ -16,7 +16,7 @@ pub data Signs (b s t : Bool) (m : ℕ) : Type 0 where
 pub data Turned (b : Bool) : Float → Float → Type 0 where
   of_nan : Turned b nan nan
   of_inf : {s t : Bool} → t ≡ turn b s → Turned b (inf s) (inf t)
-  of-fin : {s t : Bool} {m : ℕ} {e : ℤ} → Signs b s t m → Turned b (fin s m e) (fin t m e)
+  of_fin : {s t : Bool} {m : ℕ} {e : ℤ} → Signs b s t m → Turned b (fin s m e) (fin t m e)
 
 -- y is -x, and y is x, as numbers: plus and minus zero count as equal
 abbrev pub Opp : Float → Float → Type 0

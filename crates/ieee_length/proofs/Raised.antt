@@ -7,17 +7,17 @@ use lib.Ieee.Bits.{of_bits-to_bits}
 use lib.Ieee.Exact.{HasValue}
 use lib.Ieee.Fits.{round-fits, mul-fits}
 use lib.Ieee.Scale.{finite, grid, round_val}
-use Rattle.lists.proofs.Naturals.{le-or-lt}
-use Rattle.packing.proofs.Fields.{value-normal}
+use Rattle.lists.proofs.Naturals.{le_or_lt}
+use Rattle.packing.proofs.Fields.{value_normal}
 use Rattle.ieee.specs.Fused.{fma}
-use Rattle.ieee.specs.Parts.{RoundsOnce, narrowBits}
-use Rattle.ieee_length.specs.Raised.{Raised, raisedBits}
-use Rattle.ieee.proofs.Product.{fma-left, fma-last}
-use Rattle.ieee.proofs.Nearby.{nearest-down}
-use Rattle.ieee.proofs.Rounded.{round-ties}
-use Rattle.ieee.proofs.Twice.{one_value, round-value}
-use Rattle.ieee.proofs.Patterns.{round-low}
-use Rattle.ieee.proofs.Doubled.{Split, split32, add-finite, mul-finite, round-no-nan, value-finite, fma-is, fma-narrow, narrow-le, plain-is}
+use Rattle.ieee.specs.Parts.{RoundsOnce, narrow_bits}
+use Rattle.ieee_length.specs.Raised.{Raised, raised_bits}
+use Rattle.ieee.proofs.Product.{fma_left, fma_last}
+use Rattle.ieee.proofs.Nearby.{nearest_down}
+use Rattle.ieee.proofs.Rounded.{round_ties}
+use Rattle.ieee.proofs.Twice.{one_value, round_value}
+use Rattle.ieee.proofs.Patterns.{round_low}
+use Rattle.ieee.proofs.Doubled.{Split, split32, add_finite, mul_finite, round_no_nan, value_finite, fma_is, fma_narrow, narrow_le, plain_is}
 
 -- ---- an f64 of a fraction that is finite as an f32 is below 2 ^ 128
 clash : (R Y d N : ℕ) → Y < R → (R + Y) * d ≤ 2 * N → N < Y * d → ⊥
@@ -38,8 +38,8 @@ module _ (n d : ℕ) (D : 0 < d) (f : finite (round binary32 false n d) ≡ true
 
   -- from 2 ^ 127 * (2 - 2 ^ -24) on the f32 is an infinity
   within : n * 2 ^ 24 < 2 ^ 127 * (2 ^ 25 - 1) * d
-  within = elim (le-or-lt (2 ^ 127 * (2 ^ 25 - 1) * d) (n * 2 ^ 24)) [
-    | inl g ↦ absurd (false≢true (ap finite (sym ((round-ties binary32 false n d D).beyond g)) ∙ f))
+  within = elim (le_or_lt (2 ^ 127 * (2 ^ 25 - 1) * d) (n * 2 ^ 24)) [
+    | inl g ↦ absurd (false≢true (ap finite (sym ((round_ties binary32 false n d D).beyond g)) ∙ f))
     | inr g ↦ g
   ]
 
@@ -52,59 +52,59 @@ module _ (n d : ℕ) (D : 0 < d) (f : finite (round binary32 false n d) ≡ true
       regroup : (p q d l : ℕ) → p * q * d * l ≡ q * (p * l) * d
       regroup p q d l = simp (mul_assoc, mul_comm, mul_left_comm)
 
-  rounded-le : R ≤ Y
-  rounded-le = elim (le-or-lt R Y) [
+  rounded_le : R ≤ Y
+  rounded_le = elim (le_or_lt R Y) [
     | inl g ↦ g
-    | inr g ↦ absurd (clash R Y d (n * 2 ^ 1074) g (nearest-down 53 (n * 2 ^ 1074) d (lit< tt) D (2 ^ 25 - 1) 1177 (lit< tt) g) under)
+    | inr g ↦ absurd (clash R Y d (n * 2 ^ 1074) g (nearest_down 53 (n * 2 ^ 1074) d (lit< tt) D (2 ^ 25 - 1) 1177 (lit< tt) g) under)
   ]
 
   abbrev v : Float
   v = round binary64 false n d
 
   value : HasValue v false R (2 ^ 1074)
-  value = round_val binary64 n d (lt_of_le_of_lt rounded-le (lit< tt))
+  value = round_val binary64 n d (lt_of_le_of_lt rounded_le (lit< tt))
 
   abbrev N : ℕ
   N = to_bits binary64 v
 
-  pub top-bits : N < 5183643171103440896
-  top-bits = elim (le-or-lt (N % 2 ^ 63 / 2 ^ 52) 0) [
-    | inl z ↦ omega (arith, round-low binary64 n d)
+  pub top_bits : N < 5183643171103440896
+  top_bits = elim (le_or_lt (N % 2 ^ 63 / 2 ^ 52) 0) [
+    | inl z ↦ omega (arith, round_low binary64 n d)
     | inr z ↦
         (let x = N % 2 ^ 63 / 2 ^ 52 - 1 in
         let is : N % 2 ^ 63 / 2 ^ 52 ≡ suc x = omega arith in
-        let w = value-normal binary64 v (round-fits binary64 false n d) (value-finite v false R (2 ^ 1074) value) x is in
+        let w = value_normal binary64 v (round-fits binary64 false n d) (value_finite v false R (2 ^ 1074) value) x is in
         let e : (2 ^ 52 + N % 2 ^ 52) * 2 ^ x ≡ R = (one_value v (leb (top binary64) N) false ((2 ^ 52 + N % 2 ^ 52) * 2 ^ x) R (2 ^ 1074) w value).1 in
         let a : 2 ^ 52 * 2 ^ x ≤ (2 ^ 52 + N % 2 ^ 52) * 2 ^ x = mul-le-mul_right (2 ^ x) (omega arith) in
-        let b : 2 ^ (52 + x) < 2 ^ 1202 = lt_of_le_of_lt (le_trans (le_of_eq (pow-add 2 52 x)) (le_trans a (le_trans (le_of_eq e) rounded-le))) (lit< tt) in
-        omega (arith, pow_lt_back (52 + x) 1202 b, round-low binary64 n d))
+        let b : 2 ^ (52 + x) < 2 ^ 1202 = lt_of_le_of_lt (le_trans (le_of_eq (pow-add 2 52 x)) (le_trans a (le_trans (le_of_eq e) rounded_le))) (lit< tt) in
+        omega (arith, pow_lt_back (52 + x) 1202 b, round_low binary64 n d))
   ]
 
 -- ---- what a finite result tells of the operands
-all-finite : (x q : Float) → finite (fma binary32 x x q) ≡ true → (finite x ≡ true) × (finite q ≡ true)
-all-finite x q h = go (finite x) refl (finite q) refl
+all_finite : (x q : Float) → finite (fma binary32 x x q) ≡ true → (finite x ≡ true) × (finite q ≡ true)
+all_finite x q h = go (finite x) refl (finite q) refl
   where
     go : (b : Bool) → finite x ≡ b → (d : Bool) → finite q ≡ d → (finite x ≡ true) × (finite q ≡ true)
     go true e true g = (e, g)
-    go true e false g = (e, ap finite (fma-last binary32 x x q e e g) ∙ h)
+    go true e false g = (e, ap finite (fma_last binary32 x x q e e g) ∙ h)
     go false e d g =
-        let p = add-finite binary32 (mul binary32 x x) q (ap finite (fma-left binary32 x x q e) ∙ h) in
-        ((mul-finite binary32 x x p.0).0, p.1)
+        let p = add_finite binary32 (mul binary32 x x) q (ap finite (fma_left binary32 x x q e) ∙ h) in
+        ((mul_finite binary32 x x p.0).0, p.1)
 
 -- ---- a square has no sign
 alike : (s : Bool) → unlike s s ≡ false
 alike true = refl
 alike false = refl
 
-square-plain : (y : Float) (s : Bool) (a : ℕ) → HasValue (mul binary32 y y) s a (2 ^ 149) → s ≡ false
+square_plain : (y : Float) (s : Bool) (a : ℕ) → HasValue (mul binary32 y y) s a (2 ^ 149) → s ≡ false
 unfolding mul
-square-plain nan s a v = absurd v
-square-plain (inf t) s a v = absurd v
-square-plain (fin t m e) s a v = sym (round-value binary32 (unlike t t) (m * up e * (m * up e)) (down e * down e) s a v).0 ∙ alike t
+square_plain nan s a v = absurd v
+square_plain (inf t) s a v = absurd v
+square_plain (fin t m e) s a v = sym (round_value binary32 (unlike t t) (m * up e * (m * up e)) (down e * down e) s a v).0 ∙ alike t
 
-sum-plain : (f : Format) (a b c : ℕ) → sum f false a false b c ≡ round f false (a + b) c
+sum_plain : (f : Format) (a b c : ℕ) → sum f false a false b c ≡ round f false (a + b) c
 unfolding sum
-sum-plain f a b c = refl
+sum_plain f a b c = refl
 
 -- ---- the sum's pattern
 module _ (x y : Float) (hx : T (fits binary32 x)) (f : finite (fma binary32 x x (mul binary32 y y)) ≡ true) where
@@ -112,7 +112,7 @@ module _ (x y : Float) (hx : T (fits binary32 x)) (f : finite (fma binary32 x x 
   q = mul binary32 y y
 
   pub operands : (finite x ≡ true) × (finite x ≡ true) × (finite q ≡ true)
-  operands = let a = all-finite x q f in (a.0, a.0, a.1)
+  operands = let a = all_finite x q f in (a.0, a.0, a.1)
 
   X : Split x
   X = split32 x hx operands.0
@@ -126,27 +126,27 @@ module _ (x y : Float) (hx : T (fits binary32 x)) (f : finite (fma binary32 x x 
   abbrev d : ℕ
   d = 2 ^ 149 * 2 ^ 149
 
-  d-pos : 0 < d
-  d-pos = mul-pos (pow_pos 149) (pow_pos 149)
+  d_pos : 0 < d
+  d_pos = mul-pos (pow_pos 149) (pow_pos 149)
 
-  one-round : (g : Format) → fma g x x q ≡ round g false n d
-  one-round g =
-      fma-is x x q X X Q g
-      ∙ ap₂ (λ (s t : Bool). sum g s (X.m * X.m * 2 ^ (X.x + X.x)) t (Q.m * 2 ^ (Q.x + 149)) d) (alike X.s) (square-plain y Q.s (Q.m * 2 ^ Q.x) Q.parts.value)
-      ∙ sum-plain g (X.m * X.m * 2 ^ (X.x + X.x)) (Q.m * 2 ^ (Q.x + 149)) d
+  one_round : (g : Format) → fma g x x q ≡ round g false n d
+  one_round g =
+      fma_is x x q X X Q g
+      ∙ ap₂ (λ (s t : Bool). sum g s (X.m * X.m * 2 ^ (X.x + X.x)) t (Q.m * 2 ^ (Q.x + 149)) d) (alike X.s) (square_plain y Q.s (Q.m * 2 ^ Q.x) Q.parts.value)
+      ∙ sum_plain g (X.m * X.m * 2 ^ (X.x + X.x)) (Q.m * 2 ^ (Q.x + 149)) d
 
   module _ (w : Float) (e : w ≡ fma binary64 x x q) where
     abbrev S : ℕ
     S = to_bits binary64 w
 
-    w-is : w ≡ round binary64 false n d
-    w-is = e ∙ one-round binary64
+    w_is : w ≡ round binary64 false n d
+    w_is = e ∙ one_round binary64
 
-    pub sum-no-nan : T (not (is_nan w))
-    sum-no-nan = subst (λ (r : Float). T (not (is_nan r))) (sym w-is) (round-no-nan binary64 false n d)
+    pub sum_no_nan : T (not (is_nan w))
+    sum_no_nan = subst (λ (r : Float). T (not (is_nan r))) (sym w_is) (round_no_nan binary64 false n d)
 
     pub sum_below : S < 5183643171103440896
-    sum_below = subst (λ (r : Float). to_bits binary64 r < 5183643171103440896) (sym w-is) (top-bits n d d-pos (ap finite (sym (one-round binary32)) ∙ f))
+    sum_below = subst (λ (r : Float). to_bits binary64 r < 5183643171103440896) (sym w_is) (top_bits n d d_pos (ap finite (sym (one_round binary32)) ∙ f))
 
     module _ (lo : 4044232465647140864 ≤ S + 4503599895805952) (off : (S + 4503599895805952) % 2 ^ 29 ≡ 0 → ⊥) where
       plain : S % 2 ^ 63 ≡ S
@@ -155,23 +155,23 @@ module _ (x y : Float) (hx : T (fits binary32 x)) (f : finite (fma binary32 x x 
       once : RoundsOnce S
       once = record { low = omega (arith, plain); high = omega (arith, plain, sum_below); off = λ h. off (omega arith) }
 
-      bits : raisedBits (S + 4503599895805952) ≡ narrowBits S
+      bits : raised_bits (S + 4503599895805952) ≡ narrow_bits S
       bits = omega (arith, plain)
 
-      is : of_bits binary32 (narrowBits S) ≡ fma binary32 x x q
-      is = plain-is S once (lt_of_lt_of_le sum_below (lit≤ tt)) ∙ fma-narrow S once x x q X X Q (of_bits-to_bits binary64 w (subst (λ (r : Float). T (fits binary64 r)) (sym w-is) (round-fits binary64 false n d)) ∙ e)
+      is : of_bits binary32 (narrow_bits S) ≡ fma binary32 x x q
+      is = plain_is S once (lt_of_lt_of_le sum_below (lit≤ tt)) ∙ fma_narrow S once x x q X X Q (of_bits-to_bits binary64 w (subst (λ (r : Float). T (fits binary64 r)) (sym w_is) (round-fits binary64 false n d)) ∙ e)
 
       infinite : finite (of_bits binary32 2139095040) ≡ false
       unfolding of_bits
       infinite = refl
 
-      no-infinity : narrowBits S ≡ 2139095040 → ⊥
-      no-infinity h = true≢false (sym f ∙ ap finite (sym is) ∙ ap (λ (b : ℕ). finite (of_bits binary32 b)) h ∙ infinite)
+      no_infinity : narrow_bits S ≡ 2139095040 → ⊥
+      no_infinity h = true≢false (sym f ∙ ap finite (sym is) ∙ ap (λ (b : ℕ). finite (of_bits binary32 b)) h ∙ infinite)
 
-      small : narrowBits S < 2139095040
-      small = lt_of_le-ne (narrow-le S once) no-infinity
+      small : narrow_bits S < 2139095040
+      small = lt_of_le-ne (narrow_le S once) no_infinity
 
-      inside : (8388608 ≤ raisedBits (S + 4503599895805952)) × (raisedBits (S + 4503599895805952) < 2139095040)
+      inside : (8388608 ≤ raised_bits (S + 4503599895805952)) × (raised_bits (S + 4503599895805952) < 2139095040)
       inside = (omega arith, lt_of_le_of_lt (le_of_eq bits) small)
 
     pub raised : Raised (fma binary32 x x q) (S + 4503599895805952)

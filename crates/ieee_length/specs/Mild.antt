@@ -10,19 +10,19 @@ small k (inf s) = false
 small k (fin s m e) = nat_le (m * up e) (2 ^ k * down e)
 
 -- each is a number of no more than 2 ^ 24 in size
-unfoldable pub eachMild : List Float → Bool
+unfoldable pub each_mild : List Float → Bool
 unfolding small
-eachMild [] = true
-eachMild (x ∷ xs) = small 24 x && eachMild xs
+each_mild [] = true
+each_mild (x ∷ xs) = small 24 x && each_mild xs
 
 -- the pieces of a table, and its numbers, four of a piece
 abbrev pub pieces : ℕ
 pieces = 64
 
-abbrev pub tableSize : ℕ
-tableSize = 256
+abbrev pub table_size : ℕ
+table_size = 256
 
 -- a whole table of them: the type of a lent array tells a proof nothing of its length
-unfoldable pub allMild : List Float → Bool
-unfolding eachMild
-allMild l = length l == tableSize && eachMild l
+unfoldable pub all_mild : List Float → Bool
+unfolding each_mild
+all_mild l = length l == table_size && each_mild l

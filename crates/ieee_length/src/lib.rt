@@ -5,15 +5,15 @@
 ghost use Rattle.std.specs.Prelude.{◌≡◌, ◌+◌, ◌*◌, ◌^◌, ◌<◌, ◌≤◌, true, ◌&&◌, from_bits, nat_le, nat_lt};
 ghost use Rattle.std.specs.Float.{binary64};
 ghost use Rattle.std.specs.Float.Ieee.Scale.{finite};
-ghost use Rattle.ieee.specs.F32.{◌⊗◌, fused, rootOf};
+ghost use Rattle.ieee.specs.F32.{◌⊗◌, fused, root_of};
 ghost use Rattle.ieee_root.specs.Parts.{RootOrZero};
-ghost use Rattle.ieee_length.specs.Raised.{Raised, digitsBits, radicandOf};
-ghost use Rattle.ieee_length.specs.Mild.{pieces, small, allMild};
+ghost use Rattle.ieee_length.specs.Raised.{Raised, digits_bits, radicand_of};
+ghost use Rattle.ieee_length.specs.Mild.{pieces, small, all_mild};
 
 // The length of (x, y), in one: the root of the fused x * x + (y * y) (rule F8). Level ground is common, and has no short path below, so the zeros go first.
 // 0x47ef_ffff_e000_0000 is the f64 of the largest f32: what lies below it has no sign bit, and does not round to the infinity.
 pub fn length(x: f32, y: f32) -> f32
-    ensures { result ≡ rootOf (fused x x (y ⊗ y)) }
+    ensures { result ≡ root_of (fused x x (y ⊗ y)) }
 {
     if x == 0.0 {
         if y == 0.0 {
@@ -41,21 +41,21 @@ fn raised_sum(x: f32, y: f32) -> u64
 
 // The significand of the rounded sum, from 1 to below 2, doubled where the exponent is odd.
 fn raised_digits(n: u64) -> f64
-    ensures { result ≡ from_bits binary64 (digitsBits n) }
+    ensures { result ≡ from_bits binary64 (digits_bits n) }
 {
     f64::from_bits(n % 0x20_0000_0000_0000 / 0x2000_0000 * 0x2000_0000 + 0x3ff0_0000_0000_0000)
 }
 
 // The same as a whole number, the a of `checked_root`: 70368744177664 = 2^46.
 fn radicand(n: u64) -> u64
-    ensures { result ≡ radicandOf n }
+    ensures { result ≡ radicand_of n }
 {
     ((raised_digits(n) * 70368744177664.0) as i64) as u64
 }
 
 // Piece i of the cubics at a, and 2^52 = 4503599627370496 more, so that the last digits are a whole number. No contract says which: who asks has to test it.
 fn cubic_at(cubics: &[f64; 256], i: usize, a: f64) -> f64
-    requires fact_1 { allMild cubics.now ≡ true }
+    requires fact_1 { all_mild cubics.now ≡ true }
     requires fact_2 { (i < pieces) × (small 2 a ≡ true) }
     ensures { finite result ≡ true }
 {
@@ -76,7 +76,7 @@ fn is_nearest(a: u64, k: u64) -> bool
 // the five digits behind it. That the sum was no middle between two f32s is asked last, since it hardly ever is one. The exponent's half is e / 2 + 449, where (e + 126) / 2
 // is e / 2 + 63: 386 = 449 - 63.
 fn length_guess(cubics: &[f64; 256], x: f32, y: f32) -> u32
-    requires { (allMild cubics.now ≡ true) × (finite (fused x x (y ⊗ y)) ≡ true) }
+    requires { (all_mild cubics.now ≡ true) × (finite (fused x x (y ⊗ y)) ≡ true) }
     ensures { RootOrZero (fused x x (y ⊗ y)) result }
 {
     let n = raised_sum(x, y);
@@ -95,8 +95,8 @@ fn length_guess(cubics: &[f64; 256], x: f32, y: f32) -> u32
 // The length of (x, y) where its square is finite, by a table of cubics, four coefficients for each of 64 pieces, in four rows of 64. They only guess the root: the guess is
 // tested, so that the answer is the same whatever the table has, as long as no sum of its numbers overflows.
 pub fn length_with(cubics: &[f64; 256], x: f32, y: f32) -> f32
-    requires { (allMild cubics.now ≡ true) × (finite (fused x x (y ⊗ y)) ≡ true) }
-    ensures { result ≡ rootOf (fused x x (y ⊗ y)) }
+    requires { (all_mild cubics.now ≡ true) × (finite (fused x x (y ⊗ y)) ≡ true) }
+    ensures { result ≡ root_of (fused x x (y ⊗ y)) }
 {
     let r = length_guess(cubics, x, y);
     if r > 0 {

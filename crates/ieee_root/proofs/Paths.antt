@@ -9,8 +9,8 @@ use Rattle.ieee.specs.Root.{sqrt}
 use Rattle.ieee_root.specs.Parts.{RootOrZero}
 
 -- the guess that the exact test took, and the integer root of the whole significand
-pub root-paths : (x : Float) → T (fits binary32 x)
+pub root_paths : (x : Float) → T (fits binary32 x)
     → (q : ℕ) → RootOrZero (of_bits binary32 (to_bits binary32 x)) q → 0 < q  -- `checked_root`
     → (t : Float) → t ≡ sqrt binary32 x  -- `root_general`
     → of_bits binary32 q ≡ t
-root-paths x h q tried some t general = tried.right some ∙ ap (sqrt binary32) (of_bits-to_bits binary32 x h) ∙ sym general
+root_paths x h q tried some t general = tried.right some ∙ ap (sqrt binary32) (of_bits-to_bits binary32 x h) ∙ sym general

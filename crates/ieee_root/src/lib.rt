@@ -9,7 +9,7 @@ ghost use Rattle.std.specs.Float.Ieee.{of_bits};
 ghost use Rattle.std.specs.Float.Ieee.Positive.{positive};
 ghost use Rattle.ieee.specs.Root.{sqrt};
 ghost use Rattle.ieee.specs.Operations.{IsRoot};
-ghost use Rattle.ieee.specs.F32.{f32, rootOf};
+ghost use Rattle.ieee.specs.F32.{f32, root_of};
 ghost use Rattle.ieee_root.specs.Parts.{RootOrZero};
 
 // The largest r with r * r <= n, a digit at a time (the root of 64 digits has 32): only where the guess of a root fails, and for subnormals.
@@ -118,7 +118,7 @@ pub fn normal_root(b: u32) -> f32
 // The square root: squareRoot, IEEE 754-2019, 5.4.1. The root of -0 is -0, that of a number below zero a NaN. The second clause says what makes it the root: no value of
 // the format is nearer.
 pub fn sqrt(x: f32) -> f32
-    ensures value { result ≡ rootOf x }
+    ensures value { result ≡ root_of x }
     ensures ieee { IsRoot binary32 x result }
 {
     if x > 0.0 {

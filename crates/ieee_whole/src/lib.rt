@@ -7,8 +7,8 @@ ghost use Rattle.std.specs.Float.{binary32};
 ghost use Rattle.std.specs.Float.Ieee.{round, to_signed};
 ghost use Rattle.std.specs.Float.Ieee.Scale.{finite};
 ghost use Rattle.ieee.specs.Whole.{saturate};
-ghost use Rattle.ieee.specs.F32.{floorOf, rounded, toI32};
-ghost use Rattle.ieee_whole.specs.Parts.{beforeCut, wholeSize, whole};
+ghost use Rattle.ieee.specs.F32.{floor_of, rounded, to_i32};
+ghost use Rattle.ieee_whole.specs.Parts.{before_cut, whole_size, whole};
 
 // Where a number between two whole ones goes: toward zero, toward minus infinity, or to the nearest, a tie to the even one.
 #[derive(Clone, Copy)]
@@ -29,7 +29,7 @@ fn short_shift(d: u32) -> u32
 // What is added to the size m before its last h digits are cut, so that ±m goes the way w.
 fn before_cut(w: Way, s: bool, m: u64, h: u32) -> u64
     requires { (1 ≤ h) × (h ≤ 40) }
-    ensures { result ≡ beforeCut w s m (2 ^ h) }
+    ensures { result ≡ before_cut w s m (2 ^ h) }
 {
     match w {
         Way::Zero => 0,
@@ -41,7 +41,7 @@ fn before_cut(w: Way, s: bool, m: u64, h: u32) -> u64
 // The size of the whole number that ±m / 2^d goes to.
 fn whole_size(w: Way, s: bool, m: u64, d: u32) -> u64
     requires { (m < 2 ^ 24) × (1 ≤ d) }
-    ensures value { result ≡ wholeSize w s m (2 ^ d) }
+    ensures value { result ≡ whole_size w s m (2 ^ d) }
     ensures small { result ≤ 2 ^ 24 }
 {
     let h = short_shift(d);
@@ -77,7 +77,7 @@ fn to_whole(w: Way, x: f32) -> f32
 
 // roundToIntegralTowardNegative, IEEE 754-2019, 5.3.1: a zero keeps its sign.
 pub fn floor(x: f32) -> f32
-    ensures { result ≡ floorOf x }
+    ensures { result ≡ floor_of x }
 {
     to_whole(Way::Down, x)
 }
@@ -136,7 +136,7 @@ fn infinite_to_i32(x: f32) -> i32
 
 // x gone to a whole number, as an i32: stopped at the ends of the range, and 0 for a NaN.
 fn whole_to_i32(w: Way, x: f32) -> i32
-    ensures { result ≡ toI32 (whole w binary32 x) }
+    ensures { result ≡ to_i32 (whole w binary32 x) }
 {
     if ieee::is_finite(x) {
         let p = packing::unpack(x);
@@ -155,21 +155,21 @@ fn whole_to_i32(w: Way, x: f32) -> i32
 
 // Rust's `x as i32`: toward zero (rule I7).
 pub fn to_i32(x: f32) -> i32
-    ensures { result ≡ toI32 x }
+    ensures { result ≡ to_i32 x }
 {
     whole_to_i32(Way::Zero, x)
 }
 
 // `to_i32(floor(x))` in one.
 pub fn floor_to_i32(x: f32) -> i32
-    ensures { result ≡ toI32 (floorOf x) }
+    ensures { result ≡ to_i32 (floor_of x) }
 {
     whole_to_i32(Way::Down, x)
 }
 
 // `to_i32(round_ties_even(x))` in one.
 pub fn round_to_i32(x: f32) -> i32
-    ensures { result ≡ toI32 (rounded x) }
+    ensures { result ≡ to_i32 (rounded x) }
 {
     whole_to_i32(Way::Near, x)
 }

@@ -9,17 +9,17 @@ use lib.ListN.{length, get_or, set, take, drop, length-append, length-take, leng
 use lib.Seq.{take_at, drop_at, drop-append-add, drop-drop, length-take-le, set_split, take-set-le}
 use Rattle.lists.specs.Pasted.{pasted}
 
-pub length-pasted : {A : Type 0} (at : ℕ) (a d : List A) → at + length a ≤ length d → length (pasted at a d) ≡ length d
+pub length_pasted : {A : Type 0} (at : ℕ) (a d : List A) → at + length a ≤ length d → length (pasted at a d) ≡ length d
 unfolding pasted
-length-pasted at a d h = simp (length-append, length-take, length-drop) (omega arith)
+length_pasted at a d h = simp (length-append, length-take, length-drop) (omega arith)
 
-pub pasted-none : {A : Type 0} (at : ℕ) (d : List A) → pasted at [] d ≡ d
+pub pasted_none : {A : Type 0} (at : ℕ) (d : List A) → pasted at [] d ≡ d
 unfolding pasted
-pasted-none at d = rw (add-zero, take-append-drop)
+pasted_none at d = rw (add-zero, take-append-drop)
 
-pub pasted-append : {A : Type 0} (at : ℕ) (a b d : List A) → at + length (a ++ b) ≤ length d → pasted at (a ++ b) d ≡ pasted (at + length a) b (pasted at a d)
+pub pasted_append : {A : Type 0} (at : ℕ) (a b d : List A) → at + length (a ++ b) ≤ length d → pasted at (a ++ b) d ≡ pasted (at + length a) b (pasted at a d)
 unfolding pasted
-pasted-append at a b d h =
+pasted_append at a b d h =
     let k : at + (length a + length b) ≤ length d = rw length-append at h in
     let f : length (take at d ++ a) ≡ at + length a = rw (length-append, length-take-le at d (omega arith)) in
     let t = take_at (take at d ++ a) (drop (at + length a) d) (at + length a) f in
@@ -27,18 +27,18 @@ pasted-append at a b d h =
     rw (← f, drop-append-add, drop-drop) in
     rw (← append_assoc (take at d) a (drop (at + length a) d), t, u, length-append, append_assoc, append_assoc, add_assoc)
 
-pub pasted-one : {A : Type 0} (at : ℕ) (v : A) (d : List A) → at < length d → pasted at (v ∷ []) d ≡ set d at v
+pub pasted_one : {A : Type 0} (at : ℕ) (v : A) (d : List A) → at < length d → pasted at (v ∷ []) d ≡ set d at v
 unfolding pasted
-pasted-one at v d h = rw (set_split d at v h, add-one)
+pasted_one at v d h = rw (set_split d at v h, add-one)
 
 -- forward, a byte at a time
-pub pasted-cons : {A : Type 0} (at : ℕ) (v : A) (b d : List A) → at + suc (length b) ≤ length d → pasted at (v ∷ b) d ≡ pasted (at + 1) b (set d at v)
-pasted-cons at v b d h = pasted-append at (v ∷ []) b d h ∙ rw (pasted-one at v d (omega arith))
+pub pasted_cons : {A : Type 0} (at : ℕ) (v : A) (b d : List A) → at + suc (length b) ≤ length d → pasted at (v ∷ b) d ≡ pasted (at + 1) b (set d at v)
+pasted_cons at v b d h = pasted_append at (v ∷ []) b d h ∙ rw (pasted_one at v d (omega arith))
 
 -- backward, a byte at a time
-pub pasted-snoc : {A : Type 0} (at : ℕ) (v : A) (a d : List A) → at + length a < length d → pasted at (a ++ (v ∷ [])) d ≡ pasted at a (set d (at + length a) v)
+pub pasted_snoc : {A : Type 0} (at : ℕ) (v : A) (a d : List A) → at + length a < length d → pasted at (a ++ (v ∷ [])) d ≡ pasted at a (set d (at + length a) v)
 unfolding pasted
-pasted-snoc at v a d h =
+pasted_snoc at v a d h =
     let j = at + length a in
     let t : take at (set d (at + length a) v) ≡ take at d = take-set-le at d (at + length a) v (omega arith) in
     let u : drop (at + length a) (set d (at + length a) v) ≡ v ∷ drop (suc (at + length a)) d =

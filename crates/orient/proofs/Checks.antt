@@ -9,122 +9,122 @@ use borrow.Author.Tests.{ltb-true, ltb-false, eqb-true, not-true, not-false, eq-
 use lib.Dec.{ltb, eqb}
 use lib.ListN.{length}
 use lib.Ieee.{Float}
-use Rattle.lists.proofs.Bools.{and_both, or-true}
-use Rattle.params.specs.Limits.{maxSide, maxOctave, scaleLow, scaleHigh}
-use Rattle.params.specs.Table.{within, firstFault, sideWrong, shapeWrong, lengthWrong}
-use Rattle.params.proofs.Bools.{or-neither, in-range}
+use Rattle.lists.proofs.Bools.{and_both, or_true}
+use Rattle.params.specs.Limits.{max_side, max_octave, scale_low, scale_high}
+use Rattle.params.specs.Table.{within, first_fault, side_wrong, shape_wrong, length_wrong}
+use Rattle.params.proofs.Bools.{or_neither, in_range}
 use Rattle.picture.specs.declared.Size.{Size}
 use Rattle.detect_keypoint.specs.declared.RawKeypoint.{RawKeypoint}
-use Rattle.orient_window.specs.Window.{cellsRead}
-use Rattle.orient_window.specs.Good.{windowGood}
-use Rattle.orient_tally.specs.Tally.{gatheredOf}
+use Rattle.orient_window.specs.Window.{cells_read}
+use Rattle.orient_window.specs.Good.{window_good}
+use Rattle.orient_tally.specs.Tally.{gathered_of}
 use Rattle.orient_tally.specs.declared.Gathered.{Gathered}
 use Rattle.orient_window.specs.declared.Window.{Window}
-use Rattle.orient_peaks.specs.Peaks.{anglesOf}
+use Rattle.orient_peaks.specs.Peaks.{angles_of}
 use Rattle.orient_peaks.specs.Found.{held_of, Holds}
-use Rattle.orient_peaks.proofs.Rules.{peak-rule}
+use Rattle.orient_peaks.proofs.Rules.{peak_rule}
 use Rattle.orient_peaks.specs.declared.Angles.{Angles}
 use Rattle.orient_window.specs.Place.{Fits}
 use Rattle.orient_tally.specs.Place.{InRange}
-use Rattle.orient_window.proofs.Spans.{window-fits}
-use Rattle.orient_tally.proofs.Rules.{tally-rule}
-use Rattle.orient.specs.Keypoint.{octaveIn, cellWrong, octaveWrong, floatsWrong, scale_of, scaleWrong, keypointWrong}
-use Rattle.orient.specs.Entry.{windowAt, anglesAt, orientFault}
-use Rattle.orient.specs.Given.{directionsOf}
+use Rattle.orient_window.proofs.Spans.{window_fits}
+use Rattle.orient_tally.proofs.Rules.{tally_rule}
+use Rattle.orient.specs.Keypoint.{octave_in, cell_wrong, octave_wrong, floats_wrong, scale_of, scale_wrong, keypoint_wrong}
+use Rattle.orient.specs.Entry.{window_at, angles_at, orient_fault}
+use Rattle.orient.specs.Given.{directions_of}
 use Rattle.orient.specs.Accepted.{Aimed, Ready}
 
-pub sides : (s : Size) → shapeWrong s.width s.height ≡ false → (s.width ≤ maxSide) × (s.height ≤ maxSide)
-unfolding shapeWrong
+pub sides : (s : Size) → shape_wrong s.width s.height ≡ false → (s.width ≤ max_side) × (s.height ≤ max_side)
+unfolding shape_wrong
 sides s e =
-    let p = or-neither (sideWrong s.width) (sideWrong s.height) e in
-    ((in-range s.width maxSide p.0).1, (in-range s.height maxSide p.1).1)
+    let p = or_neither (side_wrong s.width) (side_wrong s.height) e in
+    ((in_range s.width max_side p.0).1, (in_range s.height max_side p.1).1)
 
-pub octave-right : (word : ℕ) → octaveWrong word ≡ false → octaveIn word ≤ maxOctave
-unfolding octaveWrong
-octave-right word e = ltb-false maxOctave (octaveIn word) (or-neither (ltb maxOctave (octaveIn word)) _ e).0
+pub octave_right_lem : (word : ℕ) → octave_wrong word ≡ false → octave_in word ≤ max_octave
+unfolding octave_wrong
+octave_right_lem word e = ltb-false max_octave (octave_in word) (or_neither (ltb max_octave (octave_in word)) _ e).0
 
 module _ (s : Size) (k : RawKeypoint) where
-  pub cell-first : cellWrong s k ≡ true → true ≡ keypointWrong s k
-  unfolding keypointWrong
-  cell-first e = rw e
+  pub cell_first : cell_wrong s k ≡ true → true ≡ keypoint_wrong s k
+  unfolding keypoint_wrong
+  cell_first e = rw e
 
-  pub octave-next : cellWrong s k ≡ false → octaveWrong k.octave ≡ true → true ≡ keypointWrong s k
-  unfolding keypointWrong
-  octave-next e f = rw (e, f)
+  pub octave_next : cell_wrong s k ≡ false → octave_wrong k.octave ≡ true → true ≡ keypoint_wrong s k
+  unfolding keypoint_wrong
+  octave_next e f = rw (e, f)
 
-  pub rest-last : cellWrong s k ≡ false → octaveWrong k.octave ≡ false → (floatsWrong k || scaleWrong k) ≡ keypointWrong s k
-  unfolding keypointWrong
-  rest-last e f = rw (e, f)
+  pub rest_last : cell_wrong s k ≡ false → octave_wrong k.octave ≡ false → (floats_wrong k || scale_wrong k) ≡ keypoint_wrong s k
+  unfolding keypoint_wrong
+  rest_last e f = rw (e, f)
 
-  pub aimed : shapeWrong s.width s.height ≡ false → keypointWrong s k ≡ false → Aimed s k
-  unfolding keypointWrong cellWrong scaleWrong
+  pub aimed : shape_wrong s.width s.height ≡ false → keypoint_wrong s k ≡ false → Aimed s k
+  unfolding keypoint_wrong cell_wrong scale_wrong
   aimed p e =
       let z = sides s p in
-      let a = or-neither (cellWrong s k) _ e in
+      let a = or_neither (cell_wrong s k) _ e in
       let c = and_both (ltb k.rr s.height) (ltb k.cc s.width) (not-false _ a.0) in
-      let b = or-neither (octaveWrong k.octave) _ a.1 in
-      let d = or-neither (floatsWrong k) _ b.1 in
+      let b = or_neither (octave_wrong k.octave) _ a.1 in
+      let d = or_neither (floats_wrong k) _ b.1 in
       record {
         high = z.1;
         wide = z.0;
         row = ltb-true k.rr s.height c.0;
         column = ltb-true k.cc s.width c.1;
-        octave = octave-right k.octave b.0;
+        octave = octave_right_lem k.octave b.0;
         scale = not-false _ d.1;
       }
 
-  pub aimed-fits : (len : ℕ) → len ≡ s.height * s.width → Aimed s k → Fits len (windowAt s k)
-  unfolding windowAt
-  aimed-fits len e a = window-fits len s k.rr k.cc (scale_of k) e a.high a.wide a.row a.column a.scale
+  pub aimed_fits : (len : ℕ) → len ≡ s.height * s.width → Aimed s k → Fits len (window_at s k)
+  unfolding window_at
+  aimed_fits len e a = window_fits len s k.rr k.cc (scale_of k) e a.high a.wide a.row a.column a.scale
 
-  pub ready-range : (img : List Float) → Ready img s k → InRange img (windowAt s k)
-  unfolding windowAt
-  ready-range img r =
+  pub ready_range : (img : List Float) → Ready img s k → InRange img (window_at s k)
+  unfolding window_at
+  ready_range img r =
       let a = r.aimed in
-      record { fits = aimed-fits (length img) r.whole a; good = r.good; down = λ i j p q. tally-rule.exponents s k.rr k.cc (scale_of k) i j a.row a.column a.scale p q }
+      record { fits = aimed_fits (length img) r.whole a; good = r.good; down = λ i j p q. tally_rule.exponents s k.rr k.cc (scale_of k) i j a.row a.column a.scale p q }
 
   module _ (img : List Float) where
     -- the angles of the tally that was gathered
-    pub about : (win : Window) (g : Gathered) (a : Angles) → win ≡ windowAt s k → g ≡ gatheredOf img win → a ≡ held_of (anglesOf g.tally.bins) → record { angles = a; read = g.read } ≡ directionsOf img s k
-    unfolding directionsOf anglesAt gatheredOf
+    pub about : (win : Window) (g : Gathered) (a : Angles) → win ≡ window_at s k → g ≡ gathered_of img win → a ≡ held_of (angles_of g.tally.bins) → record { angles = a; read = g.read } ≡ directions_of img s k
+    unfolding directions_of angles_at gathered_of
     about win g a p q r = rw (r, q, p)
 
-    pub about-holds : Holds (directionsOf img s k).angles (anglesAt img s k)
-    unfolding directionsOf anglesAt
-    about-holds = peak-rule.held _
+    pub about_holds : Holds (directions_of img s k).angles (angles_at img s k)
+    unfolding directions_of angles_at
+    about_holds = peak_rule.held _
 
-    pub about-read : (directionsOf img s k).read ≡ cellsRead (windowAt s k)
-    unfolding directionsOf
-    about-read = refl
+    pub about_read : (directions_of img s k).read ≡ cells_read (window_at s k)
+    unfolding directions_of
+    about_read = refl
 
     abbrev fault : ℕ
-    fault = orientFault img s k
+    fault = orient_fault img s k
 
-    pub fault-shape : shapeWrong s.width s.height ≡ true → 1 ≡ fault
-    unfolding orientFault firstFault
-    fault-shape e = rw e
+    pub fault_shape : shape_wrong s.width s.height ≡ true → 1 ≡ fault
+    unfolding orient_fault first_fault
+    fault_shape e = rw e
 
-    module _ (shape : shapeWrong s.width s.height ≡ false) where
-      pub size_small : s.height * s.width ≤ maxSide * maxSide
-      size_small = let z = sides s shape in mul-le-mul {n₁ = s.height} {m₁ = s.width} {n₂ = maxSide} {m₂ = maxSide} z.1 z.0
+    module _ (shape : shape_wrong s.width s.height ≡ false) where
+      pub size_small : s.height * s.width ≤ max_side * max_side
+      size_small = let z = sides s shape in mul-le-mul {n₁ = s.height} {m₁ = s.width} {n₂ = max_side} {m₂ = max_side} z.1 z.0
 
-      pub fault-length : (length img ≡ s.height * s.width → ⊥) → 3 ≡ fault
-      unfolding orientFault firstFault lengthWrong
-      fault-length e = rw (shape, ne_eqb (length img) (s.height * s.width) e)
+      pub fault_length : (length img ≡ s.height * s.width → ⊥) → 3 ≡ fault
+      unfolding orient_fault first_fault length_wrong
+      fault_length e = rw (shape, ne_eqb (length img) (s.height * s.width) e)
 
       module _ (whole : length img ≡ s.height * s.width) where
-        pub fault-keypoint : keypointWrong s k ≡ true → 5 ≡ fault
-        unfolding orientFault firstFault lengthWrong
-        fault-keypoint e = rw (shape, eq-eqb (length img) (s.height * s.width) whole, e)
+        pub fault_keypoint : keypoint_wrong s k ≡ true → 5 ≡ fault
+        unfolding orient_fault first_fault length_wrong
+        fault_keypoint e = rw (shape, eq-eqb (length img) (s.height * s.width) whole, e)
 
-        module _ (right : keypointWrong s k ≡ false) where
-          pub fault-sample : windowGood img (windowAt s k) ≡ false → 6 ≡ fault
-          unfolding orientFault firstFault lengthWrong
-          fault-sample e = rw (shape, eq-eqb (length img) (s.height * s.width) whole, right, e)
+        module _ (right : keypoint_wrong s k ≡ false) where
+          pub fault_sample : window_good img (window_at s k) ≡ false → 6 ≡ fault
+          unfolding orient_fault first_fault length_wrong
+          fault_sample e = rw (shape, eq-eqb (length img) (s.height * s.width) whole, right, e)
 
-          pub fault-none : windowGood img (windowAt s k) ≡ true → 0 ≡ fault
-          unfolding orientFault firstFault lengthWrong
-          fault-none e = rw (shape, eq-eqb (length img) (s.height * s.width) whole, right, e)
+          pub fault_none : window_good img (window_at s k) ≡ true → 0 ≡ fault
+          unfolding orient_fault first_fault length_wrong
+          fault_none e = rw (shape, eq-eqb (length img) (s.height * s.width) whole, right, e)
 
-          pub ready : windowGood img (windowAt s k) ≡ true → Ready img s k
+          pub ready : window_good img (window_at s k) ≡ true → Ready img s k
           ready e = record { whole = whole; aimed = aimed shape right; good = e }

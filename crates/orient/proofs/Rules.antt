@@ -12,39 +12,39 @@ use lib.Ieee.Scale.{finite}
 use Rattle.lists.proofs.Bools.{and_both}
 use Rattle.ieee.specs.F32.{◌⊗◌, ◌⊘◌, float}
 use Rattle.ieee.specs.Numbers.{half}
-use Rattle.ieee_laws.proofs.Order.{le-trans-float}
+use Rattle.ieee_laws.proofs.Order.{le_trans_float}
 use Rattle.ieee_laws.proofs.Monotone.{nil}
-use Rattle.ieee_laws.proofs.Bounds.{Bounds, mul-bounds-by, div-bounds-by}
+use Rattle.ieee_laws.proofs.Bounds.{Bounds, mul_bounds_by, div_bounds_by}
 use Rattle.lists.specs.Ranges.{every}
-use Rattle.params.specs.Limits.{border, maxLayers, maxOctave, scaleLow, scaleHigh}
+use Rattle.params.specs.Limits.{border, max_layers, max_octave, scale_low, scale_high}
 use Rattle.params.specs.Table.{within}
 use Rattle.params.specs.declared.Settings.{Settings}
 use Rattle.picture.specs.declared.Size.{Size}
 use Rattle.detect_keypoint.specs.Sound.{Sound}
 use Rattle.detect_keypoint.specs.declared.RawKeypoint.{RawKeypoint}
 use Rattle.orient_window.proofs.Cells.{read_is}
-use Rattle.lists.proofs.Every.{every-all}
-use Rattle.orient_peaks.specs.Rules.{maxPeaks}
-use Rattle.orient_peaks.proofs.Rules.{peak-rule}
-use Rattle.orient_words.specs.Oriented.{orientedOf}
+use Rattle.lists.proofs.Every.{every_all}
+use Rattle.orient_peaks.specs.Rules.{max_peaks}
+use Rattle.orient_peaks.proofs.Rules.{peak_rule}
+use Rattle.orient_words.specs.Oriented.{oriented_of}
 use Rattle.orient_words.specs.declared.OrientedKeypoint.{OrientedKeypoint}
-use Rattle.orient_words.proofs.Words.{length-map}
-use Rattle.orient.specs.Keypoint.{octaveIn, layerIn, cellWrong, octaveWrong, floatsWrong, scale_of, scaleWrong, keypointWrong}
-use Rattle.orient.specs.Entry.{windowAt, anglesAt, orientedList}
+use Rattle.orient_words.proofs.Words.{length_map}
+use Rattle.orient.specs.Keypoint.{octave_in, layer_in, cell_wrong, octave_wrong, floats_wrong, scale_of, scale_wrong, keypoint_wrong}
+use Rattle.orient.specs.Entry.{window_at, angles_at, oriented_list}
 use Rattle.orient.specs.Rules.{Passed, OrientRule}
 
 -- ---- number and fields
-few : (img : List Float) (s : Size) (k : RawKeypoint) → length (orientedList img s k) ≤ maxPeaks
-unfolding orientedList anglesAt
-few img s k = rw (length-map k (anglesAt img s k)) (peak-rule.few _)
+few : (img : List Float) (s : Size) (k : RawKeypoint) → length (oriented_list img s k) ≤ max_peaks
+unfolding oriented_list angles_at
+few img s k = rw (length_map k (angles_at img s k)) (peak_rule.few _)
 
-passed-by : (k : RawKeypoint) (a : Float) (o : OrientedKeypoint) → o ≡ orientedOf k a → Passed k o
-passed-by k a o e =
+passed_by : (k : RawKeypoint) (a : Float) (o : OrientedKeypoint) → o ≡ oriented_of k a → Passed k o
+passed_by k a o e =
     record { x = ap (λ (z : OrientedKeypoint). z.x) e; y = ap (λ (z : OrientedKeypoint). z.y) e; size = ap (λ (z : OrientedKeypoint). z.size) e; response = ap (λ (z : OrientedKeypoint). z.response) e; octave = ap (λ (z : OrientedKeypoint). z.octave) e }
 
-passed : (img : List Float) (s : Size) (k : RawKeypoint) (i : ℕ) → Passed k (get_or (orientedList img s k) i (orientedOf k nan))
-unfolding orientedList
-passed img s k i = passed-by k (get_or (anglesAt img s k) i nan) _ (get_or-map (orientedOf k) (anglesAt img s k) i nan)
+passed : (img : List Float) (s : Size) (k : RawKeypoint) (i : ℕ) → Passed k (get_or (oriented_list img s k) i (oriented_of k nan))
+unfolding oriented_list
+passed img s k i = passed_by k (get_or (angles_at img s k) i nan) _ (get_or-map (oriented_of k) (angles_at img s k) i nan)
 
 -- ---- the scale of a keypoint of octave o, whose size is 2^o to 2^7 × 2^o
 abbrev low : ℕ → Float
@@ -57,62 +57,62 @@ abbrev ends : ℕ → Bool
 ends o = (finite (float (2 ^ o)) && finite (float (2 ^ 7 * 2 ^ o))) && ((finite (low o) && finite (high o)) && (finite (low o ⊘ float (2 ^ o)) && finite (high o ⊘ float (2 ^ o))))
 
 abbrev inside : ℕ → Bool
-inside o = lt nil (float (2 ^ o)) && (le scaleLow (low o ⊘ float (2 ^ o)) && le (high o ⊘ float (2 ^ o)) scaleHigh)
+inside o = lt nil (float (2 ^ o)) && (le scale_low (low o ⊘ float (2 ^ o)) && le (high o ⊘ float (2 ^ o)) scale_high)
 
-all-octaves : every 16 (λ o. ends o && inside o) ≡ true
+all_octaves : every 16 (λ o. ends o && inside o) ≡ true
 unfolding every of_int of_bits mul div lt le
-all-octaves = refl
+all_octaves = refl
 
-half-fine : (finite half ≡ true) × (le nil half ≡ true)
+half_fine : (finite half ≡ true) × (le nil half ≡ true)
 unfolding of_bits le
-half-fine = (refl, refl)
+half_fine = (refl, refl)
 
-scale_in : (o : ℕ) (size : Float) → o ≤ maxOctave → le (float (2 ^ o)) size ≡ true → le size (float (2 ^ 7 * 2 ^ o)) ≡ true → within scaleLow scaleHigh (size ⊗ half ⊘ float (2 ^ o)) ≡ true
+scale_in : (o : ℕ) (size : Float) → o ≤ max_octave → le (float (2 ^ o)) size ≡ true → le size (float (2 ^ 7 * 2 ^ o)) ≡ true → within scale_low scale_high (size ⊗ half ⊘ float (2 ^ o)) ≡ true
 scale_in o size h a b =
-    let c = and_both (ends o) (inside o) (every-all 16 (λ o. ends o && inside o) all-octaves o (omega arith)) in
+    let c = and_both (ends o) (inside o) (every_all 16 (λ o. ends o && inside o) all_octaves o (omega arith)) in
     let e = and_both (finite (float (2 ^ o)) && finite (float (2 ^ 7 * 2 ^ o))) _ c.0 in
     let f = and_both (finite (float (2 ^ o))) (finite (float (2 ^ 7 * 2 ^ o))) e.0 in
     let g = and_both (finite (low o) && finite (high o)) _ e.1 in
     let p = and_both (finite (low o)) (finite (high o)) g.0 in
     let q = and_both (finite (low o ⊘ float (2 ^ o))) (finite (high o ⊘ float (2 ^ o))) g.1 in
     let i = and_both (lt nil (float (2 ^ o))) _ c.1 in
-    let j = and_both (le scaleLow (low o ⊘ float (2 ^ o))) (le (high o ⊘ float (2 ^ o)) scaleHigh) i.1 in
+    let j = and_both (le scale_low (low o ⊘ float (2 ^ o))) (le (high o ⊘ float (2 ^ o)) scale_high) i.1 in
     let u : Bounds (float (2 ^ o)) (float (2 ^ 7 * 2 ^ o)) size = record { from = f.0; to = f.1; low = a; high = b } in
-    let v = mul-bounds-by binary32 half half-fine.0 half-fine.1 p.0 p.1 u in
-    let x = div-bounds-by binary32 (float (2 ^ o)) f.0 i.0 q.0 q.1 v in
-    let s : le scaleLow (size ⊗ half ⊘ float (2 ^ o)) ≡ true = le-trans-float scaleLow (low o ⊘ float (2 ^ o)) (size ⊗ half ⊘ float (2 ^ o)) j.0 x.low in
-    let t : le (size ⊗ half ⊘ float (2 ^ o)) scaleHigh ≡ true = le-trans-float (size ⊗ half ⊘ float (2 ^ o)) (high o ⊘ float (2 ^ o)) scaleHigh x.high j.1 in
+    let v = mul_bounds_by binary32 half half_fine.0 half_fine.1 p.0 p.1 u in
+    let x = div_bounds_by binary32 (float (2 ^ o)) f.0 i.0 q.0 q.1 v in
+    let s : le scale_low (size ⊗ half ⊘ float (2 ^ o)) ≡ true = le_trans_float scale_low (low o ⊘ float (2 ^ o)) (size ⊗ half ⊘ float (2 ^ o)) j.0 x.low in
+    let t : le (size ⊗ half ⊘ float (2 ^ o)) scale_high ≡ true = le_trans_float (size ⊗ half ⊘ float (2 ^ o)) (high o ⊘ float (2 ^ o)) scale_high x.high j.1 in
     rw (s, t)
 
 -- ---- what detection gives is accepted
-module _ (s : Size) (o : ℕ) (settings : Settings) (k : RawKeypoint) (layers : settings.layers ≤ maxLayers) (octave : o ≤ maxOctave) (z : Sound s.width s.height settings o k) where
-  cell-right : cellWrong s k ≡ false
-  unfolding cellWrong
-  cell-right = rw (lt-ltb k.rr s.height (omega (arith, z.bottom)), lt-ltb k.cc s.width (omega (arith, z.right)))
+module _ (s : Size) (o : ℕ) (settings : Settings) (k : RawKeypoint) (layers : settings.layers ≤ max_layers) (octave : o ≤ max_octave) (z : Sound s.width s.height settings o k) where
+  cell_right : cell_wrong s k ≡ false
+  unfolding cell_wrong
+  cell_right = rw (lt-ltb k.rr s.height (omega (arith, z.bottom)), lt-ltb k.cc s.width (omega (arith, z.right)))
 
-  octave-right : octaveWrong k.octave ≡ false
-  unfolding octaveWrong
-  octave-right =
+  octave_right_lem : octave_wrong k.octave ≡ false
+  unfolding octave_wrong
+  octave_right_lem =
       let a = z.low_byte in
-      let b = z.next-byte in
-      rw (le-ltb maxOctave (octaveIn k.octave) (omega arith), le-leb 1 (layerIn k.octave) (omega (arith, z.first)), le-leb (layerIn k.octave) maxLayers (omega (arith, z.last)), lt-leb (2 ^ 24) k.octave (omega (arith, z.third-byte)))
+      let b = z.next_byte in
+      rw (le-ltb max_octave (octave_in k.octave) (omega arith), le-leb 1 (layer_in k.octave) (omega (arith, z.first)), le-leb (layer_in k.octave) max_layers (omega (arith, z.last)), lt-leb (2 ^ 24) k.octave (omega (arith, z.third_byte)))
 
-  floats-right : floatsWrong k ≡ false
-  unfolding floatsWrong
-  floats-right = rw (z.x-number.ends, z.y-number.ends, z.size_number.ends, z.response-number.ends, z.xi-number.ends)
+  floats_right : floats_wrong k ≡ false
+  unfolding floats_wrong
+  floats_right = rw (z.x_number.ends, z.y_number.ends, z.size_number.ends, z.response_number.ends, z.xi_number.ends)
 
-  scale-right : scaleWrong k ≡ false
-  unfolding scaleWrong scale_of
-  scale-right = rw (z.low_byte, scale_in o k.size octave z.size-from z.size-to)
+  scale_right : scale_wrong k ≡ false
+  unfolding scale_wrong scale_of
+  scale_right = rw (z.low_byte, scale_in o k.size octave z.size_from z.size_to)
 
-  accepted : keypointWrong s k ≡ false
-  unfolding keypointWrong
-  accepted = rw (cell-right, octave-right, floats-right, scale-right)
+  accepted : keypoint_wrong s k ≡ false
+  unfolding keypoint_wrong
+  accepted = rw (cell_right, octave_right_lem, floats_right, scale_right)
 
-pub orient-rule : OrientRule
-orient-rule =
+pub orient_rule : OrientRule
+orient_rule =
     record {
-      read = λ s k. read_is (windowAt s k);
+      read = λ s k. read_is (window_at s k);
       few = few;
       passed = λ img s k i l. passed img s k i;
       accepted = accepted;

@@ -3,36 +3,36 @@ use Rattle.std.specs.Prelude.{ℕ, ◌/◌, ◌%◌, ◌^◌, Bool, ◌&&◌, �
 use Rattle.std.specs.Float.Ieee.Scale.{finite}
 use Rattle.ieee.specs.F32.{◌⊗◌, ◌⊘◌, float}
 use Rattle.ieee.specs.Numbers.{half}
-use Rattle.params.specs.Limits.{maxOctave, maxLayers, scaleLow, scaleHigh}
+use Rattle.params.specs.Limits.{max_octave, max_layers, scale_low, scale_high}
 use Rattle.params.specs.Table.{within}
 use Rattle.picture.specs.declared.Size.{Size}
 use Rattle.detect_keypoint.specs.declared.RawKeypoint.{RawKeypoint}
 
 -- its cell is none of the picture's
-unfoldable pub cellWrong : Size → RawKeypoint → Bool
-cellWrong s k = not (ltb k.rr s.height && ltb k.cc s.width)
+unfoldable pub cell_wrong : Size → RawKeypoint → Bool
+cell_wrong s k = not (ltb k.rr s.height && ltb k.cc s.width)
 
 -- the octave word's lowest bytes: rule A12
-abbrev pub octaveIn : ℕ → ℕ
-octaveIn word = word % 2 ^ 8
+abbrev pub octave_in : ℕ → ℕ
+octave_in word = word % 2 ^ 8
 
-abbrev pub layerIn : ℕ → ℕ
-layerIn word = word / 2 ^ 8 % 2 ^ 8
+abbrev pub layer_in : ℕ → ℕ
+layer_in word = word / 2 ^ 8 % 2 ^ 8
 
-unfoldable pub octaveWrong : ℕ → Bool
-octaveWrong word = ltb maxOctave (octaveIn word) || (not (leb 1 (layerIn word) && leb (layerIn word) maxLayers) || leb (2 ^ 24) word)
+unfoldable pub octave_wrong : ℕ → Bool
+octave_wrong word = ltb max_octave (octave_in word) || (not (leb 1 (layer_in word) && leb (layer_in word) max_layers) || leb (2 ^ 24) word)
 
 -- a float is an infinity or a not-a-number
-unfoldable pub floatsWrong : RawKeypoint → Bool
-floatsWrong k = not (finite k.x && (finite k.y && (finite k.size && (finite k.response && finite k.xi))))
+unfoldable pub floats_wrong : RawKeypoint → Bool
+floats_wrong k = not (finite k.x && (finite k.y && (finite k.size && (finite k.response && finite k.xi))))
 
 -- the scale in the keypoint's own octave: rule O1
 unfoldable pub scale_of : RawKeypoint → Float
-scale_of k = k.size ⊗ half ⊘ float (2 ^ octaveIn k.octave)
+scale_of k = k.size ⊗ half ⊘ float (2 ^ octave_in k.octave)
 
-unfoldable pub scaleWrong : RawKeypoint → Bool
-scaleWrong k = not (within scaleLow scaleHigh (scale_of k))
+unfoldable pub scale_wrong : RawKeypoint → Bool
+scale_wrong k = not (within scale_low scale_high (scale_of k))
 
 -- any of these; layer and moves are not looked at
-unfoldable pub keypointWrong : Size → RawKeypoint → Bool
-keypointWrong s k = cellWrong s k || (octaveWrong k.octave || (floatsWrong k || scaleWrong k))
+unfoldable pub keypoint_wrong : Size → RawKeypoint → Bool
+keypoint_wrong s k = cell_wrong s k || (octave_wrong k.octave || (floats_wrong k || scale_wrong k))

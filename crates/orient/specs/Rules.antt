@@ -1,17 +1,17 @@
 -- Law: what is proved of orientation beyond the entry's contract: proofs/Rules.antt proves each. Definitions only.
 use Rattle.std.specs.Prelude.{ℕ, ◌*◌, ◌<◌, ◌≤◌, ◌≡◌, false, List, length, get_or, Float}
 use Rattle.std.specs.Float.{nan}
-use Rattle.params.specs.Limits.{maxLayers, maxOctave}
+use Rattle.params.specs.Limits.{max_layers, max_octave}
 use Rattle.params.specs.declared.Settings.{Settings}
 use Rattle.picture.specs.declared.Size.{Size}
 use Rattle.detect_keypoint.specs.Sound.{Sound}
 use Rattle.detect_keypoint.specs.declared.RawKeypoint.{RawKeypoint}
-use Rattle.orient_window.specs.Window.{cellsRead}
-use Rattle.orient_peaks.specs.Rules.{maxPeaks}
-use Rattle.orient_words.specs.Oriented.{orientedOf}
+use Rattle.orient_window.specs.Window.{cells_read}
+use Rattle.orient_peaks.specs.Rules.{max_peaks}
+use Rattle.orient_words.specs.Oriented.{oriented_of}
 use Rattle.orient_words.specs.declared.OrientedKeypoint.{OrientedKeypoint}
-use Rattle.orient.specs.Keypoint.{keypointWrong}
-use Rattle.orient.specs.Entry.{windowAt, orientedList}
+use Rattle.orient.specs.Keypoint.{keypoint_wrong}
+use Rattle.orient.specs.Entry.{window_at, oriented_list}
 
 -- all but the angle is the raw keypoint's
 pub record Passed (k : RawKeypoint) (o : OrientedKeypoint) : Type 0 where
@@ -23,10 +23,10 @@ pub record Passed (k : RawKeypoint) (o : OrientedKeypoint) : Type 0 where
 
 pub record OrientRule : Type 0 where
   -- n, the number of cells read, is rows × columns
-  pub read : (s : Size) (k : RawKeypoint) → cellsRead (windowAt s k) ≡ (windowAt s k).rows * (windowAt s k).cols
+  pub read : (s : Size) (k : RawKeypoint) → cells_read (window_at s k) ≡ (window_at s k).rows * (window_at s k).cols
   -- at most 18 oriented keypoints
-  pub few : (img : List Float) (s : Size) (k : RawKeypoint) → length (orientedList img s k) ≤ maxPeaks
+  pub few : (img : List Float) (s : Size) (k : RawKeypoint) → length (oriented_list img s k) ≤ max_peaks
   -- x, y, size, response and octave pass through unchanged
-  pub passed : (img : List Float) (s : Size) (k : RawKeypoint) (i : ℕ) → i < length (orientedList img s k) → Passed k (get_or (orientedList img s k) i (orientedOf k nan))
+  pub passed : (img : List Float) (s : Size) (k : RawKeypoint) (i : ℕ) → i < length (oriented_list img s k) → Passed k (get_or (oriented_list img s k) i (oriented_of k nan))
   -- every keypoint that detection can give for a picture of that size passes number 5
-  pub accepted : (s : Size) (octave : ℕ) (settings : Settings) (k : RawKeypoint) → settings.layers ≤ maxLayers → octave ≤ maxOctave → Sound s.width s.height settings octave k → keypointWrong s k ≡ false
+  pub accepted : (s : Size) (octave : ℕ) (settings : Settings) (k : RawKeypoint) → settings.layers ≤ max_layers → octave ≤ max_octave → Sound s.width s.height settings octave k → keypoint_wrong s k ≡ false

@@ -2,10 +2,10 @@
 #![tactic(auto)]
 
 ghost use Rattle.std.specs.Prelude.{◌≡◌, ◌≤◌, length};
-ghost use Rattle.params.specs.Limits.{maxOctave};
-ghost use Rattle.orient.specs.Keypoint.{cellWrong, octaveIn, octaveWrong, floatsWrong, scale_of, scaleWrong, keypointWrong};
-ghost use Rattle.orient.specs.Entry.{windowAt, orientFault, orientAnswer, orientOut};
-ghost use Rattle.orient.specs.Given.{directionsOf};
+ghost use Rattle.params.specs.Limits.{max_octave};
+ghost use Rattle.orient.specs.Keypoint.{cell_wrong, octave_in, octave_wrong, floats_wrong, scale_of, scale_wrong, keypoint_wrong};
+ghost use Rattle.orient.specs.Entry.{window_at, orient_fault, orient_answer, orient_out};
+ghost use Rattle.orient.specs.Given.{directions_of};
 ghost use Rattle.orient.specs.Accepted.{Aimed, Ready};
 
 use detect_keypoint::RawKeypoint;
@@ -17,13 +17,13 @@ use picture::Size;
 // ---- number 5
 
 fn cell_wrong(s: Size, k: RawKeypoint) -> bool
-    ensures { result ≡ cellWrong s k }
+    ensures { result ≡ cell_wrong s k }
 {
     !(((k.rr as usize) < s.height) & ((k.cc as usize) < s.width))
 }
 
 fn octave_wrong(word: u32) -> bool
-    ensures { result ≡ octaveWrong word }
+    ensures { result ≡ octave_wrong word }
 {
     let octave = word % 256;
     let layer = word / 256 % 256;
@@ -31,7 +31,7 @@ fn octave_wrong(word: u32) -> bool
 }
 
 fn floats_wrong(k: RawKeypoint) -> bool
-    ensures { result ≡ floatsWrong k }
+    ensures { result ≡ floats_wrong k }
 {
     !(ieee::is_finite(k.x)
         & (ieee::is_finite(k.y)
@@ -40,7 +40,7 @@ fn floats_wrong(k: RawKeypoint) -> bool
 
 // The scale in the keypoint's own octave.
 fn scale_of(k: RawKeypoint) -> f32
-    requires { octaveIn k.octave ≤ maxOctave }
+    requires { octave_in k.octave ≤ max_octave }
     ensures { result ≡ scale_of k }
 {
     let power = 1u64 << (k.octave % 256);
@@ -48,8 +48,8 @@ fn scale_of(k: RawKeypoint) -> f32
 }
 
 fn scale_wrong(k: RawKeypoint) -> bool
-    requires { octaveIn k.octave ≤ maxOctave }
-    ensures { result ≡ scaleWrong k }
+    requires { octave_in k.octave ≤ max_octave }
+    ensures { result ≡ scale_wrong k }
 {
     let scale = scale_of(k);
     !((0.125 <= scale) & (scale <= 64.0))
@@ -57,7 +57,7 @@ fn scale_wrong(k: RawKeypoint) -> bool
 
 // A field is outside its range.
 pub fn keypoint_wrong(s: Size, k: RawKeypoint) -> bool
-    ensures { result ≡ keypointWrong s k }
+    ensures { result ≡ keypoint_wrong s k }
 {
     if cell_wrong(s, k) {
         return true;
@@ -70,14 +70,14 @@ pub fn keypoint_wrong(s: Size, k: RawKeypoint) -> bool
 
 fn window_at(s: Size, k: RawKeypoint) -> Window
     requires { Aimed s k }
-    ensures { result ≡ windowAt s k }
+    ensures { result ≡ window_at s k }
 {
     orient_window::window_of(s, k.rr as usize, k.cc as usize, scale_of(k))
 }
 
 // The first fault in the order of the table, 0 for none; room is tested later.
 fn fault_of(img: &[f32], s: Size, k: RawKeypoint) -> u32
-    ensures value { result ≡ orientFault img.now s k }
+    ensures value { result ≡ orient_fault img.now s k }
     ensures ready { result ≡ 0 → Ready img.now s k }
 {
     if params::shape_wrong(s.width, s.height) {
@@ -100,7 +100,7 @@ fn fault_of(img: &[f32], s: Size, k: RawKeypoint) -> u32
 
 fn angles_about(img: &[f32], s: Size, k: RawKeypoint) -> Directions
     requires { Ready img.now s k }
-    ensures { result ≡ directionsOf img.now s k }
+    ensures { result ≡ directions_of img.now s k }
 {
     let g = orient_gather::tally_of(img, window_at(s, k));
     let t = g.tally;
@@ -113,8 +113,8 @@ fn angles_about(img: &[f32], s: Size, k: RawKeypoint) -> Directions
 
 // An oriented keypoint for each peak of the gradients about a keypoint, as six words each, and the number of cells read.
 pub fn assign_orientations(img: &[f32], s: Size, k: RawKeypoint, out: &mut [u32]) -> OrientAnswer
-    ensures value { result ≡ orientAnswer img.now s k (length out.old) }
-    ensures out_after { out.new ≡ orientOut img.now s k out.old }
+    ensures value { result ≡ orient_answer img.now s k (length out.old) }
+    ensures out_after { out.new ≡ orient_out img.now s k out.old }
 {
     let fault = fault_of(img, s, k);
     if fault != 0 {

@@ -8,30 +8,30 @@ use native.Mathlib.Omega.{arith}
 use borrow.Author.Tests.{le-leb, lt-leb}
 use lib.Dec.{leb}
 use lib.Ieee.{Float}
-use Rattle.lists.proofs.Naturals.{le-or-lt}
+use Rattle.lists.proofs.Naturals.{le_or_lt}
 use Rattle.orient_window.specs.Window.{cell}
 use Rattle.orient_window.specs.Place.{Fits, cell_at}
 use Rattle.orient_window.specs.declared.Window.{Window}
-use Rattle.orient_window.proofs.Cells.{at-cell, cell-around}
-use Rattle.orient_tally.specs.Tally.{early, sampleOf, tallied}
+use Rattle.orient_window.proofs.Cells.{at_cell, cell_around}
+use Rattle.orient_tally.specs.Tally.{early, sample_of, tallied}
 use Rattle.orient_tally.specs.Place.{Placed, Asked, InRange}
-use Rattle.orient_tally.specs.Runs.{sampleIn}
-use Rattle.orient_gather.specs.Runs.{runOf, runLength}
+use Rattle.orient_tally.specs.Runs.{sample_in}
+use Rattle.orient_gather.specs.Runs.{run_of, run_length}
 use Rattle.orient_tally.specs.declared.Sample.{Sample}
 use Rattle.orient_tally.specs.declared.Run.{Run}
 use Rattle.orient_tally.specs.declared.Tally.{Tally}
 use Rattle.orient_tally.proofs.After.{after, after_more}
-use Rattle.orient_tally.proofs.Rules.{tally-rule}
+use Rattle.orient_tally.proofs.Rules.{tally_rule}
 
 -- ---- how long a run is
 
-pub length-late : (win : Window) (n k m : ℕ) → early n ≤ k → m ≡ win.cols - k % win.cols → m ≡ runLength win n k
-unfolding runLength
-length-late win n k m h z = z ∙ rw (le-leb (early n) k h)
+pub length_late : (win : Window) (n k m : ℕ) → early n ≤ k → m ≡ win.cols - k % win.cols → m ≡ run_length win n k
+unfolding run_length
+length_late win n k m h z = z ∙ rw (le-leb (early n) k h)
 
-pub length-early : (win : Window) (n k m : ℕ) → k < early n → m ≡ min (early n - k) (win.cols - k % win.cols) → m ≡ runLength win n k
-unfolding runLength
-length-early win n k m h z = z ∙ rw (lt-leb (early n) k h)
+pub length_early : (win : Window) (n k m : ℕ) → k < early n → m ≡ min (early n - k) (win.cols - k % win.cols) → m ≡ run_length win n k
+unfolding run_length
+length_early win n k m h z = z ∙ rw (lt-leb (early n) k h)
 
 -- it has a cell, it does not leave the row, and all of its cells are early, or all are late
 record Length (e k rest m : ℕ) : Type 0 where
@@ -39,12 +39,12 @@ record Length (e k rest m : ℕ) : Type 0 where
   pub inside : m ≤ rest
   pub alike : (i : ℕ) → i < m → leb e (k + i) ≡ leb e k
 
-length-of : (win : Window) (n k : ℕ) → k % win.cols < win.cols → Length (early n) k (win.cols - k % win.cols) (runLength win n k)
-length-of win n k h =
+length_of : (win : Window) (n k : ℕ) → k % win.cols < win.cols → Length (early n) k (win.cols - k % win.cols) (run_length win n k)
+length_of win n k h =
     ⊎_elim
-    (λ l. rw (← length-late win n k (win.cols - k % win.cols) l refl) (record { some = omega arith; inside = omega arith; alike = λ i b. rw (le-leb (early n) k l) (le-leb (early n) (k + i) (omega arith)) }))
-    (λ l. rw (← length-early win n k (min (early n - k) (win.cols - k % win.cols)) l refl) (record { some = omega arith; inside = omega arith; alike = λ i b. rw (lt-leb (early n) k l) (lt-leb (early n) (k + i) (omega arith)) }))
-    (le-or-lt (early n) k)
+    (λ l. rw (← length_late win n k (win.cols - k % win.cols) l refl) (record { some = omega arith; inside = omega arith; alike = λ i b. rw (le-leb (early n) k l) (le-leb (early n) (k + i) (omega arith)) }))
+    (λ l. rw (← length_early win n k (min (early n - k) (win.cols - k % win.cols)) l refl) (record { some = omega arith; inside = omega arith; alike = λ i b. rw (lt-leb (early n) k l) (lt-leb (early n) (k + i) (omega arith)) }))
+    (le_or_lt (early n) k)
 
 -- ---- a cell of a run
 
@@ -53,13 +53,13 @@ row_of k c i p h =
     let z : k + i ≡ (k % c + i) + k / c * c = omega (arith, div-add-mod' k c) in
     ap (λ (x : ℕ). x / c) z ∙ add-mul-div_right (k % c + i) (k / c) p ∙ rw (div-eq_of_lt h) (omega arith)
 
-col-of : (k c i : ℕ) → 0 < c → k % c + i < c → (k + i) % c ≡ k % c + i
-col-of k c i p h =
+col_of : (k c i : ℕ) → 0 < c → k % c + i < c → (k + i) % c ≡ k % c + i
+col_of k c i p h =
     let z : k + i ≡ k / c * c + (k % c + i) = omega (arith, div-add-mod' k c) in
     ap (λ (x : ℕ). x % c) z ∙ mul-add-mod_self_right (k / c) c (k % c + i) ∙ mod-eq_of_lt h
 
-cell-of : (win : Window) (k i : ℕ) → 0 < win.cols → k % win.cols + i < win.cols → cell_at win (k + i) ≡ cell (win.top + k / win.cols) (win.left + k % win.cols + i)
-cell-of win k i c h = rw (row_of k win.cols i c h, col-of k win.cols i c h) (ap (cell (win.top + k / win.cols)) (omega arith))
+cell_of_lem : (win : Window) (k i : ℕ) → 0 < win.cols → k % win.cols + i < win.cols → cell_at win (k + i) ≡ cell (win.top + k / win.cols) (win.left + k % win.cols + i)
+cell_of_lem win k i c h = rw (row_of k win.cols i c h, col_of k win.cols i c h) (ap (cell (win.top + k / win.cols)) (omega arith))
 
 -- what is known of the run of m cells that starts with the cell after k others
 pub record Goes (win : Window) (n k : ℕ) (r : Run) (m : ℕ) : Type 0 where
@@ -74,11 +74,11 @@ pub record Goes (win : Window) (n k : ℕ) (r : Run) (m : ℕ) : Type 0 where
   pub alike : (i : ℕ) → i < m → leb (early n) (k + i) ≡ r.late
   pub place : (i : ℕ) → i < m → cell_at win (k + i) ≡ cell r.y (r.from + i)
 
-goes_of : (win : Window) (n k : ℕ) → n ≡ win.rows * win.cols → k < n → Goes win n k (runOf win n k) (runLength win n k)
-unfolding runOf
+goes_of : (win : Window) (n k : ℕ) → n ≡ win.rows * win.cols → k < n → Goes win n k (run_of win n k) (run_length win n k)
+unfolding run_of
 goes_of win n k a h =
-    let c = at-cell win n k a h in
-    let e = length-of win n k c.col in
+    let c = at_cell win n k a h in
+    let e = length_of win n k c.col in
     let w = mul-le-mul_right win.cols c.row in
     record {
       of = refl;
@@ -89,31 +89,31 @@ goes_of win n k a h =
       inside = omega (arith, e.inside, c.col);
       most = omega (arith, e.inside, c.col, w, suc-mul (k / win.cols) win.cols, div-add-mod' k win.cols);
       alike = e.alike;
-      place = λ i b. cell-of win k i c.some (omega (arith, e.inside, c.col));
+      place = λ i b. cell_of_lem win k i c.some (omega (arith, e.inside, c.col));
     }
 
-pub goes : (win : Window) (n k : ℕ) (r : Run) (m : ℕ) → r ≡ runOf win n k → m ≡ runLength win n k → n ≡ win.rows * win.cols → k < n → Goes win n k r m
+pub goes : (win : Window) (n k : ℕ) (r : Run) (m : ℕ) → r ≡ run_of win n k → m ≡ run_length win n k → n ≡ win.rows * win.cols → k < n → Goes win n k r m
 goes win n k r m e l a h = rw (e, l) (goes_of win n k a h)
 
 -- the sample of a cell of a run is the one that the tally asks for
-sample-as : (img : List Float) (win : Window) (n k i : ℕ) (r : Run) → r.win ≡ win → leb (early n) k ≡ r.late → sampleIn img r i ≡ sampleOf img win n k (cell r.y (r.from + i))
-unfolding sampleIn sampleOf
-sample-as img win n k i r w l = rw (w, l)
+sample_as : (img : List Float) (win : Window) (n k i : ℕ) (r : Run) → r.win ≡ win → leb (early n) k ≡ r.late → sample_in img r i ≡ sample_of img win n k (cell r.y (r.from + i))
+unfolding sample_in sample_of
+sample_as img win n k i r w l = rw (w, l)
 
 pub after_run : (img : List Float) (win : Window) (n k i m : ℕ) (r : Run) (s : Sample) (t : Tally) → n ≡ win.rows * win.cols → Goes win n k r m → i < m
-    → s ≡ sampleIn img r i → t ≡ tallied (after img win (k + i)) s → t ≡ after img win (k + (i + 1))
+    → s ≡ sample_in img r i → t ≡ tallied (after img win (k + i)) s → t ≡ after img win (k + (i + 1))
 after_run img win n k i m r s t a g b p e =
     let y : (k + i) + 1 ≡ k + (i + 1) = omega arith in
-    let f : s ≡ sampleOf img win n (k + i) (cell_at win (k + i)) = p ∙ sample-as img win n (k + i) i r g.of (g.alike i b) ∙ ap (sampleOf img win n (k + i)) (sym (g.place i b)) in
+    let f : s ≡ sample_of img win n (k + i) (cell_at win (k + i)) = p ∙ sample_as img win n (k + i) i r g.of (g.alike i b) ∙ ap (sample_of img win n (k + i)) (sym (g.place i b)) in
     after_more img win n (k + i) s t a (omega (arith, g.most)) f e ∙ ap (after img win) y
 
 -- a cell of the window lies in the picture with its neighbours, and near the window's middle
 placed : {len : ℕ} {win : Window} → Fits len win → (i j : ℕ) → i < win.rows → j < win.cols → Placed len win (win.top + i) (win.left + j)
-placed f i j a b = record { around = cell-around f i j a b; near = record { high = omega arith; wide = omega arith; rows = omega arith; cols = omega arith } }
+placed f i j a b = record { around = cell_around f i j a b; near = record { high = omega arith; wide = omega arith; rows = omega arith; cols = omega arith } }
 
 -- and is asked inside the routines' ranges
 asked : (img : List Float) (win : Window) → InRange img win → (i j : ℕ) → i < win.rows → j < win.cols → Asked img win (win.top + i) (win.left + j)
-asked img win a i j p q = record { place = placed a.fits i j p q; slope = tally-rule.slopes img win i j a.good p q; down = a.down i j p q }
+asked img win a i j p q = record { place = placed a.fits i j p q; slope = tally_rule.slopes img win i j a.good p q; down = a.down i j p q }
 
 pub asked_in : (img : List Float) (win : Window) (n k i m : ℕ) (r : Run) → InRange img win → Goes win n k r m → i < m → Asked img r.win r.y (r.from + i)
 asked_in img win n k i m r a g l =

@@ -2,13 +2,13 @@
 #![tactic(auto)]
 
 ghost use Rattle.std.specs.Prelude.{◌≡◌, ◌+◌, ◌*◌, ◌<◌, ◌≤◌};
-ghost use Rattle.params.specs.Limits.{maxSide};
-ghost use Rattle.hal.specs.Powers.{pairs as pairTable};
-ghost use Rattle.hal_magnitude.specs.Cubics.{cubics as cubicTable};
-ghost use Rattle.hal_angle.specs.Turns.{turns as turnTable};
-ghost use Rattle.orient_tally.specs.Tally.{early, tally_of, gatheredOf};
+ghost use Rattle.params.specs.Limits.{max_side};
+ghost use Rattle.hal.specs.Powers.{pairs as pair_table};
+ghost use Rattle.hal_magnitude.specs.Cubics.{cubics as cubic_table};
+ghost use Rattle.hal_angle.specs.Turns.{turns as turn_table};
+ghost use Rattle.orient_tally.specs.Tally.{early, tally_of, gathered_of};
 ghost use Rattle.orient_tally.specs.Place.{InRange};
-ghost use Rattle.orient_gather.specs.Runs.{runOf, runLength};
+ghost use Rattle.orient_gather.specs.Runs.{run_of, run_length};
 
 use orient_tally::{Gathered, Run, Tally};
 use orient_window::Window;
@@ -22,8 +22,8 @@ fn early_of(n: usize) -> usize
 
 // Of n cells read the longest run that starts with the one after k others, lies in one row, and is early or late as a whole: where it starts.
 fn run_at(win: Window, n: usize, k: usize) -> Run
-    requires { (win.top + win.rows ≤ maxSide) × ((win.left + win.cols ≤ maxSide) × ((n ≡ win.rows * win.cols) × (k < n))) }
-    ensures { result ≡ runOf win n k }
+    requires { (win.top + win.rows ≤ max_side) × ((win.left + win.cols ≤ max_side) × ((n ≡ win.rows * win.cols) × (k < n))) }
+    ensures { result ≡ run_of win n k }
 {
     let late = early_of(n) <= k;
     Run {
@@ -37,7 +37,7 @@ fn run_at(win: Window, n: usize, k: usize) -> Run
 // How many cells it has: as many as are left of the row, or of the early ones.
 fn cells_at(win: Window, n: usize, k: usize) -> usize
     requires { (n ≡ win.rows * win.cols) × (k < n) }
-    ensures { result ≡ runLength win n k }
+    ensures { result ≡ run_length win n k }
 {
     let early = early_of(n);
     let rest = win.cols - k % win.cols;
@@ -56,7 +56,7 @@ fn gather<'a>(
     win: Window,
     n: usize,
 ) -> Tally
-    requires { (pairs.now ≡ pairTable) × ((cubics.now ≡ cubicTable) × ((turns.now ≡ turnTable) × (InRange img.now win × (n ≡ win.rows * win.cols)))) }
+    requires { (pairs.now ≡ pair_table) × ((cubics.now ≡ cubic_table) × ((turns.now ≡ turn_table) × (InRange img.now win × (n ≡ win.rows * win.cols)))) }
     ensures { result ≡ tally_of img.now win }
 {
     let mut t = orient_tally::fresh();
@@ -78,7 +78,7 @@ fn gather<'a>(
 // The tally of a window, and the number of cells read.
 pub fn tally_of(img: &[f32], win: Window) -> Gathered
     requires { InRange img.now win }
-    ensures { result ≡ gatheredOf img.now win }
+    ensures { result ≡ gathered_of img.now win }
 {
     let pairs = hal::pair_table();
     let cubics = hal_magnitude::cubic_table();

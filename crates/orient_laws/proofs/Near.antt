@@ -14,7 +14,7 @@ use lib.Ieee.Exact.{HasValue}
 use lib.Ieee.Fits.{nearest-le}
 use lib.Ieee.Nearest.{closest, closest_same, nearest-ge}
 use lib.Ieee.Scale.{grid, overflow, round_val}
-use Rattle.lists.proofs.Naturals.{le-or-lt}
+use Rattle.lists.proofs.Naturals.{le_or_lt}
 
 -- ---- the nearest whole number
 record Close (n u c : ℕ) : Type 0 where
@@ -34,19 +34,19 @@ cmp a b = go (compare a b) (leb→le a b) (nleb→lt a b) (eqb→eq a b) (λ (e 
     go Ordering.eq p q r s = r tt
     go Ordering.gt p q r s = q tt
 
-close-nearest : (w r u : ℕ) (o : Ordering) → Cmp o (r * 2) u → r < u → Close (w * u + r) u (nearest w o)
-close-nearest w r u Ordering.lt c h = record { low = omega arith; high = omega arith }
-close-nearest w r u Ordering.eq c h =
+close_nearest : (w r u : ℕ) (o : Ordering) → Cmp o (r * 2) u → r < u → Close (w * u + r) u (nearest w o)
+close_nearest w r u Ordering.lt c h = record { low = omega arith; high = omega arith }
+close_nearest w r u Ordering.eq c h =
     let a = mul-le-mul_right u (nearest-ge w Ordering.eq) in
     let b = mul-le-mul_right u (nearest-le w Ordering.eq) in
     let d = suc-mul w u in
     record { low = omega arith; high = omega arith }
-close-nearest w r u Ordering.gt c h = let d = suc-mul w u in record { low = omega arith; high = omega arith }
+close_nearest w r u Ordering.gt c h = let d = suc-mul w u in record { low = omega arith; high = omega arith }
 
 close_at : (n u : ℕ) → 0 < u → Close n u (closest n u)
 close_at n u U =
     subst (λ (z : ℕ). Close z u (closest n u)) (div-add-mod' n u)
-    (close-nearest (n / u) (n % u) u (compare (n % u * 2) u) (cmp (n % u * 2) u) (mod-lt n U))
+    (close_nearest (n / u) (n % u) u (compare (n % u * 2) u) (cmp (n % u * 2) u) (mod-lt n U))
 
 -- ---- n units of 2 ^ -149, rounded
 pub record Near (n r : ℕ) : Type 0 where
@@ -54,9 +54,9 @@ pub record Near (n r : ℕ) : Type 0 where
   pub high : 16777216 * r ≤ 16777217 * n
 
 -- a number that keeps k digits fewer, of 24
-near_of : (n k p c : ℕ) → 0 < n → (k ≡ 0 → p ≡ 1) → (0 < k → p * 8388608 ≤ n) → Close n p c → Near n (c * p)
-near_of n zero p c N a b q = let e = a refl in record { low = omega arith; high = omega arith }
-near_of n (suc k) p c N a b q = let e = b (omega arith) in record { low = omega arith; high = omega arith }
+near_of_lem : (n k p c : ℕ) → 0 < n → (k ≡ 0 → p ≡ 1) → (0 < k → p * 8388608 ≤ n) → Close n p c → Near n (c * p)
+near_of_lem n zero p c N a b q = let e = a refl in record { low = omega arith; high = omega arith }
+near_of_lem n (suc k) p c N a b q = let e = b (omega arith) in record { low = omega arith; high = omega arith }
 
 under : (r n top o : ℕ) → 16777216 * r ≤ 16777217 * n → n < top → top * 2 ≡ o → r < o
 under r n top o a b c = omega arith
@@ -71,8 +71,8 @@ module _ (U : ℕ) (is : U ≡ 2 ^ 149) (n : ℕ) (some : 0 < n) where
   whole : n * 2 ^ 149 / U ≡ n
   whole = rw (← is) (mul-div_cancel n unit)
 
-  grid-is : grid binary32 n U ≡ closest n (2 ^ fewer) * 2 ^ fewer
-  grid-is =
+  grid_is : grid binary32 n U ≡ closest n (2 ^ fewer) * 2 ^ fewer
+  grid_is =
       rw whole
       (ap (λ (z : ℕ). z * 2 ^ fewer)
       (closest_same (n * 2 ^ 149) (U * 2 ^ fewer) n (2 ^ fewer) (mul-pos unit (pow_pos fewer)) (pow_pos fewer) (rw is (mul_assoc n (2 ^ 149) (2 ^ fewer)))))
@@ -81,11 +81,11 @@ module _ (U : ℕ) (is : U ≡ 2 ^ 149) (n : ℕ) (some : 0 < n) where
   digits h = le_trans (le_of_eq (sym (pow-add 2 fewer 23))) (size_reaches n (fewer + 23) (omega arith))
 
   pub near : Near n (grid binary32 n U)
-  near = rw grid-is (near_of n fewer (2 ^ fewer) (closest n (2 ^ fewer)) some (λ e. ap (λ (z : ℕ). 2 ^ z) e) digits (close_at n (2 ^ fewer) (pow_pos fewer)))
+  near = rw grid_is (near_of_lem n fewer (2 ^ fewer) (closest n (2 ^ fewer)) some (λ e. ap (λ (z : ℕ). 2 ^ z) e) digits (close_at n (2 ^ fewer) (pow_pos fewer)))
 
   -- below 2 ^ 276 units it has that value
-  pub near-value : (top : ℕ) → top * 2 ≡ overflow binary32 → n < top → HasValue (round binary32 false n U) false (grid binary32 n U) U
-  near-value top e h = subst (λ (z : ℕ). HasValue (round binary32 false n U) false (grid binary32 n U) z) (sym is) (round_val binary32 n U (under (grid binary32 n U) n top (overflow binary32) near.high h e))
+  pub near_value : (top : ℕ) → top * 2 ≡ overflow binary32 → n < top → HasValue (round binary32 false n U) false (grid binary32 n U) U
+  near_value top e h = subst (λ (z : ℕ). HasValue (round binary32 false n U) false (grid binary32 n U) z) (sym is) (round_val binary32 n U (under (grid binary32 n U) n top (overflow binary32) near.high h e))
 
 -- ---- two numbers of 24 digits each: the larger is at most 2 ^ 25 times what lies between them
 shifted : (p q i d : ℕ) → q * 2 ^ i < p * 2 ^ (i + d) → 2 ^ i ≤ p * 2 ^ (i + d) - q * 2 ^ i
@@ -106,13 +106,13 @@ shifted' p q i d h =
 
 -- x of the digits q, y of the digits p
 gap_of : (x y u v : ℕ) → x < y → x < 16777216 * u → y < 16777216 * v → (u ≤ y - x) ⊎ (v ≤ y - x) → y ≤ 33554432 * (y - x)
-gap_of x y u v h a b (inl c) = ⊎_elim (λ l. omega arith) (λ l. omega arith) (le-or-lt (2 * x) y)
+gap_of x y u v h a b (inl c) = ⊎_elim (λ l. omega arith) (λ l. omega arith) (le_or_lt (2 * x) y)
 gap_of x y u v h a b (inr c) = omega arith
 
 pub gap : (q j p i : ℕ) → q < 16777216 → p < 16777216 → q * 2 ^ j < p * 2 ^ i → p * 2 ^ i ≤ 33554432 * (p * 2 ^ i - q * 2 ^ j)
 gap q j p i a b h =
     gap_of (q * 2 ^ j) (p * 2 ^ i) (2 ^ j) (2 ^ i) h (below q j a) (below p i b)
-    (⊎_elim (λ l. inl (up l)) (λ l. inr (down l)) (le-or-lt j i))
+    (⊎_elim (λ l. inl (up l)) (λ l. inr (down l)) (le_or_lt j i))
   where
     below : (q j : ℕ) → q < 16777216 → q * 2 ^ j < 16777216 * 2 ^ j
     below q j a = mul-lt-mul_of_pos_right a (pow_pos j)
@@ -125,4 +125,4 @@ gap q j p i a b h =
 
 -- ---- the parabola's divisor, in units: 2m - l rounded to c, and c - r. What lies between l and r is at most 8 times that.
 pub divisor : (l m r c : ℕ) → l < m → r < m → m ≤ c → m ≤ 33554432 * (m - r) → Near (2 * m - l) c → l < r → r - l ≤ 8 * (c - r)
-divisor l m r c a b k g e h = ⊎_elim (λ s. omega (arith, e.low)) (λ s. omega (arith, e.low)) (le-or-lt m (4194304 * (r - l)))
+divisor l m r c a b k g e h = ⊎_elim (λ s. omega (arith, e.low)) (λ s. omega (arith, e.low)) (le_or_lt m (4194304 * (r - l)))

@@ -12,23 +12,23 @@ use lib.Pow.{pow_pos, pow-add, pow_mono}
 use lib.Ieee.{Float, inf, fin, binary32, hid, top, lt, of_bits, to_bits}
 use lib.Ieee.Exact.{HasValue}
 use lib.Ieee.Scale.{finite}
-use Rattle.lists.proofs.Naturals.{le-or-lt}
-use Rattle.ieee.specs.Numbers.{wholeTurn}
-use Rattle.packing.proofs.Fields.{value_low, value-normal}
+use Rattle.lists.proofs.Naturals.{le_or_lt}
+use Rattle.ieee.specs.Numbers.{whole_turn}
+use Rattle.packing.proofs.Fields.{value_low, value_normal}
 use Rattle.ieee_laws.proofs.Order.{Marked, endless, ended}
-use Rattle.sheet.specs.Layout.{largestAngle}
-use Rattle.orient_laws.proofs.Units.{At, value-at, at_less}
+use Rattle.sheet.specs.Layout.{largest_angle}
+use Rattle.orient_laws.proofs.Units.{At, value_at, at_less}
 use Rattle.orient_laws.proofs.Wrap.{Angle}
 
 -- 360, in the smallest units
-turn_at : At wholeTurn (360 * 2 ^ 149)
+turn_at_lem : At whole_turn (360 * 2 ^ 149)
 unfolding of_bits
-turn_at = value-at (fin false 45 (pos 3)) (360 * 2 ^ 149) (refl, sym (mul-one (360 * 2 ^ 149)))
+turn_at_lem = value_at (fin false 45 (pos 3)) (360 * 2 ^ 149) (refl, sym (mul-one (360 * 2 ^ 149)))
 
-pub angle-finite : (a : Float) → Marked false a → lt a wholeTurn ≡ true → finite a ≡ true
+pub angle_finite : (a : Float) → Marked false a → lt a whole_turn ≡ true → finite a ≡ true
 unfolding lt of_bits
-angle-finite (inf false) endless h = absurd (false≢true h)
-angle-finite (fin false m e) ended h = refl
+angle_finite (inf false) endless h = absurd (false≢true h)
+angle_finite (fin false m e) ended h = refl
 
 sign_of : (a : Float) (s : Bool) (n c : ℕ) → Marked false a → HasValue a s n c → s ≡ false
 sign_of (inf false) s n c endless h = absurd h
@@ -49,7 +49,7 @@ far P t y p h =
     short t y (lt_of_mul-lt-mul_right P (subst (λ (z : ℕ). z < 11796480 * P) e h))
 
 small : (x t : ℕ) → t < 8388608 → (8388608 + t) * 2 ^ x < 360 * 2 ^ 149 → suc x * 8388608 + t < 1135869952
-small x t l h = ⊎_elim near (λ k. omega arith) (le-or-lt 134 x)
+small x t l h = ⊎_elim near (λ k. omega arith) (le_or_lt 134 x)
   where
     near : 134 ≤ x → suc x * 8388608 + t < 1135869952
     near k =
@@ -66,7 +66,7 @@ module _ (a : Float) (g : Angle a) where
   b = to_bits binary32 a
 
   ends : finite a ≡ true
-  ends = angle-finite a g.clear g.below
+  ends = angle_finite a g.clear g.below
 
   low_field : (x : ℕ) → b % top binary32 / hid binary32 ≡ x → b < 1135869952
   low_field zero e =
@@ -74,13 +74,13 @@ module _ (a : Float) (g : Angle a) where
       let s = leb-false (top binary32) b (sign_of a _ _ _ g.clear v) in
       omega (arith, parts b s, mod-lt b {m = 8388608} (omega arith))
   low_field (suc x) e =
-      let v = value-normal binary32 a g.held ends x e in
+      let v = value_normal binary32 a g.held ends x e in
       let z = sign_of a (leb (top binary32) b) _ _ g.clear v in
       let s = leb-false (top binary32) b z in
       let w : HasValue a false ((8388608 + b % 8388608) * 2 ^ x) (2 ^ 149) = subst (λ (t : Bool). HasValue a t ((8388608 + b % 8388608) * 2 ^ x) (2 ^ 149)) z v in
-      let l = at_less a wholeTurn _ _ (value-at a _ w) turn_at g.below in
+      let l = at_less a whole_turn _ _ (value_at a _ w) turn_at_lem g.below in
       let k = small x (b % 8388608) (mod-lt b (omega arith)) l in
       omega (arith, parts b s)
 
-  pub pattern : to_bits binary32 a ≤ largestAngle
+  pub pattern : to_bits binary32 a ≤ largest_angle
   pattern = omega (arith, low_field (b % top binary32 / hid binary32) refl)

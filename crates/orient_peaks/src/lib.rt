@@ -3,7 +3,7 @@
 
 ghost use Rattle.std.specs.Prelude.{◌≡◌, ◌<◌, ◌≤◌};
 ghost use Rattle.orient_tally.specs.Sample.{bins};
-ghost use Rattle.orient_peaks.specs.Peaks.{around, smoothAt, smoothed, largerOf, largestTo, leastOf, isPeak, crestOf, wrapped, closed, degreesOf, peakAngle, anglesIn, anglesOf};
+ghost use Rattle.orient_peaks.specs.Peaks.{around, smooth_at, smoothed, larger_of, largest_to, least_of, is_peak, crest_of, wrapped, closed, degrees_of, peak_angle, angles_in, angles_of};
 ghost use Rattle.orient_peaks.specs.Found.{held_of};
 
 // The angles found, in the first `count` places; the other places hold +0.
@@ -21,7 +21,7 @@ fn bin_around(b: &[f32; 36], k: usize) -> f32
 
 fn smooth_at(b: &[f32; 36], i: usize) -> f32
     requires { i < bins }
-    ensures { result ≡ smoothAt b.now i }
+    ensures { result ≡ smooth_at b.now i }
 {
     let far = bin_around(b, i + 36 - 2) + bin_around(b, i + 2);
     let near = bin_around(b, i + 36 - 1) + bin_around(b, i + 1);
@@ -43,13 +43,13 @@ fn smooth(b: &[f32; 36]) -> [f32; 36]
 
 // The larger of two, and the first where neither is.
 fn larger(m: f32, v: f32) -> f32
-    ensures { result ≡ largerOf m v }
+    ensures { result ≡ larger_of m v }
 {
     if v > m { v } else { m }
 }
 
 fn least_of(h: &[f32; 36]) -> f32
-    ensures { result ≡ leastOf h.now }
+    ensures { result ≡ least_of h.now }
 {
     let mut top = h[0];
     let mut i: usize = 1;
@@ -62,7 +62,7 @@ fn least_of(h: &[f32; 36]) -> f32
 
 fn is_peak(h: &[f32; 36], least: f32, j: usize) -> bool
     requires { j < bins }
-    ensures { result ≡ isPeak h.now least j }
+    ensures { result ≡ is_peak h.now least j }
 {
     let m = bin_around(h, j);
     let l = bin_around(h, j + 36 - 1);
@@ -73,7 +73,7 @@ fn is_peak(h: &[f32; 36], least: f32, j: usize) -> bool
 // The top of the parabola through a peak at bin j and its neighbours.
 fn crest(j: usize, l: f32, m: f32, r: f32) -> f32
     requires { j < bins }
-    ensures { result ≡ crestOf j l m r }
+    ensures { result ≡ crest_of j l m r }
 {
     let den = l - 2.0 * m + r;
     (j as u16) as f32 + 0.5 * (l - r) / den
@@ -104,7 +104,7 @@ fn closed_at(a: f32) -> f32
 
 fn peak_angle(h: &[f32; 36], j: usize) -> f32
     requires { j < bins }
-    ensures { result ≡ peakAngle h.now j }
+    ensures { result ≡ peak_angle h.now j }
 {
     let l = bin_around(h, j + 36 - 1);
     let m = bin_around(h, j);
@@ -113,7 +113,7 @@ fn peak_angle(h: &[f32; 36], j: usize) -> f32
 }
 
 fn angles_in(h: &[f32; 36]) -> Angles
-    ensures { result ≡ held_of (anglesIn h.now) }
+    ensures { result ≡ held_of (angles_in h.now) }
 {
     let least = least_of(h);
     let mut all = [0.0; 36];
@@ -134,7 +134,7 @@ fn angles_in(h: &[f32; 36]) -> Angles
 
 // The angles that a tally gives, none where there is no peak.
 pub fn angles_of(b: &[f32; 36]) -> Angles
-    ensures { result ≡ held_of (anglesOf b.now) }
+    ensures { result ≡ held_of (angles_of b.now) }
 {
     let h = smooth(b);
     angles_in(&h)

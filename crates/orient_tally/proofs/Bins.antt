@@ -29,8 +29,8 @@ module _ {M : Type 1} {𝓤 : Ura M} (𝓛 : Logic 𝓤) where
   Kept h b o = kept_record_as T.the_type T'.the_laws 0 0 Bins (λ x. x) (λ x. x) (λ y b o. List-same f32 bins full_share y b o) (λ y b o. sym (List-same f32 bins full_share y b o)) (T.struct).as_values (T.struct).Ghost (T.struct).make (λ v. tt) (λ x. refl) (λ v g. refl) M 𝓤 𝓛 h b o
 
   module _ where
-    pub bins-out : (h : Tally) (b o : ℕ) → ent 𝓤 (sem 𝓛 (part_at T.the_row full_share h b o)) (sep 𝓤 (sem 𝓛 (part_at Bins full_share h.bins b (o + 0))) (mean 𝓛 (Kept h b o)))
-    bins-out h b o = record_apart_as T.the_type T'.the_laws 0 0 Bins (λ x. x) (λ x. x) (λ y b o. List-same f32 bins full_share y b o) (λ y b o. sym (List-same f32 bins full_share y b o)) (T.struct).as_values (T.struct).Ghost (T.struct).make (λ v. tt) (λ x. refl) (λ v g. refl) 𝓛 refl refl h b o
+    pub bins_out : (h : Tally) (b o : ℕ) → ent 𝓤 (sem 𝓛 (part_at T.the_row full_share h b o)) (sep 𝓤 (sem 𝓛 (part_at Bins full_share h.bins b (o + 0))) (mean 𝓛 (Kept h b o)))
+    bins_out h b o = record_apart_as T.the_type T'.the_laws 0 0 Bins (λ x. x) (λ x. x) (λ y b o. List-same f32 bins full_share y b o) (λ y b o. sym (List-same f32 bins full_share y b o)) (T.struct).as_values (T.struct).Ghost (T.struct).make (λ v. tt) (λ x. refl) (λ v g. refl) 𝓛 refl refl h b o
 
-    pub bins-in : (h : Tally) (l : List Float) (b o : ℕ) → ent 𝓤 (sep 𝓤 (sem 𝓛 (part_at Bins full_share l b (o + 0))) (mean 𝓛 (Kept h b o))) (sem 𝓛 (part_at T.the_row full_share (record { bins = l }) b o))
-    bins-in h l b o = record_fill_as T.the_type T'.the_laws 0 0 Bins (λ x. x) (λ x. x) (λ y b o. List-same f32 bins full_share y b o) (λ y b o. sym (List-same f32 bins full_share y b o)) (T.struct).as_values (T.struct).Ghost (T.struct).make (λ v. tt) (λ x. refl) (λ v g. refl) refl M 𝓤 𝓛 h l b o
+    pub bins_in : (h : Tally) (l : List Float) (b o : ℕ) → ent 𝓤 (sep 𝓤 (sem 𝓛 (part_at Bins full_share l b (o + 0))) (mean 𝓛 (Kept h b o))) (sem 𝓛 (part_at T.the_row full_share (record { bins = l }) b o))
+    bins_in h l b o = record_fill_as T.the_type T'.the_laws 0 0 Bins (λ x. x) (λ x. x) (λ y b o. List-same f32 bins full_share y b o) (λ y b o. sym (List-same f32 bins full_share y b o)) (T.struct).as_values (T.struct).Ghost (T.struct).make (λ v. tt) (λ x. refl) (λ v g. refl) refl M 𝓤 𝓛 h l b o

@@ -8,15 +8,15 @@ use lib.Dec.{T, eqb, eqb→eq}
 use lib.IntN.{pos}
 use lib.Ieee.{Float, fin, binary32, of_bits, to_bits, of_int, is_nan, mul, lt, le, to_unsigned}
 use Rattle.lists.specs.Ranges.{every}
-use Rattle.lists.proofs.Every.{every-all}
+use Rattle.lists.proofs.Every.{every_all}
 use Rattle.lists.proofs.Bools.{and_both, is_T}
 use Rattle.ieee.specs.F32.{◌⊕◌, ◌⊗◌, rounded}
-use Rattle.ieee.specs.Whole.{roundEven}
-use Rattle.ieee_laws.proofs.Order.{le_lt_trans, lt-le}
-use Rattle.ieee_laws.proofs.Bounds.{Bounds, bounds-point, mul-bounds, roundEven-bounds}
-use Rattle.hal_angle.specs.Angle.{angleOf}
-use Rattle.hal_reach.specs.Reach.{inAngle}
-use Rattle.hal_angle.proofs.Rules.{angle-rule}
+use Rattle.ieee.specs.Whole.{round_even}
+use Rattle.ieee_laws.proofs.Order.{le_lt_trans, lt_le}
+use Rattle.ieee_laws.proofs.Bounds.{Bounds, bounds_point, mul_bounds, round_even_bounds}
+use Rattle.hal_angle.specs.Angle.{angle_of}
+use Rattle.hal_reach.specs.Reach.{in_angle}
+use Rattle.hal_angle.proofs.Rules.{angle_rule}
 use Rattle.ieee_laws.proofs.Cuts.{Cuts, cuts}
 use Rattle.orient_tally.specs.Sample.{bins, tenth, bin_of}
 use Rattle.orient_tally.proofs.Lifted.{significand, place, lifts, amount, lift, lifted}
@@ -45,70 +45,70 @@ raised j = of_int binary32 (pos (j + amount))
 abbrev shows : ℕ → Bool
 shows j = not (is_nan (raised j)) && eqb (to_bits binary32 (raised j) % 64) j
 
-all-show : every (bins + 1) shows ≡ true
+all_show : every (bins + 1) shows ≡ true
 unfolding every of_int to_bits is_nan
-all-show = refl
+all_show = refl
 
-last-bits : (j : ℕ) → j < bins + 1 → T (not (is_nan (raised j))) × (to_bits binary32 (raised j) % 64 ≡ j)
-last-bits j h =
-    let p = and_both (not (is_nan (raised j))) _ (every-all (bins + 1) shows all-show j h) in
+last_bits : (j : ℕ) → j < bins + 1 → T (not (is_nan (raised j))) × (to_bits binary32 (raised j) % 64 ≡ j)
+last_bits j h =
+    let p = and_both (not (is_nan (raised j))) _ (every_all (bins + 1) shows all_show j h) in
     (is_T _ p.0, eqb→eq _ _ (is_T _ p.1))
 
 module _ (a : Float) (low : T (le (fin false 0 (pos 0)) a)) (high : T (lt a turn)) where
-  turn-bounds : Bounds (fin false 0 (pos 0)) turn a
-  turn-bounds = record { from = refl; to = refl; low = of_T _ low; high = lt-le a turn (of_T _ high) }
+  turn_bounds : Bounds (fin false 0 (pos 0)) turn a
+  turn_bounds = record { from = refl; to = refl; low = of_T _ low; high = lt_le a turn (of_T _ high) }
 
-  tenth-bounds : Bounds (tenth ⊗ fin false 0 (pos 0)) (tenth ⊗ turn) (tenth ⊗ a)
+  tenth_bounds : Bounds (tenth ⊗ fin false 0 (pos 0)) (tenth ⊗ turn) (tenth ⊗ a)
   unfolding of_bits mul le
-  tenth-bounds = mul-bounds binary32 refl refl refl refl (bounds-point tenth refl) turn-bounds
+  tenth_bounds = mul_bounds binary32 refl refl refl refl (bounds_point tenth refl) turn_bounds
 
   pub bin_small : lt (tenth ⊗ a) forty ≡ true
   unfolding of_bits mul lt
-  bin_small = le_lt_trans (tenth ⊗ a) (tenth ⊗ turn) forty tenth-bounds.high refl
+  bin_small = le_lt_trans (tenth ⊗ a) (tenth ⊗ turn) forty tenth_bounds.high refl
 
-  bin-cuts : Cuts bins (rounded (tenth ⊗ a))
-  unfolding of_bits mul lt roundEven to_unsigned
-  bin-cuts = cuts bins refl refl (omega arith) (roundEven-bounds binary32 refl refl tenth-bounds)
+  bin_cuts : Cuts bins (rounded (tenth ⊗ a))
+  unfolding of_bits mul lt round_even to_unsigned
+  bin_cuts = cuts bins refl refl (omega arith) (round_even_bounds binary32 refl refl tenth_bounds)
 
-  bin-least : le (fin false 0 (pos 0)) (tenth ⊗ a) ≡ true
+  bin_least : le (fin false 0 (pos 0)) (tenth ⊗ a) ≡ true
   unfolding of_bits mul
-  bin-least = tenth-bounds.low
+  bin_least = tenth_bounds.low
 
   pub binned : Binned a
   binned =
       let n = to_unsigned 64 (rounded (tenth ⊗ a)) in
-      let s : n ≤ bins = bin-cuts.size in
-      let e = lifted significand place amount refl lifts (tenth ⊗ a) bin-least bin_small in
-      let r = last-bits n (omega arith) in
+      let s : n ≤ bins = bin_cuts.size in
+      let e = lifted significand place amount refl lifts (tenth ⊗ a) bin_least bin_small in
+      let r = last_bits n (omega arith) in
       record { fine = rw e r.0; is = rw e r.1; size = s }
 
 -- of a direction in the routine's range
-pub binned-in : (dx dy : Float) → inAngle dx dy ≡ true → Binned (angleOf dx dy)
+pub binned_in : (dx dy : Float) → in_angle dx dy ≡ true → Binned (angle_of dx dy)
 unfolding of_bits
-binned-in dx dy e = binned (angleOf dx dy) (angle-rule.least dx dy (is_T _ e)) (angle-rule.below dx dy (is_T _ e))
+binned_in dx dy e = binned (angle_of dx dy) (angle_rule.least dx dy (is_T _ e)) (angle_rule.below dx dy (is_T _ e))
 
 bin_high : (a : Float) (b : ℕ) → b ≡ to_unsigned 64 (rounded (tenth ⊗ a)) → bins ≤ b → bin_of a ≡ b - bins
 unfolding bin_of
 bin_high a b e h = rw (← e, le-leb bins b h)
 
-bin-low : (a : Float) (b : ℕ) → b ≡ to_unsigned 64 (rounded (tenth ⊗ a)) → b < bins → bin_of a ≡ b
+bin_low : (a : Float) (b : ℕ) → b ≡ to_unsigned 64 (rounded (tenth ⊗ a)) → b < bins → bin_of a ≡ b
 unfolding bin_of
-bin-low a b e h = rw (← e, lt-leb bins b h)
+bin_low a b e h = rw (← e, lt-leb bins b h)
 
 -- the bin as the code finds it: the last six bits, or as much less a whole turn
 abbrev found : Float → ℕ
 found a = to_bits binary32 (tenth ⊗ a ⊕ lift) % 64
 
-pub found-high : (dx dy a : Float) → a ≡ angleOf dx dy → inAngle dx dy ≡ true → bins ≤ found a → (found a - bins ≡ bin_of (angleOf dx dy)) × (found a - bins < bins)
-found-high dx dy a e h l =
-    let r = binned-in dx dy h in
-    let z : found a ≡ found (angleOf dx dy) = ap found e in
-    let b = bin_high (angleOf dx dy) (found (angleOf dx dy)) r.is (omega arith) in
+pub found_high : (dx dy a : Float) → a ≡ angle_of dx dy → in_angle dx dy ≡ true → bins ≤ found a → (found a - bins ≡ bin_of (angle_of dx dy)) × (found a - bins < bins)
+found_high dx dy a e h l =
+    let r = binned_in dx dy h in
+    let z : found a ≡ found (angle_of dx dy) = ap found e in
+    let b = bin_high (angle_of dx dy) (found (angle_of dx dy)) r.is (omega arith) in
     (omega arith, omega (arith, r.is, r.size))
 
-pub found-low : (dx dy a : Float) → a ≡ angleOf dx dy → inAngle dx dy ≡ true → found a < bins → (found a ≡ bin_of (angleOf dx dy)) × (found a < bins)
-found-low dx dy a e h l =
-    let r = binned-in dx dy h in
-    let z : found a ≡ found (angleOf dx dy) = ap found e in
-    let b = bin-low (angleOf dx dy) (found (angleOf dx dy)) r.is (omega arith) in
+pub found_low : (dx dy a : Float) → a ≡ angle_of dx dy → in_angle dx dy ≡ true → found a < bins → (found a ≡ bin_of (angle_of dx dy)) × (found a < bins)
+found_low dx dy a e h l =
+    let r = binned_in dx dy h in
+    let z : found a ≡ found (angle_of dx dy) = ap found e in
+    let b = bin_low (angle_of dx dy) (found (angle_of dx dy)) r.is (omega arith) in
     (omega arith, l)

@@ -3,7 +3,7 @@ use Rattle.std.specs.Prelude.{ℕ, ◌+◌, ◌-◌, ◌*◌, cond, leb, pos, Fl
 use Rattle.std.specs.Float.{binary32}
 use Rattle.std.specs.Float.Ieee.{of_int, to_unsigned}
 use Rattle.ieee.specs.F32.{◌⊗◌, f32, rounded}
-use Rattle.hal.specs.Exp.{expOf}
+use Rattle.hal.specs.Exp.{exp_of}
 use Rattle.orient_window.specs.Window.{Cell}
 use Rattle.orient_window.specs.declared.Window.{Window}
 
@@ -16,12 +16,12 @@ abbrev pub apart : ℕ → ℕ → ℕ
 apart a b = (a - b) + (b - a)
 
 -- the squared distance of a cell from the window's middle
-unfoldable pub squareAt : Window → Cell → ℕ
-squareAt win c =
+unfoldable pub square_at : Window → Cell → ℕ
+square_at win c =
     apart c.row win.row * apart c.row win.row + apart c.col win.col * apart c.col win.col
 
-unfoldable pub weightAt : Window → Cell → Float
-weightAt win c = expOf (of_int binary32 (pos (squareAt win c)) ⊗ win.falloff)
+unfoldable pub weight_at : Window → Cell → Float
+weight_at win c = exp_of (of_int binary32 (pos (square_at win c)) ⊗ win.falloff)
 
 -- 36 / 360, as an f32
 abbrev pub tenth : Float

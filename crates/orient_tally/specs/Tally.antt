@@ -3,11 +3,11 @@ use Rattle.std.specs.Prelude.{ℕ, ◌+◌, ◌-◌, ◌%◌, cond, List, [], �
 use Rattle.std.specs.Float.{nan}
 use Rattle.ieee.specs.F32.{◌⊕◌, ◌⊗◌, fused}
 use Rattle.ieee.specs.Numbers.{nought}
-use Rattle.hal_angle.specs.Angle.{angleOf}
-use Rattle.hal_magnitude.specs.Magnitude.{magnitudeOf}
-use Rattle.picture.specs.Picture.{slopeAt}
-use Rattle.orient_window.specs.Window.{Cell, cells_of, cellsRead}
-use Rattle.orient_tally.specs.Sample.{bins, weightAt, bin_of}
+use Rattle.hal_angle.specs.Angle.{angle_of}
+use Rattle.hal_magnitude.specs.Magnitude.{magnitude_of}
+use Rattle.picture.specs.Picture.{slope_at}
+use Rattle.orient_window.specs.Window.{Cell, cells_of, cells_read}
+use Rattle.orient_tally.specs.Sample.{bins, weight_at, bin_of}
 use Rattle.orient_window.specs.declared.Window.{Window}
 use Rattle.orient_tally.specs.declared.Sample.{Sample}
 use Rattle.orient_tally.specs.declared.Tally.{Tally}
@@ -18,13 +18,13 @@ abbrev pub early : ℕ → ℕ
 early n = n - n % 4
 
 -- the sample of a cell, of n cells read the one after k others: whether it is late goes by the cells read
-unfoldable pub sampleOf : List Float → Window → ℕ → ℕ → Cell → Sample
-sampleOf img win n k c =
-    let s = slopeAt img win.size.width c.row c.col in
+unfoldable pub sample_of : List Float → Window → ℕ → ℕ → Cell → Sample
+sample_of img win n k c =
+    let s = slope_at img win.size.width c.row c.col in
     record {
-      bin = bin_of (angleOf s.dx s.dy);
-      weight = weightAt win c;
-      magnitude = magnitudeOf s.dx s.dy;
+      bin = bin_of (angle_of s.dx s.dy);
+      weight = weight_at win c;
+      magnitude = magnitude_of s.dx s.dy;
       late = leb (early n) k;
     }
 
@@ -49,8 +49,8 @@ counted f k [] t = t
 counted f k (c ∷ cs) t = counted f (k + 1) cs (tallied t (f k c))
 
 unfoldable pub tally_of : List Float → Window → Tally
-tally_of img win = counted (sampleOf img win (cellsRead win)) 0 (cells_of win) empty
+tally_of img win = counted (sample_of img win (cells_read win)) 0 (cells_of win) empty
 
 -- the tally, and the number of cells read
-unfoldable pub gatheredOf : List Float → Window → Gathered
-gatheredOf img win = record { tally = tally_of img win; read = cellsRead win }
+unfoldable pub gathered_of : List Float → Window → Gathered
+gathered_of img win = record { tally = tally_of img win; read = cells_read win }

@@ -2,19 +2,19 @@
 #![tactic(auto)]
 
 ghost use Rattle.std.specs.Prelude.{◌≡◌, true, ◌+◌, ◌*◌, ◌<◌, ◌≤◌, pos};
-ghost use Rattle.params.specs.Limits.{maxSide};
-ghost use Rattle.hal.specs.Powers.{pairs as pairTable};
-ghost use Rattle.hal_magnitude.specs.Cubics.{cubics as cubicTable};
-ghost use Rattle.hal_angle.specs.Turns.{turns as turnTable};
-ghost use Rattle.hal.specs.Exp.{inDown};
-ghost use Rattle.hal_angle.specs.Angle.{angleOf};
-ghost use Rattle.hal_reach.specs.Reach.{inAngle};
+ghost use Rattle.params.specs.Limits.{max_side};
+ghost use Rattle.hal.specs.Powers.{pairs as pair_table};
+ghost use Rattle.hal_magnitude.specs.Cubics.{cubics as cubic_table};
+ghost use Rattle.hal_angle.specs.Turns.{turns as turn_table};
+ghost use Rattle.hal.specs.Exp.{in_down};
+ghost use Rattle.hal_angle.specs.Angle.{angle_of};
+ghost use Rattle.hal_reach.specs.Reach.{in_angle};
 ghost use Rattle.orient_window.specs.Window.{cell};
-ghost use Rattle.orient_window.specs.Place.{maxReach};
-ghost use Rattle.orient_tally.specs.Sample.{bins, apart, weightAt, bin_of};
+ghost use Rattle.orient_window.specs.Place.{max_reach};
+ghost use Rattle.orient_tally.specs.Sample.{bins, apart, weight_at, bin_of};
 ghost use Rattle.orient_tally.specs.Tally.{share_of, added, tallied, empty};
-ghost use Rattle.orient_tally.specs.Place.{Near, exponentAt, Asked};
-ghost use Rattle.orient_tally.specs.Runs.{sampleIn};
+ghost use Rattle.orient_tally.specs.Place.{Near, exponent_at, Asked};
+ghost use Rattle.orient_tally.specs.Runs.{sample_in};
 
 use orient_window::Window;
 
@@ -53,7 +53,7 @@ pub struct Gathered {
 
 // The square of how far apart two places are.
 fn square(a: usize, b: usize) -> i32
-    requires { (a ≤ maxSide) × (apart a b ≤ maxReach) }
+    requires { (a ≤ max_side) × (apart a b ≤ max_reach) }
     ensures { result ≡ pos (apart a b * apart a b) }
 {
     let d = a as i32 - b as i32;
@@ -61,8 +61,8 @@ fn square(a: usize, b: usize) -> i32
 }
 
 fn weight_at(pairs: &[u32; 512], win: Window, y: usize, x: usize) -> f32
-    requires { (pairs.now ≡ pairTable) × (Near win y x × (inDown (exponentAt win (cell y x)) ≡ true)) }
-    ensures { result ≡ weightAt win (cell y x) }
+    requires { (pairs.now ≡ pair_table) × (Near win y x × (in_down (exponent_at win (cell y x)) ≡ true)) }
+    ensures { result ≡ weight_at win (cell y x) }
 {
     let sum = square(y, win.row) + square(x, win.col);
     hal::exp_in(pairs, (sum as f32) * win.falloff)
@@ -71,8 +71,8 @@ fn weight_at(pairs: &[u32; 512], win: Window, y: usize, x: usize) -> f32
 // The bin of a direction. From 2^23 = 8388608 on every f32 is whole, so that the sum rounds the turn, ties to even, and its last bits are the whole number: at most 36,
 // which six of them hold.
 fn bin_of(turns: &[f32; 272], dx: f32, dy: f32) -> usize
-    requires { (turns.now ≡ turnTable) × (inAngle dx dy ≡ true) }
-    ensures { (result ≡ bin_of (angleOf dx dy)) × (result < bins) }
+    requires { (turns.now ≡ turn_table) × (in_angle dx dy ≡ true) }
+    ensures { (result ≡ bin_of (angle_of dx dy)) × (result < bins) }
 {
     let turn = 0.1 * hal_angle::angle_in(turns, dx, dy);
     let b = (f32::to_bits(turn + 8388608.0) % 64) as usize;
@@ -88,8 +88,8 @@ pub fn sample_at<'a>(
     run: Run,
     i: usize,
 ) -> Sample
-    requires { (pairs.now ≡ pairTable) × ((cubics.now ≡ cubicTable) × ((turns.now ≡ turnTable) × Asked img.now run.win run.y (run.from + i))) }
-    ensures { (result ≡ sampleIn img.now run i) × (result.bin < bins) }
+    requires { (pairs.now ≡ pair_table) × ((cubics.now ≡ cubic_table) × ((turns.now ≡ turn_table) × Asked img.now run.win run.y (run.from + i))) }
+    ensures { (result ≡ sample_in img.now run i) × (result.bin < bins) }
 {
     let win = run.win;
     let x = run.from + i;

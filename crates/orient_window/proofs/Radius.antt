@@ -2,19 +2,19 @@
 use Rattle.std.proofs.Common.{◌≡◌, true, refl, arith}
 use lib.Ieee.{Float, binary32, of_bits, mul, lt, le, to_unsigned}
 use Rattle.ieee.specs.F32.{◌⊗◌, rounded}
-use Rattle.ieee.specs.Whole.{roundEven}
-use Rattle.ieee_laws.proofs.Bounds.{Bounds, bounds-point, mul-bounds, roundEven-bounds}
+use Rattle.ieee.specs.Whole.{round_even}
+use Rattle.ieee_laws.proofs.Bounds.{Bounds, bounds_point, mul_bounds, round_even_bounds}
 use Rattle.ieee_laws.proofs.Cuts.{Cuts, cuts}
-use Rattle.params.specs.Limits.{scaleLow, scaleHigh}
+use Rattle.params.specs.Limits.{scale_low, scale_high}
 use Rattle.params.specs.Table.{within}
-use Rattle.params.proofs.Within.{scale-bounds}
-use Rattle.orient_window.specs.Window.{radiusFactor}
-use Rattle.orient_window.specs.Place.{maxReach}
+use Rattle.params.proofs.Within.{scale_bounds}
+use Rattle.orient_window.specs.Window.{radius_factor}
+use Rattle.orient_window.specs.Place.{max_reach}
 
-pub radius-bounds : (s : Float) → within scaleLow scaleHigh s ≡ true → Bounds (rounded (radiusFactor ⊗ scaleLow)) (rounded (radiusFactor ⊗ scaleHigh)) (rounded (radiusFactor ⊗ s))
-unfolding of_bits mul le roundEven
-radius-bounds s h = roundEven-bounds binary32 refl refl (mul-bounds binary32 refl refl refl refl (bounds-point radiusFactor refl) (scale-bounds s h))
+pub radius_bounds : (s : Float) → within scale_low scale_high s ≡ true → Bounds (rounded (radius_factor ⊗ scale_low)) (rounded (radius_factor ⊗ scale_high)) (rounded (radius_factor ⊗ s))
+unfolding of_bits mul le round_even
+radius_bounds s h = round_even_bounds binary32 refl refl (mul_bounds binary32 refl refl refl refl (bounds_point radius_factor refl) (scale_bounds s h))
 
-pub radius-cuts : (s : Float) → within scaleLow scaleHigh s ≡ true → Cuts maxReach (rounded (radiusFactor ⊗ s))
-unfolding of_bits mul lt roundEven to_unsigned
-radius-cuts s h = cuts maxReach refl refl (omega arith) (radius-bounds s h)
+pub radius_cuts : (s : Float) → within scale_low scale_high s ≡ true → Cuts max_reach (rounded (radius_factor ⊗ s))
+unfolding of_bits mul lt round_even to_unsigned
+radius_cuts s h = cuts max_reach refl refl (omega arith) (radius_bounds s h)

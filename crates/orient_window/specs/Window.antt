@@ -2,40 +2,40 @@
 use Rattle.std.specs.Prelude.{ℕ, ◌+◌, ◌-◌, List, [], ◌∷◌, length, Float}
 use Rattle.std.specs.Float.Ieee.{neg, to_unsigned}
 use Rattle.ieee.specs.F32.{◌⊗◌, ◌⊘◌, f32, rounded}
-use Rattle.ieee.specs.Numbers.{threeHalves, one, two}
+use Rattle.ieee.specs.Numbers.{three_halves, one, two}
 use Rattle.lists.specs.Ranges.{joined}
-use Rattle.picture.specs.Picture.{firstIn, pastIn}
+use Rattle.picture.specs.Picture.{first_in, past_in}
 use Rattle.picture.specs.declared.Size.{Size}
 use Rattle.orient_window.specs.declared.Window.{Window}
 
 -- 4.5
-abbrev pub radiusFactor : Float
-radiusFactor = f32 0x4090_0000
+abbrev pub radius_factor : Float
+radius_factor = f32 0x4090_0000
 
 -- the radius: rule O1
-unfoldable pub radiusOf : Float → ℕ
-radiusOf scale = to_unsigned 64 (rounded (radiusFactor ⊗ scale))
+unfoldable pub radius_of : Float → ℕ
+radius_of scale = to_unsigned 64 (rounded (radius_factor ⊗ scale))
 
 -- the factor of the weight's exponent, which is multiplied by the squared distance: rule O3
-abbrev pub sigmaOf : Float → Float
-sigmaOf scale = threeHalves ⊗ scale
+abbrev pub sigma_of : Float → Float
+sigma_of scale = three_halves ⊗ scale
 
-unfoldable pub falloffOf : Float → Float
-falloffOf scale = neg one ⊘ (two ⊗ sigmaOf scale ⊗ sigmaOf scale)
+unfoldable pub falloff_of : Float → Float
+falloff_of scale = neg one ⊘ (two ⊗ sigma_of scale ⊗ sigma_of scale)
 
 -- the window about (row, col) of a picture: the rows and the columns within the radius, but for those on the edge
-unfoldable pub windowOf : Size → ℕ → ℕ → Float → Window
-windowOf s row col scale =
-    let radius = radiusOf scale in
+unfoldable pub window_of : Size → ℕ → ℕ → Float → Window
+window_of s row col scale =
+    let radius = radius_of scale in
     record {
       size = s;
       row = row;
       col = col;
-      top = firstIn row radius;
-      left = firstIn col radius;
-      rows = pastIn row radius s.height - firstIn row radius;
-      cols = pastIn col radius s.width - firstIn col radius;
-      falloff = falloffOf scale;
+      top = first_in row radius;
+      left = first_in col radius;
+      rows = past_in row radius s.height - first_in row radius;
+      cols = past_in col radius s.width - first_in col radius;
+      falloff = falloff_of scale;
     }
 
 -- a row and a column
@@ -55,5 +55,5 @@ unfoldable pub cells_of : Window → List Cell
 cells_of win = joined win.top (win.top + win.rows) (row_of win)
 
 -- n, the number of cells read
-unfoldable pub cellsRead : Window → ℕ
-cellsRead win = length (cells_of win)
+unfoldable pub cells_read : Window → ℕ
+cells_read win = length (cells_of win)

@@ -2,11 +2,11 @@
 #![tactic(auto)]
 
 ghost use Rattle.std.specs.Prelude.{◌≡◌, ◌+◌, ◌-◌, ◌<◌, ◌≤◌, true, length};
-ghost use Rattle.params.specs.Limits.{maxSide, scaleLow, scaleHigh};
+ghost use Rattle.params.specs.Limits.{max_side, scale_low, scale_high};
 ghost use Rattle.params.specs.Table.{within};
-ghost use Rattle.orient_window.specs.Window.{radiusOf, falloffOf, windowOf};
-ghost use Rattle.orient_window.specs.Good.{rowGood, windowGood};
-ghost use Rattle.orient_window.specs.Place.{maxReach, Fits};
+ghost use Rattle.orient_window.specs.Window.{radius_of, falloff_of, window_of};
+ghost use Rattle.orient_window.specs.Good.{row_good, window_good};
+ghost use Rattle.orient_window.specs.Place.{max_reach, Fits};
 
 use picture::Size;
 use samples::Area;
@@ -27,14 +27,14 @@ pub struct Window {
 // ---- the window
 
 fn radius_of(scale: f32) -> usize
-    requires { within scaleLow scaleHigh scale ≡ true }
-    ensures { (result ≡ radiusOf scale) × (result ≤ maxReach) }
+    requires { within scale_low scale_high scale ≡ true }
+    ensures { (result ≡ radius_of scale) × (result ≤ max_reach) }
 {
     std::num::truncating_f32_to_u64(ieee_whole::round_ties_even(4.5 * scale)) as usize
 }
 
 fn falloff(scale: f32) -> f32
-    ensures { result ≡ falloffOf scale }
+    ensures { result ≡ falloff_of scale }
 {
     let sigma = 1.5 * scale;
     -1.0 / (2.0 * sigma * sigma)
@@ -49,8 +49,8 @@ fn count(from: usize, past: usize) -> usize
 
 // The window about a cell.
 pub fn window_of(s: Size, row: usize, col: usize, scale: f32) -> Window
-    requires { (row < s.height) × ((col < s.width) × ((s.height ≤ maxSide) × ((s.width ≤ maxSide) × (within scaleLow scaleHigh scale ≡ true)))) }
-    ensures { result ≡ windowOf s row col scale }
+    requires { (row < s.height) × ((col < s.width) × ((s.height ≤ max_side) × ((s.width ≤ max_side) × (within scale_low scale_high scale ≡ true)))) }
+    ensures { result ≡ window_of s row col scale }
 {
     let radius = radius_of(scale);
     let top = picture::first_in(row, radius);
@@ -72,7 +72,7 @@ pub fn window_of(s: Size, row: usize, col: usize, scale: f32) -> Window
 // Row i of the window.
 fn row_good(img: &[f32], win: Window, i: usize) -> bool
     requires { Fits (length img.now) win × (i < win.rows) }
-    ensures { result ≡ rowGood img.now win (win.top + i) }
+    ensures { result ≡ row_good img.now win (win.top + i) }
 {
     let y = win.top + i;
     let mut ok = true;
@@ -87,7 +87,7 @@ fn row_good(img: &[f32], win: Window, i: usize) -> bool
 // Row by row.
 fn cells_good(img: &[f32], win: Window) -> bool
     requires { Fits (length img.now) win }
-    ensures { result ≡ windowGood img.now win }
+    ensures { result ≡ window_good img.now win }
 {
     let mut i: usize = 0;
     while i < win.rows {
@@ -102,7 +102,7 @@ fn cells_good(img: &[f32], win: Window) -> bool
 // Whether the four neighbours of each cell are in range. The window with the cells round it holds them all, and its corners beside: where these are good nothing else is asked.
 pub fn window_good(img: &[f32], win: Window) -> bool
     requires { Fits (length img.now) win }
-    ensures { result ≡ windowGood img.now win }
+    ensures { result ≡ window_good img.now win }
 {
     if (win.rows > 0) & (win.cols > 0) {
         let area = Area {

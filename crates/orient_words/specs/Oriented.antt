@@ -8,13 +8,13 @@ use Rattle.orient_words.specs.declared.OrientedKeypoint.{OrientedKeypoint}
 use Rattle.orient_words.specs.declared.OrientAnswer.{OrientAnswer}
 
 -- the keypoint with an angle: all else passes through
-abbrev pub orientedOf : RawKeypoint → Float → OrientedKeypoint
-orientedOf k angle =
+abbrev pub oriented_of : RawKeypoint → Float → OrientedKeypoint
+oriented_of k angle =
     record { x = k.x; y = k.y; size = k.size; response = k.response; octave = k.octave; angle = angle }
 
 -- an oriented keypoint goes out as so many words: rule A18
-abbrev pub orientedWords : ℕ
-orientedWords = 6
+abbrev pub oriented_words : ℕ
+oriented_words = 6
 
 abbrev pub words_of : OrientedKeypoint → List ℕ
 words_of o = bits_of o.x ∷ bits_of o.y ∷ bits_of o.size ∷ bits_of o.response ∷ o.octave ∷ bits_of o.angle ∷ []
@@ -24,10 +24,10 @@ words [] = []
 words (o ∷ os) = words_of o ++ words os
 
 -- the number of samples beside an answer: the cells read, and 0 on any refusal
-abbrev pub samplesWith : Answer → ℕ → ℕ
-samplesWith (Done n) read = read
-samplesWith (Short n) read = 0
-samplesWith (Refused k) read = 0
+abbrev pub samples_with : Answer → ℕ → ℕ
+samples_with (Done n) read = read
+samples_with (Short n) read = 0
+samples_with (Refused k) read = 0
 
-abbrev pub answeredWith : Answer → ℕ → OrientAnswer
-answeredWith a read = record { answer = a; samples = samplesWith a read }
+abbrev pub answered_with : Answer → ℕ → OrientAnswer
+answered_with a read = record { answer = a; samples = samples_with a read }

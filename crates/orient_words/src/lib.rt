@@ -4,8 +4,8 @@
 ghost use Rattle.std.specs.Prelude.{◌≡◌, map, ◌+◌, ◌*◌, ◌≤◌, length, take};
 ghost use Rattle.lists.specs.Pasted.{pasted};
 ghost use Rattle.orient_tally.specs.Sample.{bins};
-ghost use Rattle.orient_words.specs.Oriented.{orientedOf, orientedWords, words_of, words};
-ghost use Rattle.orient_words.specs.Given.{givenWith, leftWith};
+ghost use Rattle.orient_words.specs.Oriented.{oriented_of, oriented_words, words_of, words};
+ghost use Rattle.orient_words.specs.Given.{given_with, left_with};
 
 use detect_keypoint::RawKeypoint;
 use orient_peaks::Angles;
@@ -37,7 +37,7 @@ pub struct Directions {
 }
 
 fn oriented(k: RawKeypoint, angle: f32) -> OrientedKeypoint
-    ensures { result ≡ orientedOf k angle }
+    ensures { result ≡ oriented_of k angle }
 {
     OrientedKeypoint {
         x: k.x,
@@ -51,7 +51,7 @@ fn oriented(k: RawKeypoint, angle: f32) -> OrientedKeypoint
 
 // Six words at a place.
 fn put(out: &mut [u32], at: usize, o: OrientedKeypoint)
-    requires { at + orientedWords ≤ length out.old }
+    requires { at + oriented_words ≤ length out.old }
     ensures { out.new ≡ pasted at (words_of o) out.old }
 {
     out[at] = ieee::bits_of(o.x);
@@ -68,8 +68,8 @@ fn put(out: &mut [u32], at: usize, o: OrientedKeypoint)
 }
 
 fn put_all(k: RawKeypoint, all: &[f32; 36], count: usize, out: &mut [u32])
-    requires { (count ≤ bins) × ((count ≤ length all.now) × (orientedWords * count ≤ length out.old)) }
-    ensures { out.new ≡ pasted 0 (words (map (orientedOf k) (take count all.now))) out.old }
+    requires { (count ≤ bins) × ((count ≤ length all.now) × (oriented_words * count ≤ length out.old)) }
+    ensures { out.new ≡ pasted 0 (words (map (oriented_of k) (take count all.now))) out.old }
 {
     let mut i: usize = 0;
     while i < count {
@@ -81,8 +81,8 @@ fn put_all(k: RawKeypoint, all: &[f32; 36], count: usize, out: &mut [u32])
 // Room is counted first: all words are written, or none.
 pub fn give(k: RawKeypoint, d: Directions, out: &mut [u32]) -> OrientAnswer
     requires { (d.angles.count ≤ bins) × (d.angles.count ≤ length d.angles.all) }
-    ensures value { result ≡ givenWith d (length out.old) }
-    ensures out_after { out.new ≡ leftWith k d out.old }
+    ensures value { result ≡ given_with d (length out.old) }
+    ensures out_after { out.new ≡ left_with k d out.old }
 {
     let found = d.angles;
     let count = found.count;

@@ -24,13 +24,13 @@ field_lt : (f : Format) (s : Bool) (x t : ℕ) → finite (of_fields f s (suc x)
 unfolding of_fields
 field_lt f s x t h = split f s t (odd (prec f) s (hid f + t) x (low f)) (eqb (suc x) (ones f)) (eqb t 0) h
 
-pub normal-is : (f : Format) (s : Bool) (x t : ℕ) → eqb (suc x) (ones f) ≡ false → of_fields f s (suc x) t ≡ odd (prec f) s (hid f + t) x (low f)
+pub normal_is : (f : Format) (s : Bool) (x t : ℕ) → eqb (suc x) (ones f) ≡ false → of_fields f s (suc x) t ≡ odd (prec f) s (hid f + t) x (low f)
 unfolding of_fields
-normal-is f s x t h = ap (λ (b : Bool). cond b (cond (eqb t 0) (inf s) nan) (odd (prec f) s (hid f + t) x (low f))) h
+normal_is f s x t h = ap (λ (b : Bool). cond b (cond (eqb t 0) (inf s) nan) (odd (prec f) s (hid f + t) x (low f))) h
 
-low-is : (f : Format) (s : Bool) (t : ℕ) → of_fields f s 0 t ≡ odd (prec f) s t 0 (low f)
+low_is : (f : Format) (s : Bool) (t : ℕ) → of_fields f s 0 t ≡ odd (prec f) s t 0 (low f)
 unfolding of_fields
-low-is f s t = refl
+low_is f s t = refl
 
 -- ---- the value of a pattern, by its exponent's field
 module _ (f : Format) (v : Float) (h : T (fits f v)) (n : finite v ≡ true) where
@@ -40,30 +40,30 @@ module _ (f : Format) (v : Float) (h : T (fits f v)) (n : finite v ≡ true) whe
   pub value_low : to_bits f v % top f / hid f ≡ 0 → HasValue v (leb (top f) (to_bits f v)) (to_bits f v % hid f * 2 ^ 0) (2 ^ low f)
   value_low e =
       subst (λ (x : Float). HasValue x (leb (top f) (to_bits f v)) (to_bits f v % hid f * 2 ^ 0) (2 ^ low f))
-      (sym (low-is f (leb (top f) (to_bits f v)) (to_bits f v % hid f)) ∙ ap (λ (x : ℕ). of_fields f (leb (top f) (to_bits f v)) x (to_bits f v % hid f)) (sym e) ∙ value)
+      (sym (low_is f (leb (top f) (to_bits f v)) (to_bits f v % hid f)) ∙ ap (λ (x : ℕ). of_fields f (leb (top f) (to_bits f v)) x (to_bits f v % hid f)) (sym e) ∙ value)
       (odd_sign (prec f) (leb (top f) (to_bits f v)) (to_bits f v % hid f) 0 (low f))
 
   at_suc : (x : ℕ) → to_bits f v % top f / hid f ≡ suc x → eqb (suc x) (ones f) ≡ false
   at_suc x e = field_lt f (leb (top f) (to_bits f v)) x (to_bits f v % hid f) (ap finite (ap (λ (y : ℕ). of_fields f (leb (top f) (to_bits f v)) y (to_bits f v % hid f)) (sym e) ∙ value) ∙ n)
 
-  pub value-normal : (x : ℕ) → to_bits f v % top f / hid f ≡ suc x → HasValue v (leb (top f) (to_bits f v)) ((hid f + to_bits f v % hid f) * 2 ^ x) (2 ^ low f)
-  value-normal x e =
+  pub value_normal : (x : ℕ) → to_bits f v % top f / hid f ≡ suc x → HasValue v (leb (top f) (to_bits f v)) ((hid f + to_bits f v % hid f) * 2 ^ x) (2 ^ low f)
+  value_normal x e =
       subst (λ (y : Float). HasValue y (leb (top f) (to_bits f v)) ((hid f + to_bits f v % hid f) * 2 ^ x) (2 ^ low f))
-      (sym (normal-is f (leb (top f) (to_bits f v)) x (to_bits f v % hid f) (at_suc x e)) ∙ ap (λ (y : ℕ). of_fields f (leb (top f) (to_bits f v)) y (to_bits f v % hid f)) (sym e) ∙ value)
+      (sym (normal_is f (leb (top f) (to_bits f v)) x (to_bits f v % hid f) (at_suc x e)) ∙ ap (λ (y : ℕ). of_fields f (leb (top f) (to_bits f v)) y (to_bits f v % hid f)) (sym e) ∙ value)
       (odd_sign (prec f) (leb (top f) (to_bits f v)) (hid f + to_bits f v % hid f) x (low f))
 
-pub finite-no-nan : (v : Float) → finite v ≡ true → T (not (is_nan v))
+pub finite_no_nan : (v : Float) → finite v ≡ true → T (not (is_nan v))
 unfolding is_nan
-finite-no-nan nan h = absurd (false≢true h)
-finite-no-nan (inf s) h = tt
-finite-no-nan (fin s m e) h = tt
+finite_no_nan nan h = absurd (false≢true h)
+finite_no_nan (inf s) h = tt
+finite_no_nan (fin s m e) h = tt
 
-pub finite-of-below : (v : Float) → lt v (inf false) ≡ true → lt (inf true) v ≡ finite v
+pub finite_of_below : (v : Float) → lt v (inf false) ≡ true → lt (inf true) v ≡ finite v
 unfolding lt
-finite-of-below nan h = absurd (false≢true h)
-finite-of-below (inf true) h = refl
-finite-of-below (inf false) h = absurd (false≢true h)
-finite-of-below (fin s m e) h = refl
+finite_of_below nan h = absurd (false≢true h)
+finite_of_below (inf true) h = refl
+finite_of_below (inf false) h = absurd (false≢true h)
+finite_of_below (fin s m e) h = refl
 
 pub not_finite : (v : Float) → lt v (inf false) ≡ false → false ≡ finite v
 unfolding lt
@@ -71,5 +71,5 @@ not_finite nan h = refl
 not_finite (inf s) h = refl
 not_finite (fin s m e) h = absurd (true≢false h)
 
-pub field-ne : (f : Format) (v : Float) → T (fits f v) → finite v ≡ true → (x : ℕ) → to_bits f v % top f / hid f ≡ suc x → suc x ≡ ones f → ⊥
-field-ne f v h n x e z = false≢true (sym (at_suc f v h n x e) ∙ is_true (eqb (suc x) (ones f)) (eq→eqb z))
+pub field_ne : (f : Format) (v : Float) → T (fits f v) → finite v ≡ true → (x : ℕ) → to_bits f v % top f / hid f ≡ suc x → suc x ≡ ones f → ⊥
+field_ne f v h n x e z = false≢true (sym (at_suc f v h n x e) ∙ is_true (eqb (suc x) (ones f)) (eq→eqb z))

@@ -14,7 +14,7 @@ use lib.Ieee.{Float, inf, fin, Format, binary32, prec, emax, low, up, down, minu
 use lib.Ieee.Digits.{Equals, odd_val, size-le}
 use lib.Ieee.Fits.{down_pos, odd-fits}
 use lib.Ieee.Bits.{of_bits-to_bits, cond_no}
-use Rattle.lists.proofs.Naturals.{le-or-lt}
+use Rattle.lists.proofs.Naturals.{le_or_lt}
 use Rattle.packing.proofs.Size.{size_exact}
 
 pub cond_yes : {X : Type 0} (b : Bool) (x y : X) → T b → cond b x y ≡ x
@@ -52,8 +52,8 @@ written c n k = c + k * 2 ^ 23 + n / 2 ^ k
 at_mid : (c q k : ℕ) → written c (q * 2 ^ k) k ≡ c + (k * 2 ^ 23 + q)
 at_mid c q k = ap (λ (x : ℕ). c + k * 2 ^ 23 + x) (mul-div_cancel q (pow_pos k)) ∙ add_assoc c (k * 2 ^ 23) q
 
-at-full : (c k : ℕ) → written c (2 ^ 24 * 2 ^ k) (suc k) ≡ c + (k * 2 ^ 23 + 2 ^ 24)
-at-full c k =
+at_full : (c k : ℕ) → written c (2 ^ 24 * 2 ^ k) (suc k) ≡ c + (k * 2 ^ 23 + 2 ^ 24)
+at_full c k =
     let e : 2 ^ 24 * 2 ^ k ≡ 2 ^ 23 * 2 ^ suc k = sym (pow-add 2 24 k) ∙ ap (λ (x : ℕ). 2 ^ x) (omega arith) ∙ pow-add 2 23 (suc k) in
     let d : 2 ^ 24 * 2 ^ k / 2 ^ suc k ≡ 2 ^ 23 = ap (λ (x : ℕ). x / 2 ^ suc k) e ∙ mul-div_cancel (2 ^ 23) (pow_pos (suc k)) in
     omega arith
@@ -63,32 +63,32 @@ at_low c q =
     let d : q * 2 ^ 0 / 2 ^ 0 ≡ q = mul-div_cancel q (zero-lt-suc 0) in
     omega arith
 
-low-size : (q : ℕ) → q < 2 ^ 23 → size (q * 2 ^ 0) - 24 ≡ 0
-low-size q h =
+low_size : (q : ℕ) → q < 2 ^ 23 → size (q * 2 ^ 0) - 24 ≡ 0
+low_size q h =
     let e : size (q * 2 ^ 0) ≤ 23 = size-le (q * 2 ^ 0) 23 (subst (λ (x : ℕ). x < 2 ^ 23) (sym (mul-one q)) h) in
     omega arith
 
-pub odd-bits : (s : Bool) (q k : ℕ) → q ≤ 2 ^ 24 → (k ≡ 0) ⊎ (2 ^ 23 ≤ q) → to_bits binary32 (odd 25 s q k 149) ≡ cond s (top binary32) 0 + (k * 2 ^ 23 + q)
-odd-bits s q k hi lo = to_bits_odd binary32 25 s q k ∙ go (le-or-lt (2 ^ 23) q) (eq-or-lt_of_le hi) lo
+pub odd_bits : (s : Bool) (q k : ℕ) → q ≤ 2 ^ 24 → (k ≡ 0) ⊎ (2 ^ 23 ≤ q) → to_bits binary32 (odd 25 s q k 149) ≡ cond s (top binary32) 0 + (k * 2 ^ 23 + q)
+odd_bits s q k hi lo = to_bits_odd binary32 25 s q k ∙ go (le_or_lt (2 ^ 23) q) (eq-or-lt_of_le hi) lo
   where
     go : (2 ^ 23 ≤ q) ⊎ (q < 2 ^ 23) → (q ≡ 2 ^ 24) ⊎ (q < 2 ^ 24) → (k ≡ 0) ⊎ (2 ^ 23 ≤ q) → written (cond s (top binary32) 0) (q * 2 ^ k) (size (q * 2 ^ k) - 24) ≡ cond s (top binary32) 0 + (k * 2 ^ 23 + q)
     go (inl a) (inl b) l =
         subst (λ (y : ℕ). written (cond s (top binary32) 0) (y * 2 ^ k) (size (y * 2 ^ k) - 24) ≡ cond s (top binary32) 0 + (k * 2 ^ 23 + y)) (sym b)
-        (ap (written (cond s (top binary32) 0) (2 ^ 24 * 2 ^ k)) (full k) ∙ at-full (cond s (top binary32) 0) k)
+        (ap (written (cond s (top binary32) 0) (2 ^ 24 * 2 ^ k)) (full k) ∙ at_full (cond s (top binary32) 0) k)
     go (inl a) (inr b) l = ap (written (cond s (top binary32) 0) (q * 2 ^ k)) (mid q k a b) ∙ at_mid (cond s (top binary32) 0) q k
     go (inr a) b (inl z) =
         subst (λ (y : ℕ). written (cond s (top binary32) 0) (q * 2 ^ y) (size (q * 2 ^ y) - 24) ≡ cond s (top binary32) 0 + (y * 2 ^ 23 + q)) (sym z)
-        (ap (written (cond s (top binary32) 0) (q * 2 ^ 0)) (low-size q a) ∙ at_low (cond s (top binary32) 0) q)
+        (ap (written (cond s (top binary32) 0) (q * 2 ^ 0)) (low_size q a) ∙ at_low (cond s (top binary32) 0) q)
     go (inr a) b (inr l) = absurd (omega arith)
 
 -- ---- `units`
-units-fin : (s : Bool) (q k : ℕ) → q * 2 ^ k < 2 ^ 277 → units binary32 s q k ≡ odd 25 s q k 149
+units_fin : (s : Bool) (q k : ℕ) → q * 2 ^ k < 2 ^ 277 → units binary32 s q k ≡ odd 25 s q k 149
 unfolding units
-units-fin s q k h = cond_yes (ltb (q * 2 ^ k) (2 ^ 277)) (odd 25 s q k 149) (inf s) (lt→ltb (q * 2 ^ k) (2 ^ 277) h)
+units_fin s q k h = cond_yes (ltb (q * 2 ^ k) (2 ^ 277)) (odd 25 s q k 149) (inf s) (lt→ltb (q * 2 ^ k) (2 ^ 277) h)
 
-pub units-inf : (s : Bool) (q k : ℕ) → 2 ^ 277 ≤ q * 2 ^ k → units binary32 s q k ≡ inf s
+pub units_inf : (s : Bool) (q k : ℕ) → 2 ^ 277 ≤ q * 2 ^ k → units binary32 s q k ≡ inf s
 unfolding units
-units-inf s q k h = cond_no (ltb (q * 2 ^ k) (2 ^ 277)) (odd 25 s q k 149) (inf s) (le→nltb (q * 2 ^ k) (2 ^ 277) h)
+units_inf s q k h = cond_no (ltb (q * 2 ^ k) (2 ^ 277)) (odd 25 s q k 149) (inf s) (le→nltb (q * 2 ^ k) (2 ^ 277) h)
 
 pub inf_bits : (s : Bool) → of_bits binary32 (cond s (top binary32) 0 + 2139095040) ≡ inf s
 unfolding of_bits
@@ -100,22 +100,22 @@ unfolding of_bits
 zero_bits true = refl
 zero_bits false = refl
 
-fin-bits : (s : Bool) (q k : ℕ) → q ≤ 2 ^ 24 → (k ≡ 0) ⊎ (2 ^ 23 ≤ q) → q * 2 ^ k < 2 ^ 277 → of_bits binary32 (cond s (top binary32) 0 + (k * 2 ^ 23 + q)) ≡ units binary32 s q k
-fin-bits s q k hi lo h =
-    ap (of_bits binary32) (sym (odd-bits s q k hi lo))
+fin_bits : (s : Bool) (q k : ℕ) → q ≤ 2 ^ 24 → (k ≡ 0) ⊎ (2 ^ 23 ≤ q) → q * 2 ^ k < 2 ^ 277 → of_bits binary32 (cond s (top binary32) 0 + (k * 2 ^ 23 + q)) ≡ units binary32 s q k
+fin_bits s q k hi lo h =
+    ap (of_bits binary32) (sym (odd_bits s q k hi lo))
     ∙ of_bits-to_bits binary32 (odd 25 s q k 149) (odd-fits binary32 25 s q k (lt_of_le_of_lt hi (lit< tt)) hi h)
-    ∙ sym (units-fin s q k h)
+    ∙ sym (units_fin s q k h)
 
 -- q and k are the largest where the result is an infinity
-over-q : (q k : ℕ) → q ≤ 2 ^ 24 → k < 254 → 2 ^ 277 ≤ q * 2 ^ k → q ≡ 2 ^ 24
-over-q q k hi h g =
+over_q : (q k : ℕ) → q ≤ 2 ^ 24 → k < 254 → 2 ^ 277 ≤ q * 2 ^ k → q ≡ 2 ^ 24
+over_q q k hi h g =
     let a : 2 ^ 24 * 2 ^ 253 ≤ q * 2 ^ 253 = le_trans g (mul-le-mul_left q (pow_mono (le_of_suc-le-suc h))) in
     le_antisymm hi (le_of_mul-le-mul_right a (pow_pos 253))
 
-over-k : (k : ℕ) → k < 254 → 2 ^ 277 ≤ 2 ^ 24 * 2 ^ k → k ≡ 253
-over-k k h g =
+over_k : (k : ℕ) → k < 254 → 2 ^ 277 ≤ 2 ^ 24 * 2 ^ k → k ≡ 253
+over_k k h g =
     let a : 2 ^ 277 ≤ 2 ^ (24 + k) = le_trans g (le_of_eq (sym (pow-add 2 24 k))) in
-    elim (le-or-lt 253 k) [
+    elim (le_or_lt 253 k) [
       | inl l ↦ omega arith
       | inr l ↦ absurd (lt_irrefl (2 ^ 277) (lt_of_le_of_lt a (pow-lt {i = 24 + k} {j = 277} (omega arith))))
     ]
@@ -123,12 +123,12 @@ over-k k h g =
 over : (s : Bool) (q k : ℕ) → q ≡ 2 ^ 24 → k ≡ 253 → 2 ^ 277 ≤ q * 2 ^ k → of_bits binary32 (cond s (top binary32) 0 + (k * 2 ^ 23 + q)) ≡ units binary32 s q k
 over s q k a b g =
     let e : k * 2 ^ 23 + q ≡ 2139095040 = omega arith in
-    ap (λ (x : ℕ). of_bits binary32 (cond s (top binary32) 0 + x)) e ∙ inf_bits s ∙ sym (units-inf s q k g)
+    ap (λ (x : ℕ). of_bits binary32 (cond s (top binary32) 0 + x)) e ∙ inf_bits s ∙ sym (units_inf s q k g)
 
-pub units-bits : (s : Bool) (q k : ℕ) → q ≤ 2 ^ 24 → (k ≡ 0) ⊎ (2 ^ 23 ≤ q) → k < 254 → of_bits binary32 (cond s (top binary32) 0 + (k * 2 ^ 23 + q)) ≡ units binary32 s q k
-units-bits s q k hi lo h = elim (le-or-lt (2 ^ 277) (q * 2 ^ k)) [
-  | inr g ↦ fin-bits s q k hi lo g
+pub units_bits : (s : Bool) (q k : ℕ) → q ≤ 2 ^ 24 → (k ≡ 0) ⊎ (2 ^ 23 ≤ q) → k < 254 → of_bits binary32 (cond s (top binary32) 0 + (k * 2 ^ 23 + q)) ≡ units binary32 s q k
+units_bits s q k hi lo h = elim (le_or_lt (2 ^ 277) (q * 2 ^ k)) [
+  | inr g ↦ fin_bits s q k hi lo g
   | inl g ↦
-      let a : q ≡ 2 ^ 24 = over-q q k hi h g in
-      over s q k a (over-k k h (subst (λ (x : ℕ). 2 ^ 277 ≤ x * 2 ^ k) a g)) g
+      let a : q ≡ 2 ^ 24 = over_q q k hi h g in
+      over s q k a (over_k k h (subst (λ (x : ℕ). 2 ^ 277 ≤ x * 2 ^ k) a g)) g
 ]

@@ -10,18 +10,18 @@ number_of (Done n) = 0
 number_of (Short n) = 7
 number_of (Refused k) = k
 
-abbrev pub countOf : Answer → ℕ
-countOf (Done n) = n
-countOf (Short n) = n
-countOf (Refused k) = 0
+abbrev pub count_of : Answer → ℕ
+count_of (Done n) = n
+count_of (Short n) = n
+count_of (Refused k) = 0
 
-abbrev pub onFault {ℓ} : {A : Type ℓ} → ℕ → A → A → A
-onFault zero fine fault = fine
-onFault (suc n) fine fault = fault
+abbrev pub on_fault {ℓ} : {A : Type ℓ} → ℕ → A → A → A
+on_fault zero fine fault = fine
+on_fault (suc n) fine fault = fault
 
 -- What an entry answers whose checks before that of room gave `fault`, 0 for none; which has `count` to give, in `need` places of a lent list of `room`.
 unfoldable pub answer_of : ℕ → ℕ → ℕ → ℕ → Answer
-answer_of fault count need room = onFault fault (cond (leb need room) (Done count) (Short count)) (Refused fault)
+answer_of fault count need room = on_fault fault (cond (leb need room) (Done count) (Short count)) (Refused fault)
 
 -- The lent list afterwards, for an answer that has `new` to write: `new` and then what stood there, and on any refusal the list as it was.
 abbrev pub landed {ℓ} : {A : Type ℓ} → Answer → List A → List A → List A

@@ -2,8 +2,8 @@
 #![tactic(auto)]
 
 ghost use Rattle.std.specs.Prelude.{◌≡◌};
-ghost use Rattle.params.specs.Table.{shapeWrong, layersWrong, within, contrastWrong, settingsWrong};
-ghost use Rattle.params.specs.Answers.{number_of, countOf};
+ghost use Rattle.params.specs.Table.{shape_wrong, layers_wrong, within, contrast_wrong, settings_wrong};
+ghost use Rattle.params.specs.Answers.{number_of, count_of};
 
 // What a frame is searched with.
 #[derive(Clone, Copy)]
@@ -36,14 +36,14 @@ const MAX_OCTAVE: u32 = 15;
 
 // Number 1, rule A4.
 pub fn shape_wrong(width: usize, height: usize) -> bool
-    ensures { result ≡ shapeWrong width height }
+    ensures { result ≡ shape_wrong width height }
 {
     ((width == 0) | (width > MAX_SIDE)) | ((height == 0) | (height > MAX_SIDE))
 }
 
 // Number 2, rule A5. The layers are held to their limit first, so that the sum of layers and 2 does not wrap.
 pub fn layers_wrong(planes: usize, layer: usize, layers: usize) -> bool
-    ensures { result ≡ layersWrong planes layer layers }
+    ensures { result ≡ layers_wrong planes layer layers }
 {
     if layers > MAX_LAYERS {
         return true;
@@ -60,14 +60,14 @@ fn is_within(low: f64, high: f64, x: f64) -> bool
 
 // Number 4, of the contrast: rule A7.
 pub fn contrast_wrong(contrast: f64) -> bool
-    ensures { result ≡ contrastWrong contrast }
+    ensures { result ≡ contrast_wrong contrast }
 {
     !is_within(0.0, 1.0, contrast)
 }
 
 // Number 4, of all settings and the octave: rule A7.
 pub fn settings_wrong(s: Settings, octave: u32) -> bool
-    ensures { result ≡ settingsWrong s octave }
+    ensures { result ≡ settings_wrong s octave }
 {
     contrast_wrong(s.contrast)
         | (!is_within(1.0, 1000.0, s.edge)
@@ -87,7 +87,7 @@ pub fn number_of(a: Answer) -> u32
 
 // The count beside it (rule A17).
 pub fn count_of(a: Answer) -> usize
-    ensures { result ≡ countOf a }
+    ensures { result ≡ count_of a }
 {
     match a {
         Answer::Done(n) => n,

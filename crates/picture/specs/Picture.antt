@@ -10,18 +10,18 @@ unfoldable pub pixel : List Float → ℕ → ℕ → ℕ → Float
 pixel img w r c = get_or img (r * w + c) nan
 
 -- right less left, and up less down
-unfoldable pub slopeAt : List Float → ℕ → ℕ → ℕ → Slope
-slopeAt img w r c =
+unfoldable pub slope_at : List Float → ℕ → ℕ → ℕ → Slope
+slope_at img w r c =
     record { dx = pixel img w r (c + 1) ⊖ pixel img w r (c - 1); dy = pixel img w (r - 1) c ⊖ pixel img w (r + 1) c }
 
 -- the four neighbours, which are all that a slope reads
-unfoldable pub fourAt : List Float → ℕ → ℕ → ℕ → List Float
-fourAt img w r c = pixel img w r (c + 1) ∷ pixel img w r (c - 1) ∷ pixel img w (r - 1) c ∷ pixel img w (r + 1) c ∷ []
+unfoldable pub four_at : List Float → ℕ → ℕ → ℕ → List Float
+four_at img w r c = pixel img w r (c + 1) ∷ pixel img w r (c - 1) ∷ pixel img w (r - 1) c ∷ pixel img w (r + 1) c ∷ []
 
 -- the places within the radius of `at` that are neither the first nor the last of a side: from this one
-abbrev pub firstIn : ℕ → ℕ → ℕ
-firstIn at radius = max 1 (at - radius)
+abbrev pub first_in : ℕ → ℕ → ℕ
+first_in at radius = max 1 (at - radius)
 
 -- to the one before this
-abbrev pub pastIn : ℕ → ℕ → ℕ → ℕ
-pastIn at radius side = min (at + radius + 1) (side - 1)
+abbrev pub past_in : ℕ → ℕ → ℕ → ℕ
+past_in at radius side = min (at + radius + 1) (side - 1)

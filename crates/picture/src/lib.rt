@@ -2,8 +2,8 @@
 #![tactic(auto)]
 
 ghost use Rattle.std.specs.Prelude.{◌≡◌, ◌<◌, ◌≤◌, length};
-ghost use Rattle.params.specs.Limits.{maxSide};
-ghost use Rattle.picture.specs.Picture.{pixel, slopeAt, firstIn, pastIn};
+ghost use Rattle.params.specs.Limits.{max_side};
+ghost use Rattle.picture.specs.Picture.{pixel, slope_at, first_in, past_in};
 ghost use Rattle.picture.specs.Stack.{sample};
 ghost use Rattle.picture.specs.Place.{Inside, Within, Around};
 
@@ -48,7 +48,7 @@ pub fn pixel_at(img: &[f32], s: Size, r: usize, c: usize) -> f32
 // The slope at the cell (r, c) of a picture.
 pub fn slope_at(img: &[f32], s: Size, r: usize, c: usize) -> Slope
     requires { Around (length img.now) s r c }
-    ensures { result ≡ slopeAt img.now s.width r c }
+    ensures { result ≡ slope_at img.now s.width r c }
 {
     Slope {
         dx: pixel_at(img, s, r, c + 1) - pixel_at(img, s, r, c - 1),
@@ -58,15 +58,15 @@ pub fn slope_at(img: &[f32], s: Size, r: usize, c: usize) -> Slope
 
 // The first place within the radius that is not on the edge.
 pub fn first_in(at: usize, radius: usize) -> usize
-    ensures { result ≡ firstIn at radius }
+    ensures { result ≡ first_in at radius }
 {
     if radius < at { at - radius } else { 1 }
 }
 
 // The one after the last, of a side.
 pub fn past_in(at: usize, radius: usize, side: usize) -> usize
-    requires { (at < side) × ((side ≤ maxSide) × (radius ≤ maxSide)) }
-    ensures { result ≡ pastIn at radius side }
+    requires { (at < side) × ((side ≤ max_side) × (radius ≤ max_side)) }
+    ensures { result ≡ past_in at radius side }
 {
     let past = at + radius + 1;
     if past < side - 1 { past } else { side - 1 }

@@ -4,15 +4,15 @@ use lib.ListN.{length-map}
 use lib.Seq.{sets, sets-eq}
 use mir.Val.{bool_byte}
 use Rattle.lists.specs.Pasted.{pasted}
-use Rattle.lists.proofs.Pasted.{pasted-one, pasted-cons, length-pasted}
+use Rattle.lists.proofs.Pasted.{pasted_one, pasted_cons, length_pasted}
 use Rattle.ieee.specs.F32.{bits_of}
-use Rattle.params.specs.Limits.{valueCount}
+use Rattle.params.specs.Limits.{value_count}
 use Rattle.detect_keypoint.specs.declared.RawKeypoint.{RawKeypoint}
 use Rattle.orient_words.specs.declared.OrientedKeypoint.{OrientedKeypoint}
-use Rattle.sheet.specs.Words.{readWords, frontWords, plainWords}
-use Rattle.sheet.proofs.Steps.{part-cons}
+use Rattle.sheet.specs.Words.{read_words, front_words, plain_words}
+use Rattle.sheet.proofs.Steps.{part_cons}
 use Rattle.sheet.proofs.Runs.{triple}
-use Rattle.record.specs.Record.{head_of, floatsOf, byteOf, blankOf, recordOf}
+use Rattle.record.specs.Record.{head_of, floats_of, byte_of, blank_of, record_of}
 use Rattle.record.specs.Make.{alike}
 
 pub alike_is : (k : RawKeypoint) (o : OrientedKeypoint) (a b c d e f g h : ℕ) → a ≡ bits_of k.x → b ≡ bits_of o.x → c ≡ bits_of k.y → d ≡ bits_of o.y
@@ -26,69 +26,69 @@ run : (vs d : List ℕ) → length vs ≤ length d → sets d 0 vs ≡ pasted 0 
 unfolding pasted
 run vs d h = sets-eq vs d 0 (let z : 0 + length vs ≡ length vs = omega arith in rw z h)
 
-pub front-is : (k : RawKeypoint) (o : OrientedKeypoint) (d : List ℕ) (x y size response angle : ℕ) → frontWords ≤ length d
+pub front_is : (k : RawKeypoint) (o : OrientedKeypoint) (d : List ℕ) (x y size response angle : ℕ) → front_words ≤ length d
     → x ≡ bits_of o.x → y ≡ bits_of o.y → size ≡ bits_of o.size → response ≡ bits_of o.response → angle ≡ bits_of o.angle
-    → sets d 0 (head_of k ++ (x ∷ y ∷ size ∷ response ∷ angle ∷ [])) ≡ pasted 0 (head_of k ++ floatsOf o) d
-front-is k o d x y size response angle h p q r s t = run (head_of k ++ (x ∷ y ∷ size ∷ response ∷ angle ∷ [])) d h ∙ rw (p, q, r, s, t)
+    → sets d 0 (head_of k ++ (x ∷ y ∷ size ∷ response ∷ angle ∷ [])) ≡ pasted 0 (head_of k ++ floats_of o) d
+front_is k o d x y size response angle h p q r s t = run (head_of k ++ (x ∷ y ∷ size ∷ response ∷ angle ∷ [])) d h ∙ rw (p, q, r, s, t)
 
 -- ---- the values
 
-pub length-bytes : (values : List ℕ) → length values ≡ valueCount → length (map byteOf values) ≡ valueCount
-length-bytes values l = length-map values byteOf ∙ l
+pub length_bytes : (values : List ℕ) → length values ≡ value_count → length (map byte_of values) ≡ value_count
+length_bytes values l = length-map values byte_of ∙ l
 
 -- the values from i on, as whole numbers
 abbrev pub rest : List ℕ → ℕ → List ℕ
-rest values i = map byteOf (take (valueCount - i) (drop i values))
+rest values i = map byte_of (take (value_count - i) (drop i values))
 
-pub rest-first : (values : List ℕ) → length values ≡ valueCount → rest values 0 ≡ map byteOf values
-rest-first values h = ap (map byteOf) (take_all valueCount values (omega arith))
+pub rest_first : (values : List ℕ) → length values ≡ value_count → rest values 0 ≡ map byte_of values
+rest_first values h = ap (map byte_of) (take_all value_count values (omega arith))
 
-pub rest-turn : (values out : List ℕ) (i : ℕ) → length values ≡ valueCount → frontWords + valueCount ≤ length out → i < valueCount
-    → pasted (frontWords + (i + 1)) (rest values (i + 1)) (set out (frontWords + i) (byteOf (get_or values i 0))) ≡ pasted (frontWords + i) (rest values i) out
-rest-turn values out i l h t =
-    let e = part-cons (valueCount - i) i values (omega arith) (omega arith) in
-    let m : valueCount - i - 1 ≡ valueCount - (i + 1) = omega arith in
-    let n : frontWords + i + 1 ≡ frontWords + (i + 1) = omega arith in
-    let s : length (take (valueCount - (i + 1)) (drop (i + 1) values)) ≤ valueCount - (i + 1) = rw length-take (omega arith) in
-    let r : frontWords + i + suc (length (rest values (i + 1))) ≤ length out = rw length-map (omega arith) in
-    let p = pasted-cons (frontWords + i) (byteOf (get_or values i 0)) (rest values (i + 1)) out r in
-    sym (ap (λ (ws : List ℕ). pasted (frontWords + i) (map byteOf ws) out) (rw m at e) ∙ rw n at p)
+pub rest_turn : (values out : List ℕ) (i : ℕ) → length values ≡ value_count → front_words + value_count ≤ length out → i < value_count
+    → pasted (front_words + (i + 1)) (rest values (i + 1)) (set out (front_words + i) (byte_of (get_or values i 0))) ≡ pasted (front_words + i) (rest values i) out
+rest_turn values out i l h t =
+    let e = part_cons (value_count - i) i values (omega arith) (omega arith) in
+    let m : value_count - i - 1 ≡ value_count - (i + 1) = omega arith in
+    let n : front_words + i + 1 ≡ front_words + (i + 1) = omega arith in
+    let s : length (take (value_count - (i + 1)) (drop (i + 1) values)) ≤ value_count - (i + 1) = rw length-take (omega arith) in
+    let r : front_words + i + suc (length (rest values (i + 1))) ≤ length out = rw length-map (omega arith) in
+    let p = pasted_cons (front_words + i) (byte_of (get_or values i 0)) (rest values (i + 1)) out r in
+    sym (ap (λ (ws : List ℕ). pasted (front_words + i) (map byte_of ws) out) (rw m at e) ∙ rw n at p)
 
 -- ---- the whole record
 
 -- the blank word
-pub blank-is : (b : Bool) → bool_byte b ≡ cond {A = ℕ} b 1 0
-blank-is true = refl
-blank-is false = refl
+pub blank_is : (b : Bool) → bool_byte b ≡ cond {A = ℕ} b 1 0
+blank_is true = refl
+blank_is false = refl
 
-pub length-record : (k : RawKeypoint) (o : OrientedKeypoint) (values : List ℕ) (samples : ℕ) → length values ≡ valueCount → length (recordOf k o values samples) ≡ readWords
-unfolding recordOf
-length-record k o values samples l = simp (length-append, length-map, l)
+pub length_record : (k : RawKeypoint) (o : OrientedKeypoint) (values : List ℕ) (samples : ℕ) → length values ≡ value_count → length (record_of k o values samples) ≡ read_words
+unfolding record_of
+length_record k o values samples l = simp (length-append, length-map, l)
 
 -- the front at the start, the values after it, the blank word last: nothing of what stood there is left
-module _ (k : RawKeypoint) (o : OrientedKeypoint) (values out x y : List ℕ) (samples : ℕ) (l : length values ≡ valueCount) (h : length out ≡ readWords)
-    (p : x ≡ pasted 0 (head_of k ++ floatsOf o) out) (q : y ≡ pasted frontWords (map byteOf values) x) where
+module _ (k : RawKeypoint) (o : OrientedKeypoint) (values out x y : List ℕ) (samples : ℕ) (l : length values ≡ value_count) (h : length out ≡ read_words)
+    (p : x ≡ pasted 0 (head_of k ++ floats_of o) out) (q : y ≡ pasted front_words (map byte_of values) x) where
   abbrev front : List ℕ
-  front = head_of k ++ floatsOf o
+  front = head_of k ++ floats_of o
 
-  long-x : length x ≡ readWords
-  long-x = ap length p ∙ length-pasted 0 front out (omega arith) ∙ h
+  long_x : length x ≡ read_words
+  long_x = ap length p ∙ length_pasted 0 front out (omega arith) ∙ h
 
-  long-y : length y ≡ readWords
-  long-y = let m = length-bytes values l in ap length q ∙ length-pasted frontWords (map byteOf values) x (omega (arith, long-x)) ∙ long-x
+  long_y : length y ≡ read_words
+  long_y = let m = length_bytes values l in ap length q ∙ length_pasted front_words (map byte_of values) x (omega (arith, long_x)) ∙ long_x
 
-  pub record_is : set y plainWords (blankOf samples) ≡ recordOf k o values samples
-  unfolding recordOf pasted
+  pub record_is : set y plain_words (blank_of samples) ≡ record_of k o values samples
+  unfolding record_of pasted
   record_is =
-      let vs = map byteOf values in
-      let last = blankOf samples ∷ [] in
-      let e = length-record k o values samples l in
-      let whole : length out ≤ 0 + length (recordOf k o values samples) = omega arith in
-      sym (pasted-one plainWords (blankOf samples) y (omega (arith, long-y)))
-      ∙ ap (pasted plainWords last) (q ∙ ap (pasted frontWords vs) p)
-      ∙ sym (triple 0 front vs last out frontWords valueCount refl (length-bytes values l) (omega arith))
-      ∙ ap (λ (r : List ℕ). recordOf k o values samples ++ r) (drop_of_length-le out whole)
-      ∙ append-nil (recordOf k o values samples)
+      let vs = map byte_of values in
+      let last = blank_of samples ∷ [] in
+      let e = length_record k o values samples l in
+      let whole : length out ≤ 0 + length (record_of k o values samples) = omega arith in
+      sym (pasted_one plain_words (blank_of samples) y (omega (arith, long_y)))
+      ∙ ap (pasted plain_words last) (q ∙ ap (pasted front_words vs) p)
+      ∙ sym (triple 0 front vs last out front_words value_count refl (length_bytes values l) (omega arith))
+      ∙ ap (λ (r : List ℕ). record_of k o values samples ++ r) (drop_of_length-le out whole)
+      ∙ append-nil (record_of k o values samples)
 
-  pub record-long : (n : ℕ) → length (set y plainWords n) ≡ length out
-  record-long n = length-set y plainWords n ∙ long-y ∙ sym h
+  pub record_long : (n : ℕ) → length (set y plain_words n) ≡ length out
+  record_long n = length-set y plain_words n ∙ long_y ∙ sym h

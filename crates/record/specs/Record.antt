@@ -10,18 +10,18 @@ abbrev pub head_of : RawKeypoint → List ℕ
 head_of k = k.rr ∷ k.cc ∷ (k.octave % 2 ^ 8) ∷ (k.octave / 2 ^ 8 % 2 ^ 8) ∷ (k.octave / 2 ^ 16) ∷ []
 
 -- rule S4: the oriented keypoint's floats, by their bits
-abbrev pub floatsOf : OrientedKeypoint → List ℕ
-floatsOf o = bits_of o.x ∷ bits_of o.y ∷ bits_of o.size ∷ bits_of o.response ∷ bits_of o.angle ∷ []
+abbrev pub floats_of : OrientedKeypoint → List ℕ
+floats_of o = bits_of o.x ∷ bits_of o.y ∷ bits_of o.size ∷ bits_of o.response ∷ bits_of o.angle ∷ []
 
 -- rule S7: a value, by its bits, as the whole number that it is; 256, which no record takes, where it is none from 0 to 255
-unfoldable pub byteOf : ℕ → ℕ
-byteOf bits =
+unfoldable pub byte_of : ℕ → ℕ
+byte_of bits =
     let n = to_unsigned 32 (f32 bits) in
     cond (nat_le n 255 && (float n =ᶠ f32 bits)) n 256
 
 -- rule S8: blank is that no sample was used
-abbrev pub blankOf : ℕ → ℕ
-blankOf samples = cond (samples == 0) 1 0
+abbrev pub blank_of : ℕ → ℕ
+blank_of samples = cond (samples == 0) 1 0
 
-unfoldable pub recordOf : RawKeypoint → OrientedKeypoint → List ℕ → ℕ → List ℕ
-recordOf k o values samples = head_of k ++ (floatsOf o ++ (map byteOf values ++ (blankOf samples ∷ [])))
+unfoldable pub record_of : RawKeypoint → OrientedKeypoint → List ℕ → ℕ → List ℕ
+record_of k o values samples = head_of k ++ (floats_of o ++ (map byte_of values ++ (blank_of samples ∷ [])))

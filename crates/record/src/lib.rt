@@ -3,12 +3,12 @@
 
 ghost use Rattle.std.specs.Prelude.{◌≡◌, ◌+◌, ◌≤◌, ◌++◌, map, length};
 ghost use Rattle.lists.specs.Pasted.{pasted};
-ghost use Rattle.params.specs.Limits.{valueCount};
-ghost use Rattle.sheet.specs.Words.{readWords, frontWords};
-ghost use Rattle.words.specs.Keypoint.{keypointIn};
-ghost use Rattle.words.specs.Oriented.{orientedIn};
-ghost use Rattle.record.specs.Record.{head_of, floatsOf, byteOf, blankOf, recordOf};
-ghost use Rattle.record.specs.Make.{alike, recordWrong, makeNumber, makeLeft};
+ghost use Rattle.params.specs.Limits.{value_count};
+ghost use Rattle.sheet.specs.Words.{read_words, front_words};
+ghost use Rattle.words.specs.Keypoint.{keypoint_in};
+ghost use Rattle.words.specs.Oriented.{oriented_in};
+ghost use Rattle.record.specs.Record.{head_of, floats_of, byte_of, blank_of, record_of};
+ghost use Rattle.record.specs.Make.{alike, record_wrong, make_number, make_left};
 
 use detect_keypoint::RawKeypoint;
 use orient_words::OrientedKeypoint;
@@ -30,7 +30,7 @@ const MAX_LAYERS: u64 = 15;
 
 // A value, by its bits, as the whole number that it is; 256 where it is none from 0 to 255.
 fn byte_of(bits: u32) -> u32
-    ensures { result ≡ byteOf bits }
+    ensures { result ≡ byte_of bits }
 {
     let x = ieee::of_bits(bits);
     if (x >= 0.0) & (x <= 255.0) {
@@ -56,8 +56,8 @@ fn is_alike(k: RawKeypoint, o: OrientedKeypoint) -> bool
 
 // Writes a record's whole numbers and floats.
 fn put_front(k: RawKeypoint, o: OrientedKeypoint, out: &mut [u32])
-    requires { frontWords ≤ length out.old }
-    ensures { out.new ≡ pasted 0 (head_of k ++ floatsOf o) out.old }
+    requires { front_words ≤ length out.old }
+    ensures { out.new ≡ pasted 0 (head_of k ++ floats_of o) out.old }
 {
     out[0] = k.rr;
     out[1] = k.cc;
@@ -73,8 +73,8 @@ fn put_front(k: RawKeypoint, o: OrientedKeypoint, out: &mut [u32])
 
 // Writes its values as whole numbers.
 fn put_values(values: &[u32], out: &mut [u32])
-    requires { (length values.now ≡ valueCount) × (frontWords + valueCount ≤ length out.old) }
-    ensures { out.new ≡ pasted frontWords (map byteOf values.now) out.old }
+    requires { (length values.now ≡ value_count) × (front_words + value_count ≤ length out.old) }
+    ensures { out.new ≡ pasted front_words (map byte_of values.now) out.old }
 {
     let mut i = 0;
     while i < VALUES {
@@ -85,8 +85,8 @@ fn put_values(values: &[u32], out: &mut [u32])
 
 // Writes a record.
 fn put_record(k: RawKeypoint, o: OrientedKeypoint, values: &[u32], samples: usize, out: &mut [u32])
-    requires { (length values.now ≡ valueCount) × (length out.old ≡ readWords) }
-    ensures { out.new ≡ recordOf k o values.now samples }
+    requires { (length values.now ≡ value_count) × (length out.old ≡ read_words) }
+    ensures { out.new ≡ record_of k o values.now samples }
 {
     put_front(k, o, out);
     put_values(values, out);
@@ -95,7 +95,7 @@ fn put_record(k: RawKeypoint, o: OrientedKeypoint, values: &[u32], samples: usiz
 
 // Whether the maker refuses them: the record is put together, and the sheet's own rules are asked of it.
 fn record_wrong(k: RawKeypoint, o: OrientedKeypoint, values: &[u32], samples: usize) -> bool
-    ensures { result ≡ recordWrong k o values.now samples }
+    ensures { result ≡ record_wrong k o values.now samples }
 {
     if (k.xi != k.xi) | !is_alike(k, o) {
         return true;
@@ -117,8 +117,8 @@ pub fn make_record(
     samples: usize,
     out: &mut [u32],
 ) -> u32
-    ensures { (result ≡ makeNumber (keypointIn keypoint.now) (orientedIn oriented.now) values.now samples (length out.old))
-        × (out.new ≡ makeLeft (keypointIn keypoint.now) (orientedIn oriented.now) values.now samples out.old) }
+    ensures { (result ≡ make_number (keypoint_in keypoint.now) (oriented_in oriented.now) values.now samples (length out.old))
+        × (out.new ≡ make_left (keypoint_in keypoint.now) (oriented_in oriented.now) values.now samples out.old) }
 {
     let k = words::keypoint_in(keypoint);
     let o = words::oriented_in(oriented);

@@ -11,7 +11,7 @@ use borrow.Author.Tests.{leb-true}
 use lib.Dec.{leb}
 use lib.ListN.{length, get_or}
 use Rattle.lists.specs.Ranges.{joined}
-use Rattle.sheet.specs.Sheet.{allPass}
+use Rattle.sheet.specs.Sheet.{all_pass}
 use Rattle.road.specs.Road.{Among}
 
 -- a place at which it stands; what stands past the list's end is never read
@@ -30,13 +30,13 @@ pub record From {A B : Type 0} (f : A → List B) (xs : List A) (y : B) : Type 0
   pub among : Among source xs
   pub inside : Among y (f source)
 
-pub from-flat : {A B : Type 0} (f : A → List B) (xs : List A) (y : B) → Among y (flat_map f xs) → From f xs y
+pub from_flat : {A B : Type 0} (f : A → List B) (xs : List A) (y : B) → Among y (flat_map f xs) → From f xs y
 unfolding flat_map
-from-flat f [] y m = absurd (Memᴰ.not-nil m)
-from-flat f (x ∷ xs) y m =
+from_flat f [] y m = absurd (Memᴰ.not-nil m)
+from_flat f (x ∷ xs) y m =
     ⊎_elim
     (λ here. record { source = x; among = Memᴰ.head refl; inside = here })
-    (λ later. let p = from-flat f xs y later in record { source = p.source; among = Memᴰ.tail p.among; inside = p.inside })
+    (λ later. let p = from_flat f xs y later in record { source = p.source; among = Memᴰ.tail p.among; inside = p.inside })
     (Memᴰ.append_cases (f x) m)
 
 -- of a list of images, from an element
@@ -45,12 +45,12 @@ pub record Image {A B : Type 0} (g : A → B) (xs : List A) (y : B) : Type 0 whe
   pub among : Among source xs
   pub is : y ≡ g source
 
-pub from-map : {A B : Type 0} (g : A → B) (xs : List A) (y : B) → Among y (map g xs) → Image g xs y
-from-map g [] y m = absurd (Memᴰ.not-nil m)
-from-map g (x ∷ xs) y m =
+pub from_map : {A B : Type 0} (g : A → B) (xs : List A) (y : B) → Among y (map g xs) → Image g xs y
+from_map g [] y m = absurd (Memᴰ.not-nil m)
+from_map g (x ∷ xs) y m =
     ⊎_elim
     (λ e. record { source = x; among = Memᴰ.head refl; is = e })
-    (λ later. let p = from-map g xs y later in record { source = p.source; among = Memᴰ.tail p.among; is = p.is })
+    (λ later. let p = from_map g xs y later in record { source = p.source; among = Memᴰ.tail p.among; is = p.is })
     (Memᴰ.cases_cons m)
 
 -- of the parts of a range, from a number of the range
@@ -60,10 +60,10 @@ pub record Step {B : Type 0} (lo hi : ℕ) (f : ℕ → List B) (y : B) : Type 0
   pub below : step < hi
   pub inside : Among y (f step)
 
-pub from-joined : {B : Type 0} (lo hi : ℕ) (f : ℕ → List B) (y : B) → Among y (joined lo hi f) → Step lo hi f y
+pub from_joined : {B : Type 0} (lo hi : ℕ) (f : ℕ → List B) (y : B) → Among y (joined lo hi f) → Step lo hi f y
 unfolding joined
-from-joined lo zero f y m = absurd (Memᴰ.not-nil m)
-from-joined {B} lo (suc hi) f y m = go (leb lo hi) refl m (λ before. from-joined lo hi f y before)
+from_joined lo zero f y m = absurd (Memᴰ.not-nil m)
+from_joined {B} lo (suc hi) f y m = go (leb lo hi) refl m (λ before. from_joined lo hi f y before)
   where
     go : (b : Bool) → leb lo hi ≡ b → Among y (cond b (joined lo hi f ++ f hi) []) → (Among y (joined lo hi f) → Step lo hi f y) → Step lo (suc hi) f y
     go false e n less = absurd (Memᴰ.not-nil n)
@@ -74,7 +74,7 @@ from-joined {B} lo (suc hi) f y m = go (leb lo hi) refl m (λ before. from-joine
         (Memᴰ.append_cases (joined lo hi f) n)
 
 -- a test that each passes
-pub pass_all : (p : List ℕ → Bool) (rs : List (List ℕ)) → ((r : List ℕ) → Among r rs → p r ≡ true) → allPass p rs ≡ true
-unfolding allPass
+pub pass_all : (p : List ℕ → Bool) (rs : List (List ℕ)) → ((r : List ℕ) → Among r rs → p r ≡ true) → all_pass p rs ≡ true
+unfolding all_pass
 pass_all p [] h = refl
 pass_all p (r ∷ rs) h = rw (h r (Memᴰ.head refl), pass_all p rs (λ x m. h x (Memᴰ.tail m)))

@@ -10,92 +10,92 @@ use lib.ListN.{length, drop}
 use lib.Seq.{length-take-le}
 use Rattle.params.specs.Answers.{answer_of}
 use Rattle.params.specs.declared.Answer.TheVariants.{Done}
-use Rattle.sheet.specs.Layout.{Layout, Frame, layout_of, known, headerSize, recordSize, maxCount}
-use Rattle.sheet.specs.Sheet.{parts, allPass}
-use Rattle.sheet.specs.Words.{readWords, takenWords, withBlank}
-use Rattle.sheet.specs.Writes.{frame_of, countIn, recordsOf, wordsRight, layerRight, writeFault, writeAnswer}
-use Rattle.sheet.specs.Reads.{readAnswer, readOut}
-use Rattle.sheet.proofs.Parts.{length-flat, parts-flat, pass-map, flat-map}
-use Rattle.sheet.proofs.Faults.{Sound, fault-none, known-fault}
-use Rattle.sheet.proofs.Lawful.{side-edition}
-use Rattle.sheet.proofs.Return.{taken-pos, taken-read}
-use Rattle.sheet.proofs.Answered.{answer-done}
-use Rattle.sheet.proofs.Public.{written-is-read}
-use Rattle.road.specs.Back.{Framed, taken, handedOver, sheetSize, sheetIn, ReadsBack}
+use Rattle.sheet.specs.Layout.{Layout, Frame, layout_of, known, header_size, record_size, max_count}
+use Rattle.sheet.specs.Sheet.{parts, all_pass}
+use Rattle.sheet.specs.Words.{read_words, taken_words, with_blank}
+use Rattle.sheet.specs.Writes.{frame_of, count_in, records_of, words_right, layer_right, write_fault, write_answer}
+use Rattle.sheet.specs.Reads.{read_answer, read_out}
+use Rattle.sheet.proofs.Parts.{length_flat, parts_flat, pass_map, flat_map_lem}
+use Rattle.sheet.proofs.Faults.{Sound, fault_none, known_fault}
+use Rattle.sheet.proofs.Lawful.{side_edition}
+use Rattle.sheet.proofs.Return.{taken_pos, taken_read}
+use Rattle.sheet.proofs.Answered.{answer_done}
+use Rattle.sheet.proofs.Public.{written_is_read}
+use Rattle.road.specs.Back.{Framed, taken, handed_over, sheet_size, sheet_in, ReadsBack}
 
 abbrev pub whole : List ℕ → Bool
-whole r = eqb (length r) readWords
+whole r = eqb (length r) read_words
 
-module _ (edition : ℕ) (rs : List (List ℕ)) (each : allPass whole rs ≡ true) where
+module _ (edition : ℕ) (rs : List (List ℕ)) (each : all_pass whole rs ≡ true) where
   abbrev l : Layout
   l = layout_of edition
 
   abbrev words : List ℕ
-  words = handedOver edition rs
+  words = handed_over edition rs
 
-  short : (r : List ℕ) → whole r ≡ true → length (taken edition r) ≡ takenWords l
-  short r e = length-take-le (takenWords l) r (le_trans (taken-read l.marked) (le_of_eq (sym (eqb-true (length r) readWords e))))
+  short : (r : List ℕ) → whole r ≡ true → length (taken edition r) ≡ taken_words l
+  short r e = length-take-le (taken_words l) r (le_trans (taken_read l.marked) (le_of_eq (sym (eqb-true (length r) read_words e))))
 
-  long : length words ≡ takenWords l * length rs
-  long = length-flat (takenWords l) (taken edition) whole short rs each
+  long : length words ≡ taken_words l * length rs
+  long = length_flat (taken_words l) (taken edition) whole short rs each
 
-  pub counted : countIn l words ≡ length rs
-  counted = ap (λ (n : ℕ). n / takenWords l) long ∙ mul-div_right (length rs) (taken-pos l.marked)
+  pub counted : count_in l words ≡ length rs
+  counted = ap (λ (n : ℕ). n / taken_words l) long ∙ mul-div_right (length rs) (taken_pos l.marked)
 
-  pub cut : recordsOf l words ≡ map (taken edition) rs
-  unfolding recordsOf
-  cut = ap (λ (n : ℕ). parts (takenWords l) n words) counted ∙ parts-flat (takenWords l) (taken edition) whole short rs each
+  pub cut : records_of l words ≡ map (taken edition) rs
+  unfolding records_of
+  cut = ap (λ (n : ℕ). parts (taken_words l) n words) counted ∙ parts_flat (taken_words l) (taken edition) whole short rs each
 
   -- so for every test of the records
-  all-cut : (p : List ℕ → Bool) → allPass (λ r. p (taken edition r)) rs ≡ true → allPass p (recordsOf l words) ≡ true
-  all-cut p h = ap (allPass p) cut ∙ pass-map p (taken edition) rs ∙ h
+  all_cut : (p : List ℕ → Bool) → all_pass (λ r. p (taken edition r)) rs ≡ true → all_pass p (records_of l words) ≡ true
+  all_cut p h = ap (all_pass p) cut ∙ pass_map p (taken edition) rs ∙ h
 
-  module _ (known-one : known edition ≡ true) (wide high layers : ℕ) (framed : Framed wide high layers) (few : length rs ≤ maxCount)
-      (right : allPass (λ r. wordsRight l (frame_of wide high layers) (taken edition r)) rs ≡ true) (layered : allPass (λ r. layerRight layers (taken edition r)) rs ≡ true) where
+  module _ (known_one : known edition ≡ true) (wide high layers : ℕ) (framed : Framed wide high layers) (few : length rs ≤ max_count)
+      (right : all_pass (λ r. words_right l (frame_of wide high layers) (taken edition r)) rs ≡ true) (layered : all_pass (λ r. layer_right layers (taken edition r)) rs ≡ true) where
     abbrev f : Frame
     f = frame_of wide high layers
 
     keeps : Sound l f words
     keeps = record {
       width_low = framed.across.0;
-      width-high = le_trans framed.across.1 (le_of_eq (sym (side-edition edition)));
-      height-low = framed.down.0;
-      height-high = le_trans framed.down.1 (le_of_eq (sym (side-edition edition)));
-      layers-low = framed.deep.0;
-      layers-high = framed.deep.1;
-      whole = ap (λ (n : ℕ). n % takenWords l) long ∙ mul-mod_right (takenWords l) (length rs);
-      count = subst (λ (n : ℕ). n ≤ maxCount) (sym counted) few;
-      records = all-cut (wordsRight l f) right;
+      width_high = le_trans framed.across.1 (le_of_eq (sym (side_edition edition)));
+      height_low = framed.down.0;
+      height_high = le_trans framed.down.1 (le_of_eq (sym (side_edition edition)));
+      layers_low = framed.deep.0;
+      layers_high = framed.deep.1;
+      whole = ap (λ (n : ℕ). n % taken_words l) long ∙ mul-mod_right (taken_words l) (length rs);
+      count = subst (λ (n : ℕ). n ≤ max_count) (sym counted) few;
+      records = all_cut (words_right l f) right;
     }
 
-    writer-accepts : writeFault edition f words ≡ 0
-    writer-accepts = known-fault edition f words known-one ∙ fault-none l f words keeps framed.across.1 framed.down.1 (all-cut (layerRight layers) layered)
+    writer_accepts : write_fault edition f words ≡ 0
+    writer_accepts = known_fault edition f words known_one ∙ fault_none l f words keeps framed.across.1 framed.down.1 (all_cut (layer_right layers) layered)
 
-    write_done : (out : List ℕ) → sheetSize edition rs ≤ length out → writeAnswer edition f words (length out) ≡ Done (sheetSize edition rs)
-    unfolding writeAnswer
+    write_done : (out : List ℕ) → sheet_size edition rs ≤ length out → write_answer edition f words (length out) ≡ Done (sheet_size edition rs)
+    unfolding write_answer
     write_done out h =
-        ap (λ (n : ℕ). answer_of (writeFault edition f words) (headerSize + recordSize l * n) (headerSize + recordSize l * n) (length out)) counted
-        ∙ answer-done (writeFault edition f words) (sheetSize edition rs) (sheetSize edition rs) (length out) writer-accepts h
+        ap (λ (n : ℕ). answer_of (write_fault edition f words) (header_size + record_size l * n) (header_size + record_size l * n) (length out)) counted
+        ∙ answer_done (write_fault edition f words) (sheet_size edition rs) (sheet_size edition rs) (length out) writer_accepts h
 
-    module _ (out room : List ℕ) (h : sheetSize edition rs ≤ length out) (g : readWords * length rs ≤ length room) where
+    module _ (out room : List ℕ) (h : sheet_size edition rs ≤ length out) (g : read_words * length rs ≤ length room) where
       abbrev bytes : List ℕ
-      bytes = sheetIn edition wide high layers rs out
+      bytes = sheet_in edition wide high layers rs out
 
       abbrev Trip : ℕ → List ℕ → Type 0
       Trip n given =
-          (readAnswer bytes (length room) ≡ record { answer = Done n; edition = edition; width = wide; height = high; layers = layers })
-          × (readOut bytes room ≡ given ++ drop (readWords * n) room)
+          (read_answer bytes (length room) ≡ record { answer = Done n; edition = edition; width = wide; height = high; layers = layers })
+          × (read_out bytes room ≡ given ++ drop (read_words * n) room)
 
-      trip : Trip (length rs) (flat_map (λ r. withBlank l (taken edition r)) rs)
+      trip : Trip (length rs) (flat_map (λ r. with_blank l (taken edition r)) rs)
       trip =
-          subst (λ (n : ℕ). Trip n (flat_map (λ r. withBlank l (taken edition r)) rs)) counted
-          (subst (Trip (countIn l words)) (ap (flat_map (withBlank l)) cut ∙ flat-map (withBlank l) (taken edition) rs)
-          (written-is-read edition wide high layers words out room (sheetSize edition rs) (write_done out h) (subst (λ (n : ℕ). readWords * n ≤ length room) (sym counted) g)))
+          subst (λ (n : ℕ). Trip n (flat_map (λ r. with_blank l (taken edition r)) rs)) counted
+          (subst (Trip (count_in l words)) (ap (flat_map (with_blank l)) cut ∙ flat_map_lem (with_blank l) (taken edition) rs)
+          (written_is_read edition wide high layers words out room (sheet_size edition rs) (write_done out h) (subst (λ (n : ℕ). read_words * n ≤ length room) (sym counted) g)))
 
-    pub reads-back : ReadsBack edition wide high layers rs
-    reads-back =
+    pub reads_back : ReadsBack edition wide high layers rs
+    reads_back =
         record {
-          accepted = writer-accepts;
+          accepted = writer_accepts;
           written = write_done;
           answered = λ out room h g. (trip out room h g).0;
           given = λ out room h g. (trip out room h g).1;

@@ -8,14 +8,14 @@ use Rattle.picture.specs.declared.Size.{Size}
 use Rattle.detect_keypoint.specs.declared.RawKeypoint.{RawKeypoint}
 use Rattle.detect.specs.Entry as Detection
 use Rattle.orient_words.specs.declared.OrientedKeypoint.{OrientedKeypoint}
-use Rattle.orient.specs.Entry.{orientFault, orientedList}
-use Rattle.descriptor_inputs.specs.Inputs.{inputsOf}
+use Rattle.orient.specs.Entry.{orient_fault, oriented_list}
+use Rattle.descriptor_inputs.specs.Inputs.{inputs_of}
 use Rattle.descriptor_inputs.specs.declared.Inputs.{Inputs}
-use Rattle.descriptor_run.specs.Cells.{samplesOf, reads_of}
-use Rattle.descriptor_words.specs.Words.{turnAt, valuesAt, wordsAt}
+use Rattle.descriptor_run.specs.Cells.{samples_of, reads_of}
+use Rattle.descriptor_words.specs.Words.{turn_at, values_at, words_at}
 use Rattle.descriptor_words.specs.declared.Spot.{Spot}
 use Rattle.descriptor.specs.Entry as Descriptor
-use Rattle.record.specs.Record.{recordOf}
+use Rattle.record.specs.Record.{record_of}
 
 -- x stands in a list, at some place
 abbrev pub Among : {A : Type 0} → A → List A → Type 0
@@ -31,66 +31,66 @@ pub record Octave : Type 0 where
   pub picture : ℕ → List Float
 
 -- the size of its pictures
-abbrev pub sizeIn : Octave → Size
-sizeIn q = record { width = q.shape.width; height = q.shape.height }
+abbrev pub size_in : Octave → Size
+size_in q = record { width = q.shape.width; height = q.shape.height }
 
 -- detection on a layer: the number that it answers, and the keypoints that it finds
-abbrev pub searchFault : Settings → Octave → ℕ → ℕ
-searchFault s q layer = Detection.faultOf q.stack q.shape layer q.number s
+abbrev pub search_fault : Settings → Octave → ℕ → ℕ
+search_fault s q layer = Detection.fault_of q.stack q.shape layer q.number s
 
-abbrev pub foundIn : Settings → Octave → ℕ → List RawKeypoint
-foundIn s q layer = Detection.list_of q.stack q.shape layer q.number s
+abbrev pub found_in : Settings → Octave → ℕ → List RawKeypoint
+found_in s q layer = Detection.list_of q.stack q.shape layer q.number s
 
 -- orientation of a keypoint on a picture of the octave: its number, and the directions
-abbrev pub turnFault : List Float → Octave → RawKeypoint → ℕ
-turnFault img q k = orientFault img (sizeIn q) k
+abbrev pub turn_fault : List Float → Octave → RawKeypoint → ℕ
+turn_fault img q k = orient_fault img (size_in q) k
 
-abbrev pub directionsOf : List Float → Octave → RawKeypoint → List OrientedKeypoint
-directionsOf img q k = orientedList img (sizeIn q) k
+abbrev pub directions_of : List Float → Octave → RawKeypoint → List OrientedKeypoint
+directions_of img q k = oriented_list img (size_in q) k
 
 -- the inputs that an oriented keypoint gives, as the descriptor takes them
 abbrev pub spot_of : Inputs → Spot
 spot_of i = record { x = i.x; y = i.y; scale = i.scale; angle = i.angle }
 
 -- the descriptor of a direction: what it is asked with, its number, what it reads, and the 128 values, also by their bits, and the samples
-abbrev pub inputsFor : Octave → OrientedKeypoint → Inputs
-inputsFor q o = inputsOf o (pos q.number)
+abbrev pub inputs_for : Octave → OrientedKeypoint → Inputs
+inputs_for q o = inputs_of o (pos q.number)
 
-abbrev pub spotFor : Octave → OrientedKeypoint → Spot
-spotFor q o = spot_of (inputsFor q o)
+abbrev pub spot_for : Octave → OrientedKeypoint → Spot
+spot_for q o = spot_of (inputs_for q o)
 
-abbrev pub patchFault : List Float → Octave → OrientedKeypoint → ℕ
-patchFault img q o = Descriptor.faultOf img (sizeIn q) (spotFor q o)
+abbrev pub patch_fault : List Float → Octave → OrientedKeypoint → ℕ
+patch_fault img q o = Descriptor.fault_of img (size_in q) (spot_for q o)
 
-abbrev pub patchReads : List Float → Octave → OrientedKeypoint → List Float
-patchReads img q o = reads_of img (turnAt (sizeIn q) (spotFor q o))
+abbrev pub patch_reads : List Float → Octave → OrientedKeypoint → List Float
+patch_reads img q o = reads_of img (turn_at (size_in q) (spot_for q o))
 
-abbrev pub valuesFor : List Float → Octave → OrientedKeypoint → List Float
-valuesFor img q o = valuesAt img (sizeIn q) (spotFor q o)
+abbrev pub values_for : List Float → Octave → OrientedKeypoint → List Float
+values_for img q o = values_at img (size_in q) (spot_for q o)
 
-abbrev pub valueWordsFor : List Float → Octave → OrientedKeypoint → List ℕ
-valueWordsFor img q o = wordsAt img (sizeIn q) (spotFor q o)
+abbrev pub value_words_for : List Float → Octave → OrientedKeypoint → List ℕ
+value_words_for img q o = words_at img (size_in q) (spot_for q o)
 
-abbrev pub samplesFor : List Float → Octave → OrientedKeypoint → ℕ
-samplesFor img q o = length (samplesOf img (turnAt (sizeIn q) (spotFor q o)))
+abbrev pub samples_for : List Float → Octave → OrientedKeypoint → ℕ
+samples_for img q o = length (samples_of img (turn_at (size_in q) (spot_for q o)))
 
 -- a keypoint's picture is that of the layer where it settled, which may be another than the one searched
-abbrev pub pictureFor : Octave → RawKeypoint → List Float
-pictureFor q k = q.picture k.layer
+abbrev pub picture_for : Octave → RawKeypoint → List Float
+picture_for q k = q.picture k.layer
 
 -- the record of a keypoint's direction
-abbrev pub recordFor : Octave → RawKeypoint → OrientedKeypoint → List ℕ
-recordFor q k o = recordOf k o (valueWordsFor (pictureFor q k) q o) (samplesFor (pictureFor q k) q o)
+abbrev pub record_for : Octave → RawKeypoint → OrientedKeypoint → List ℕ
+record_for q k o = record_of k o (value_words_for (picture_for q k) q o) (samples_for (picture_for q k) q o)
 
 -- ---- the order of a sheet
 
 -- of a keypoint, direction by direction; of a layer searched, keypoint by keypoint as detection lists them
-unfoldable pub recordsFor : Octave → RawKeypoint → List (List ℕ)
-recordsFor q k = map (recordFor q k) (directionsOf (pictureFor q k) q k)
+unfoldable pub records_for : Octave → RawKeypoint → List (List ℕ)
+records_for q k = map (record_for q k) (directions_of (picture_for q k) q k)
 
-unfoldable pub recordsIn : Settings → Octave → ℕ → List (List ℕ)
-recordsIn s q layer = flat_map (recordsFor q) (foundIn s q layer)
+unfoldable pub records_in : Settings → Octave → ℕ → List (List ℕ)
+records_in s q layer = flat_map (records_for q) (found_in s q layer)
 
 -- of an octave, by the layer searched from 1 on
-unfoldable pub octaveRecords : Settings → Octave → List (List ℕ)
-octaveRecords s q = joined 1 (s.layers + 1) (recordsIn s q)
+unfoldable pub octave_records : Settings → Octave → List (List ℕ)
+octave_records s q = joined 1 (s.layers + 1) (records_in s q)

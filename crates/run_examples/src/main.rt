@@ -2,7 +2,7 @@
 #![tactic(auto)]
 
 ghost use Rattle.std.specs.Prelude.{◌≡◌, ◌<◌, ◌≤◌};
-ghost use Rattle.params.specs.Limits.{valueCount};
+ghost use Rattle.params.specs.Limits.{value_count};
 
 use descriptor::Described;
 use descriptor_words::Spot;
@@ -324,7 +324,7 @@ fn marked(bits: u32) -> usize
 
 // How many values are not +0, by their bits.
 fn not_zero(values: &[u32; 128]) -> usize
-    ensures { result ≤ valueCount }
+    ensures { result ≤ value_count }
 {
     let mut n: usize = 0;
     for i in 0..128 {

@@ -5,8 +5,8 @@
 #![tactic(auto)]
 
 ghost use Rattle.std.specs.Prelude.{◌≡◌, ◌+◌, ◌<◌, ◌≤◌, length};
-ghost use Rattle.sheet.specs.Words.{readWords};
-ghost use Rattle.run_extract.specs.Sizes.{mostFound, mostRecords, recordsWords, sheetBytes, pictureSamples, columns};
+ghost use Rattle.sheet.specs.Words.{read_words};
+ghost use Rattle.run_extract.specs.Sizes.{most_found, most_records, records_words, sheet_bytes, picture_samples, columns};
 
 use descriptor::Described;
 use descriptor_words::Spot;
@@ -77,7 +77,7 @@ fn parts(bits: u32, of_one: f32) -> u64 {
 
 // The keypoints found in a layer, at most 32 of them.
 fn find(dog: &[f32], layer: usize, found: &mut [u32; 320]) -> usize
-    ensures { result ≤ mostFound }
+    ensures { result ≤ most_found }
 {
     let shape = Shape {
         width: WIDTH,
@@ -101,7 +101,7 @@ fn find(dog: &[f32], layer: usize, found: &mut [u32; 320]) -> usize
 // ---- records
 
 fn put_record(records: &mut [u32; 8896], at: usize, made: &[u32; 139])
-    requires { at + readWords ≤ recordsWords }
+    requires { at + read_words ≤ records_words }
 {
     for i in 0..139 {
         records[at + i] = made[i];
@@ -132,8 +132,8 @@ fn add_made(
     records: &mut [u32; 8896],
     written: usize,
 ) -> usize
-    requires { written < mostRecords }
-    ensures { result ≤ mostRecords }
+    requires { written < most_records }
+    ensures { result ≤ most_records }
 {
     let mut made = [0u32; 139];
     let number = record::make_record(keypoint, oriented, &values, samples, &mut made);
@@ -154,8 +154,8 @@ fn add_record(
     records: &mut [u32; 8896],
     written: usize,
 ) -> usize
-    requires { written ≤ mostRecords }
-    ensures { result ≤ mostRecords }
+    requires { written ≤ most_records }
+    ensures { result ≤ most_records }
 {
     if !there {
         return written;
@@ -186,8 +186,8 @@ fn add_peaks(
     records: &mut [u32; 8896],
     written: usize,
 ) -> usize
-    requires { written ≤ mostRecords }
-    ensures { result ≤ mostRecords }
+    requires { written ≤ most_records }
+    ensures { result ≤ most_records }
 {
     let all = &out[..];
     let mut n = written;
@@ -201,8 +201,8 @@ fn add_peaks(
 
 // Adds the records of a keypoint on its picture.
 fn add_on(picture: &[f32], keypoint: &[u32], records: &mut [u32; 8896], written: usize) -> usize
-    requires { written ≤ mostRecords }
-    ensures { result ≤ mostRecords }
+    requires { written ≤ most_records }
+    ensures { result ≤ most_records }
 {
     let mut out = [0u32; 108];
     let r = orient::assign_orientations(picture, size(), words::keypoint_in(keypoint), &mut out);
@@ -229,8 +229,8 @@ fn add_keypoint(
     records: &mut [u32; 8896],
     written: usize,
 ) -> usize
-    requires { (length pictures.now ≡ pictureSamples) × (written ≤ mostRecords) }
-    ensures { result ≤ mostRecords }
+    requires { (length pictures.now ≡ picture_samples) × (written ≤ most_records) }
+    ensures { result ≤ most_records }
 {
     let k = words::keypoint_in(keypoint);
     let from = 2464 * picture_of(k.layer);
@@ -245,8 +245,8 @@ fn add_found(
     records: &mut [u32; 8896],
     written: usize,
 ) -> usize
-    requires { (length pictures.now ≡ pictureSamples) × (count ≤ mostFound) × (written ≤ mostRecords) }
-    ensures { result ≤ mostRecords }
+    requires { (length pictures.now ≡ picture_samples) × (count ≤ most_found) × (written ≤ most_records) }
+    ensures { result ≤ most_records }
 {
     let all = &found[..];
     let mut n = written;
@@ -266,8 +266,8 @@ fn add_layer(
     records: &mut [u32; 8896],
     written: usize,
 ) -> usize
-    requires { (length pictures.now ≡ pictureSamples) × (written ≤ mostRecords) }
-    ensures { result ≤ mostRecords }
+    requires { (length pictures.now ≡ picture_samples) × (written ≤ most_records) }
+    ensures { result ≤ most_records }
 {
     let mut found = [0u32; 320];
     let n = find(dog, layer, &mut found);
@@ -278,7 +278,7 @@ fn add_layer(
 
 // The largest of a record's 128 values.
 fn largest(row: &[u32]) -> u32
-    requires { length row.now ≡ readWords }
+    requires { length row.now ≡ read_words }
 {
     let mut most: u32 = 0;
     for i in 0..128 {
@@ -295,7 +295,7 @@ fn wide(x: u32) -> u64 {
 
 // What stands in a column of the table: the whole numbers, the floats, the largest of the values, and the blank word.
 fn shown(row: &[u32], column: usize) -> u64
-    requires { (length row.now ≡ readWords) × (column < columns) }
+    requires { (length row.now ≡ read_words) × (column < columns) }
 {
     match column {
         8 => parts(row[8], 100000.0),
@@ -307,7 +307,7 @@ fn shown(row: &[u32], column: usize) -> u64
 }
 
 fn print_record(row: &[u32])
-    requires { length row.now ≡ readWords }
+    requires { length row.now ≡ read_words }
 {
     let mut numbers = [0u64; 32];
     for i in 0..12 {
@@ -317,7 +317,7 @@ fn print_record(row: &[u32])
 }
 
 fn print_table(words: &[u32; 8896], count: usize)
-    requires { count ≤ mostRecords }
+    requires { count ≤ most_records }
 {
     run_io::print(
         b"row\tcolumn\toctave\tlayer\tcode\tx\ty\tsize\tresponse x 100000\tangle\tlargest value\tblank\n",
@@ -337,7 +337,7 @@ fn print_byte(b: u8) {
 
 // The bytes from a place on, in one line.
 fn print_bytes(bytes: &[u8; 9864], at: usize, n: usize)
-    requires { at + n ≤ sheetBytes }
+    requires { at + n ≤ sheet_bytes }
 {
     for i in 0..n {
         print_byte(bytes[at + i]);
@@ -346,7 +346,7 @@ fn print_bytes(bytes: &[u8; 9864], at: usize, n: usize)
 }
 
 fn print_sheet(bytes: &[u8; 9864], count: usize)
-    requires { count ≤ mostRecords }
+    requires { count ≤ most_records }
 {
     print_bytes(bytes, 0, 8);
     for i in 0..count {
@@ -356,8 +356,8 @@ fn print_sheet(bytes: &[u8; 9864], count: usize)
 
 // The sheet of so many records, and how many bytes it has.
 fn write(records: [u32; 8896], count: usize, bytes: &mut [u8; 9864]) -> usize
-    requires { count ≤ mostRecords }
-    ensures { result ≤ sheetBytes }
+    requires { count ≤ most_records }
+    ensures { result ≤ sheet_bytes }
 {
     let long = 139 * count;
     let a = sheet_write::write_sheet(EDITION, WIDTH, HEIGHT, LAYERS, &records[..long], bytes);
@@ -370,8 +370,8 @@ fn write(records: [u32; 8896], count: usize, bytes: &mut [u8; 9864]) -> usize
 
 // The records of a sheet, and how many there are.
 fn read(bytes: [u8; 9864], size: usize, words: &mut [u32; 8896]) -> usize
-    requires { size ≤ sheetBytes }
-    ensures { result ≤ mostRecords }
+    requires { size ≤ sheet_bytes }
+    ensures { result ≤ most_records }
 {
     let r = sheet_read::read_sheet(&bytes[..size], words);
     let a = r.answer;
@@ -384,7 +384,7 @@ fn read(bytes: [u8; 9864], size: usize, words: &mut [u32; 8896]) -> usize
 
 // Writes the sheet, reads it back and prints both.
 fn show(records: [u32; 8896], count: usize)
-    requires { count ≤ mostRecords }
+    requires { count ≤ most_records }
 {
     let mut bytes = [0u8; 9864];
     let size = write(records, count, &mut bytes);
@@ -396,7 +396,7 @@ fn show(records: [u32; 8896], count: usize)
 
 // The whole way: the records by the layer searched, in each as detection lists the keypoints and orientation their directions.
 fn extract(dog: &[f32], pictures: &[f32])
-    requires { length pictures.now ≡ pictureSamples }
+    requires { length pictures.now ≡ picture_samples }
 {
     let mut records = [0u32; 8896];
     let first = add_layer(dog, pictures, 1, &mut records, 0);

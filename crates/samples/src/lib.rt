@@ -2,11 +2,11 @@
 #![tactic(auto)]
 
 ghost use Rattle.std.specs.Prelude.{◌≡◌, ◌+◌, ◌<◌, ◌≤◌, min, length};
-ghost use Rattle.params.specs.Table.{goodSample, allGood};
-ghost use Rattle.picture.specs.Picture.{fourAt};
+ghost use Rattle.params.specs.Table.{good_sample, all_good};
+ghost use Rattle.picture.specs.Picture.{four_at};
 ghost use Rattle.picture.specs.Place.{Around};
-ghost use Rattle.samples.specs.Samples.{block, goodFrom};
-ghost use Rattle.samples.specs.Area.{Inset, areaGood};
+ghost use Rattle.samples.specs.Samples.{block, good_from};
+ghost use Rattle.samples.specs.Area.{Inset, area_good};
 
 use picture::Size;
 
@@ -28,7 +28,7 @@ pub struct Area {
 
 // Whether a sample is a number, and at most the limit in magnitude.
 pub fn good_sample(x: f32) -> bool
-    ensures { result ≡ goodSample x }
+    ensures { result ≡ good_sample x }
 {
     (-LIMIT <= x) & (x <= LIMIT)
 }
@@ -36,7 +36,7 @@ pub fn good_sample(x: f32) -> bool
 // Whether the four neighbours of the cell (r, c) are good samples.
 pub fn four_good(img: &[f32], s: Size, r: usize, c: usize) -> bool
     requires { Around (length img.now) s r c }
-    ensures { result ≡ allGood (fourAt img.now s.width r c) }
+    ensures { result ≡ all_good (four_at img.now s.width r c) }
 {
     let right = good_sample(picture::pixel_at(img, s, r, c + 1));
     let left = good_sample(picture::pixel_at(img, s, r, c - 1));
@@ -48,7 +48,7 @@ pub fn four_good(img: &[f32], s: Size, r: usize, c: usize) -> bool
 // Whether the samples from `from` to below `to` are good. No branch depends on a sample, so that the machine tests several at once.
 pub fn block_good(d: &[f32], from: usize, to: usize) -> bool
     requires { (from ≤ to) × (to ≤ length d.now) }
-    ensures { result ≡ goodFrom from to d.now }
+    ensures { result ≡ good_from from to d.now }
 {
     let mut ok = true;
     let mut i = from;
@@ -63,7 +63,7 @@ pub fn block_good(d: &[f32], from: usize, to: usize) -> bool
 // which the machine tests quickly.
 pub fn area_good(img: &[f32], s: Size, a: Area) -> bool
     requires { Inset (length img.now) s a }
-    ensures { result ≡ areaGood img.now s.width a }
+    ensures { result ≡ area_good img.now s.width a }
 {
     let left = a.left - 1;
     let right = a.right + 1;
@@ -92,7 +92,7 @@ fn block_end(from: usize, len: usize) -> usize
 
 // Whether all samples are good: block by block, and no further than the first that has a bad one.
 pub fn all_good(d: &[f32]) -> bool
-    ensures { result ≡ allGood d.now }
+    ensures { result ≡ all_good d.now }
 {
     let mut i: usize = 0;
     while i < d.len() {

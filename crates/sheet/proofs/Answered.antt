@@ -13,33 +13,33 @@ use Rattle.params.specs.Answers.{answer_of, landed}
 use Rattle.params.specs.declared.Answer.{Answer}
 use Rattle.params.specs.declared.Answer.TheVariants.{Done, Short, Refused}
 
-pub answer-refused : (fault count need room : ℕ) → (fault ≡ 0 → ⊥) → answer_of fault count need room ≡ Refused fault
+pub answer_refused : (fault count need room : ℕ) → (fault ≡ 0 → ⊥) → answer_of fault count need room ≡ Refused fault
 unfolding answer_of
-answer-refused zero count need room h = absurd (h refl)
-answer-refused (suc k) count need room h = refl
+answer_refused zero count need room h = absurd (h refl)
+answer_refused (suc k) count need room h = refl
 
-pub answer-short : (fault count need room : ℕ) → fault ≡ 0 → room < need → answer_of fault count need room ≡ Short count
+pub answer_short : (fault count need room : ℕ) → fault ≡ 0 → room < need → answer_of fault count need room ≡ Short count
 unfolding answer_of
-answer-short fault count need room e h = rw (e, lt-leb need room h)
+answer_short fault count need room e h = rw (e, lt-leb need room h)
 
-pub answer-done : (fault count need room : ℕ) → fault ≡ 0 → need ≤ room → answer_of fault count need room ≡ Done count
+pub answer_done : (fault count need room : ℕ) → fault ≡ 0 → need ≤ room → answer_of fault count need room ≡ Done count
 unfolding answer_of
-answer-done fault count need room e h = rw (e, le-leb need room h)
+answer_done fault count need room e h = rw (e, le-leb need room h)
 
 -- what 0 says
-room-told : (b : Bool) (count n : ℕ) → cond b (Done count) (Short count) ≡ Done n → (b ≡ true) × (count ≡ n)
-room-told true count n e = (refl, cc)
-room-told false count n e = absurd (let z : ◌≡◌ {A = ℕ} 0 1 = cc in omega arith)
+room_told : (b : Bool) (count n : ℕ) → cond b (Done count) (Short count) ≡ Done n → (b ≡ true) × (count ≡ n)
+room_told true count n e = (refl, cc)
+room_told false count n e = absurd (let z : ◌≡◌ {A = ℕ} 0 1 = cc in omega arith)
 
-pub done-told : (fault count need room n : ℕ) → answer_of fault count need room ≡ Done n → (fault ≡ 0) × (need ≤ room) × (count ≡ n)
+pub done_told : (fault count need room n : ℕ) → answer_of fault count need room ≡ Done n → (fault ≡ 0) × (need ≤ room) × (count ≡ n)
 unfolding answer_of
-done-told zero count need room n e = let b = room-told (leb need room) count n e in (refl, leb-true need room b.0, b.1)
-done-told (suc k) count need room n e = absurd (let z : ◌≡◌ {A = ℕ} 0 1 = cc in omega arith)
+done_told zero count need room n e = let b = room_told (leb need room) count n e in (refl, leb-true need room b.0, b.1)
+done_told (suc k) count need room n e = absurd (let z : ◌≡◌ {A = ℕ} 0 1 = cc in omega arith)
 
 -- written at the front: the new list, then what it did not reach
-pub pasted-front : (new old : List ℕ) (n : ℕ) → length new ≡ n → pasted 0 new old ≡ new ++ drop n old
+pub pasted_front : (new old : List ℕ) (n : ℕ) → length new ≡ n → pasted 0 new old ≡ new ++ drop n old
 unfolding pasted
-pasted-front new old n e = ap (λ (k : ℕ). new ++ drop k old) (zero-add (length new) ∙ e)
+pasted_front new old n e = ap (λ (k : ℕ). new ++ drop k old) (zero-add (length new) ∙ e)
 
-pub landed-front : (a : Answer) (new old : List ℕ) (k n : ℕ) → a ≡ Done k → length new ≡ n → landed a new old ≡ new ++ drop n old
-landed-front a new old k n e h = ap (λ (x : Answer). landed x new old) e ∙ pasted-front new old n h
+pub landed_front : (a : Answer) (new old : List ℕ) (k n : ℕ) → a ≡ Done k → length new ≡ n → landed a new old ≡ new ++ drop n old
+landed_front a new old k n e h = ap (λ (x : Answer). landed x new old) e ∙ pasted_front new old n h

@@ -9,36 +9,36 @@ use borrow.Author.Tests.{le-leb, leb-true, eqb-true}
 use lib.Dec.{leb, eqb}
 use lib.ListN.{length, take, drop, length-map, length-take, length-drop, take-append-drop}
 use Rattle.sheet.specs.Pack.{Slot, bits, pack, unpack, fields, sound, Bytes}
-use Rattle.sheet.specs.Layout.{Layout, headerSize, headerSlots, headerValues, recordSlots, recordSize}
-use Rattle.sheet.specs.Sheet.{parts, allPass, recordRight, sheetRight, sheetBytes, headerIn, readFrame, readCount, recordsIn, readSheet, bytesRight}
-use Rattle.sheet.proofs.Packed.{pack-unpack, ranged, ranged-head, ranged-tail}
+use Rattle.sheet.specs.Layout.{Layout, header_size, header_slots, header_values, record_slots, record_size}
+use Rattle.sheet.specs.Sheet.{parts, all_pass, record_right, sheet_right, sheet_bytes, header_in, read_frame, read_count, records_in, read_sheet, bytes_right}
+use Rattle.sheet.proofs.Packed.{pack_unpack, ranged, ranged_head, ranged_tail}
 use Rattle.sheet.proofs.Cut.{bytes_take, bytes_drop}
 use Rattle.sheet.specs.Trip.{Lawful}
-use Rattle.sheet.proofs.Lawful.{record-bits, header-bits}
-use Rattle.sheet.proofs.Parts.{length-parts}
+use Rattle.sheet.proofs.Lawful.{record_bits, header_bits}
+use Rattle.sheet.proofs.Parts.{length_parts}
 
 -- parts of whole records are joined again
-parts-joined : (ss : List Slot) (k n : ℕ) (bs : List ℕ) → bits ss ≡ 8 * k → length bs ≡ k * n → Bytes bs →
+parts_joined : (ss : List Slot) (k n : ℕ) (bs : List ℕ) → bits ss ≡ 8 * k → length bs ≡ k * n → Bytes bs →
     flat_map (pack ss) (map (unpack ss) (parts k n bs)) ≡ bs
 unfolding flat_map parts
-parts-joined ss k zero [] e l g = refl
-parts-joined ss k zero (b ∷ bs) e l g = absurd (omega (arith, mul-zero k))
-parts-joined ss k (suc n) bs e l g =
+parts_joined ss k zero [] e l g = refl
+parts_joined ss k zero (b ∷ bs) e l g = absurd (omega (arith, mul-zero k))
+parts_joined ss k (suc n) bs e l g =
     let m : k * suc n ≡ k * n + k = mul-suc k n in
     let t : length (take k bs) ≡ k = rw length-take (omega arith) in
     rw (
-      pack-unpack ss (take k bs) (rw t e) (bytes_take k bs g),
-      parts-joined ss k n (drop k bs) e (rw length-drop (omega arith)) (bytes_drop k bs g),
+      pack_unpack ss (take k bs) (rw t e) (bytes_take k bs g),
+      parts_joined ss k n (drop k bs) e (rw length-drop (omega arith)) (bytes_drop k bs g),
       take-append-drop,
     )
 
 -- a sound header's values, from what is read of them
-values-are : (l : Layout) (e w h y n r z : ℕ) → sound (headerSlots l) (e ∷ w ∷ h ∷ y ∷ n ∷ r ∷ z ∷ []) ≡ true →
-    headerValues l (record { width = w + 1; height = h + 1; layers = y; rule = r }) n ≡ e ∷ w ∷ h ∷ y ∷ n ∷ r ∷ z ∷ []
-values-are l e w h y n r z s =
-    let o = ranged (headerSlots l) (e ∷ w ∷ h ∷ y ∷ n ∷ r ∷ z ∷ []) s in
-    let a = ranged-head o in
-    let m = ranged-head (ranged-tail (ranged-tail (ranged-tail (ranged-tail (ranged-tail (ranged-tail o)))))) in
+values_are : (l : Layout) (e w h y n r z : ℕ) → sound (header_slots l) (e ∷ w ∷ h ∷ y ∷ n ∷ r ∷ z ∷ []) ≡ true →
+    header_values l (record { width = w + 1; height = h + 1; layers = y; rule = r }) n ≡ e ∷ w ∷ h ∷ y ∷ n ∷ r ∷ z ∷ []
+values_are l e w h y n r z s =
+    let o = ranged (header_slots l) (e ∷ w ∷ h ∷ y ∷ n ∷ r ∷ z ∷ []) s in
+    let a = ranged_head o in
+    let m = ranged_head (ranged_tail (ranged_tail (ranged_tail (ranged_tail (ranged_tail (ranged_tail o)))))) in
     let p : l.edition ≡ e = omega (arith, a.0, a.1) in
     let q : 0 ≡ z = omega (arith, m.1) in
     let t : w + 1 - 1 ≡ w = omega arith in
@@ -46,9 +46,9 @@ values-are l e w h y n r z s =
     ap (λ (x : ℕ). x ∷ (w + 1 - 1) ∷ (h + 1 - 1) ∷ y ∷ n ∷ r ∷ 0 ∷ []) p
     ∙ rw (t, u) (ap (λ (x : ℕ). e ∷ w ∷ h ∷ y ∷ n ∷ r ∷ x ∷ []) q)
 
-header-values : (l : Layout) (bs : List ℕ) → sound (headerSlots l) (headerIn l bs) ≡ true → headerValues l (readFrame l bs) (readCount l bs) ≡ headerIn l bs
-unfolding readFrame readCount headerIn unpack fields
-header-values l bs h = values-are l _ _ _ _ _ _ _ h
+header_values_lem : (l : Layout) (bs : List ℕ) → sound (header_slots l) (header_in l bs) ≡ true → header_values l (read_frame l bs) (read_count l bs) ≡ header_in l bs
+unfolding read_frame read_count header_in unpack fields
+header_values_lem l bs h = values_are l _ _ _ _ _ _ _ h
 
 all4 : (a b c d : Bool) → (a && b && c && d) ≡ true → (a ≡ true) × (b ≡ true) × (c ≡ true) × (d ≡ true)
 all4 true true true true e = (refl, refl, refl, refl)
@@ -63,51 +63,51 @@ four a b c d p q r s = rw (p, q, r, s)
 module _ (l : Layout) (bs : List ℕ) where
   -- the four parts of the rule of bytes
   pub record Kept : Type 0 where
-    pub long : headerSize ≤ length bs
-    pub header : sound (headerSlots l) (headerIn l bs) ≡ true
-    pub exact : length bs ≡ headerSize + recordSize l * readCount l bs
-    pub records : allPass (recordRight l (readFrame l bs)) (readSheet l bs).records ≡ true
+    pub long : header_size ≤ length bs
+    pub header : sound (header_slots l) (header_in l bs) ≡ true
+    pub exact : length bs ≡ header_size + record_size l * read_count l bs
+    pub records : all_pass (record_right l (read_frame l bs)) (read_sheet l bs).records ≡ true
 
-  pub kept : bytesRight l bs ≡ true → Kept
-  unfolding bytesRight
+  pub kept : bytes_right l bs ≡ true → Kept
+  unfolding bytes_right
   kept h =
-      let c = all4 (leb headerSize (length bs)) (sound (headerSlots l) (headerIn l bs)) (eqb (length bs) (headerSize + recordSize l * readCount l bs))
-      (allPass (recordRight l (readFrame l bs)) (readSheet l bs).records) h in
+      let c = all4 (leb header_size (length bs)) (sound (header_slots l) (header_in l bs)) (eqb (length bs) (header_size + record_size l * read_count l bs))
+      (all_pass (record_right l (read_frame l bs)) (read_sheet l bs).records) h in
       record { long = leb-true _ _ c.0; header = c.1; exact = eqb-true _ _ c.2; records = c.3 }
 
-  pub count-read : length (readSheet l bs).records ≡ readCount l bs
-  unfolding readSheet recordsIn
-  count-read = length-map (parts (recordSize l) (readCount l bs) (drop headerSize bs)) (unpack (recordSlots l (readFrame l bs))) ∙ length-parts (recordSize l) (readCount l bs) (drop headerSize bs)
+  pub count_read : length (read_sheet l bs).records ≡ read_count l bs
+  unfolding read_sheet records_in
+  count_read = length-map (parts (record_size l) (read_count l bs) (drop header_size bs)) (unpack (record_slots l (read_frame l bs))) ∙ length_parts (record_size l) (read_count l bs) (drop header_size bs)
 
-  header_read : Kept → headerValues l (readSheet l bs).frame (length (readSheet l bs).records) ≡ headerIn l bs
-  unfolding readSheet
-  header_read p = ap (headerValues l (readFrame l bs)) count-read ∙ header-values l bs p.header
+  header_read : Kept → header_values l (read_sheet l bs).frame (length (read_sheet l bs).records) ≡ header_in l bs
+  unfolding read_sheet
+  header_read p = ap (header_values l (read_frame l bs)) count_read ∙ header_values_lem l bs p.header
 
-  sides-read : (1 ≤ (readSheet l bs).frame.width) × (1 ≤ (readSheet l bs).frame.height)
-  unfolding readSheet readFrame
-  sides-read = (omega arith, omega arith)
+  sides_read : (1 ≤ (read_sheet l bs).frame.width) × (1 ≤ (read_sheet l bs).frame.height)
+  unfolding read_sheet read_frame
+  sides_read = (omega arith, omega arith)
 
-  records-read : Kept → allPass (recordRight l (readSheet l bs).frame) (readSheet l bs).records ≡ true
-  unfolding readSheet
-  records-read p = p.records
+  records_read : Kept → all_pass (record_right l (read_sheet l bs).frame) (read_sheet l bs).records ≡ true
+  unfolding read_sheet
+  records_read p = p.records
 
   -- what is read of such bytes is a right sheet
-  pub sheet-read : Kept → sheetRight l (readSheet l bs) ≡ true
-  unfolding sheetRight
-  sheet-read p =
-      four _ _ _ _ (le-leb _ _ sides-read.0) (le-leb _ _ sides-read.1) (ap (sound (headerSlots l)) (header_read p) ∙ p.header) (records-read p)
+  pub sheet_read : Kept → sheet_right l (read_sheet l bs) ≡ true
+  unfolding sheet_right
+  sheet_read p =
+      four _ _ _ _ (le-leb _ _ sides_read.0) (le-leb _ _ sides_read.1) (ap (sound (header_slots l)) (header_read p) ∙ p.header) (records_read p)
 
   -- THE OTHER WAY ROUND: and is written again byte for byte
-  pub back : Lawful l → Bytes bs → Kept → sheetBytes l (readSheet l bs) ≡ bs
-  unfolding sheetBytes headerIn readSheet recordsIn
+  pub back : Lawful l → Bytes bs → Kept → sheet_bytes l (read_sheet l bs) ≡ bs
+  unfolding sheet_bytes header_in read_sheet records_in
   back k g p =
       let n = p.exact in
       let o = p.long in
-      let t : length (take headerSize bs) ≡ headerSize = rw length-take (omega arith) in
-      let d : length (drop headerSize bs) ≡ recordSize l * readCount l bs = rw length-drop (omega arith) in
+      let t : length (take header_size bs) ≡ header_size = rw length-take (omega arith) in
+      let d : length (drop header_size bs) ≡ record_size l * read_count l bs = rw length-drop (omega arith) in
       rw (
         header_read p,
-        pack-unpack (headerSlots l) (take headerSize bs) (rw t (header-bits l k)) (bytes_take headerSize bs g),
-        parts-joined (recordSlots l (readFrame l bs)) (recordSize l) (readCount l bs) (drop headerSize bs) (record-bits l (readFrame l bs) k) d (bytes_drop headerSize bs g),
+        pack_unpack (header_slots l) (take header_size bs) (rw t (header_bits l k)) (bytes_take header_size bs g),
+        parts_joined (record_slots l (read_frame l bs)) (record_size l) (read_count l bs) (drop header_size bs) (record_bits l (read_frame l bs) k) d (bytes_drop header_size bs g),
       )
-      (take-append-drop headerSize bs)
+      (take-append-drop header_size bs)

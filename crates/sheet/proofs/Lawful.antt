@@ -7,75 +7,75 @@ use native.Mathlib.Omega.{arith}
 use lib.Dec.{eqb, lit<}
 use lib.ListN.{replicate}
 use lib.Pow.{pow_pos, ones_lt}
-use Rattle.params.specs.Limits.{maxSide, maxLayers, valueCount}
+use Rattle.params.specs.Limits.{max_side, max_layers, value_count}
 use Rattle.sheet.specs.Pack.{Slot, slot, bits, sound, Held}
-use Rattle.sheet.specs.Layout.{Layout, Frame, edition1, edition2, layout_of, headerSize, markBits, headerSlots, headSize, headSlots, recordSize, largestAngle, valueSlots, recordSlots}
-use Rattle.sheet.specs.Sheet.{recordRight}
+use Rattle.sheet.specs.Layout.{Layout, Frame, edition1, edition2, layout_of, header_size, mark_bits, header_slots, head_size, head_slots, record_size, largest_angle, value_slots, record_slots}
+use Rattle.sheet.specs.Sheet.{record_right}
 use Rattle.sheet.specs.Trip.{Lawful}
 use Rattle.sheet.proofs.Packed.{Roomy, held}
 
 -- what holds of each edition's layout holds of that of every number
-pub by-edition : (P : Layout → Type 0) → P edition1 → P edition2 → (edition : ℕ) → P (layout_of edition)
+pub by_edition : (P : Layout → Type 0) → P edition1 → P edition2 → (edition : ℕ) → P (layout_of edition)
 unfolding layout_of
-by-edition P one two edition = either (eqb edition 2)
+by_edition P one two edition = either (eqb edition 2)
   where
     either : (b : Bool) → P (cond b edition2 edition1)
     either true = two
     either false = one
 
-pub lawful-edition : (edition : ℕ) → Lawful (layout_of edition)
-lawful-edition = by-edition Lawful (record { edition = omega arith; side = omega arith }) (record { edition = omega arith; side = omega arith })
+pub lawful_edition : (edition : ℕ) → Lawful (layout_of edition)
+lawful_edition = by_edition Lawful (record { edition = omega arith; side = omega arith }) (record { edition = omega arith; side = omega arith })
 
 -- its records have an angle, and it states each side up to the limit, and none above
-pub angled-edition : (edition : ℕ) → (layout_of edition).angled ≡ true
-angled-edition = by-edition (λ l. l.angled ≡ true) refl refl
+pub angled_edition : (edition : ℕ) → (layout_of edition).angled ≡ true
+angled_edition = by_edition (λ l. l.angled ≡ true) refl refl
 
-pub side-edition : (edition : ℕ) → 2 ^ (layout_of edition).side ≡ maxSide
-side-edition = by-edition (λ l. 2 ^ l.side ≡ maxSide) refl refl
+pub side_edition : (edition : ℕ) → 2 ^ (layout_of edition).side ≡ max_side
+side_edition = by_edition (λ l. 2 ^ l.side ≡ max_side) refl refl
 
-pub header-bits : (l : Layout) → Lawful l → bits (headerSlots l) ≡ 8 * headerSize
+pub header_bits : (l : Layout) → Lawful l → bits (header_slots l) ≡ 8 * header_size
 unfolding bits
-header-bits l k = omega (arith, k.side)
+header_bits l k = omega (arith, k.side)
 
-pub head-bits : (l : Layout) (f : Frame) → Lawful l → bits (headSlots l f) ≡ 8 * headSize
+pub head_bits : (l : Layout) (f : Frame) → Lawful l → bits (head_slots l f) ≡ 8 * head_size
 unfolding bits
-head-bits l f k = omega (arith, k.side)
+head_bits l f k = omega (arith, k.side)
 
-tail-bits : (a : Bool) → bits (slot (cond a 32 0) 0 (cond a largestAngle 0) ∷ valueSlots) + 176 ≡ 8 * cond a 154 150
+tail_bits : (a : Bool) → bits (slot (cond a 32 0) 0 (cond a largest_angle 0) ∷ value_slots) + 176 ≡ 8 * cond a 154 150
 unfolding bits
-tail-bits true = refl
-tail-bits false = refl
+tail_bits true = refl
+tail_bits false = refl
 
 -- a record's slots fill its bytes
-pub record-bits : (l : Layout) (f : Frame) → Lawful l → bits (recordSlots l f) ≡ 8 * recordSize l
-unfolding bits recordSlots
-record-bits l f k = omega (arith, k.side, tail-bits l.angled)
+pub record_bits : (l : Layout) (f : Frame) → Lawful l → bits (record_slots l f) ≡ 8 * record_size l
+unfolding bits record_slots
+record_bits l f k = omega (arith, k.side, tail_bits l.angled)
 
-roomy-replicate : (n : ℕ) (s : Slot) → s.high < 2 ^ s.width → Roomy (replicate n s)
-roomy-replicate zero s h = tt
-roomy-replicate (suc n) s h = (h, roomy-replicate n s h)
+roomy_replicate : (n : ℕ) (s : Slot) → s.high < 2 ^ s.width → Roomy (replicate n s)
+roomy_replicate zero s h = tt
+roomy_replicate (suc n) s h = (h, roomy_replicate n s h)
 
-mark-roomy : (b : Bool) → cond b 1 0 < 2 ^ cond b 1 0
-mark-roomy true = lit< tt
-mark-roomy false = lit< tt
+mark_roomy : (b : Bool) → cond b 1 0 < 2 ^ cond b 1 0
+mark_roomy true = lit< tt
+mark_roomy false = lit< tt
 
-angle-roomy : (a : Bool) → cond a largestAngle 0 < 2 ^ cond a 32 0
-angle-roomy true = lit< tt
-angle-roomy false = lit< tt
+angle_roomy : (a : Bool) → cond a largest_angle 0 < 2 ^ cond a 32 0
+angle_roomy true = lit< tt
+angle_roomy false = lit< tt
 
-pub header-roomy : (l : Layout) → Lawful l → Roomy (headerSlots l)
-header-roomy l k =
-    (omega (arith, k.edition), (ones_lt l.side, (ones_lt l.side, (lit< tt, (lit< tt, (pow_pos (markBits l), (pow_pos (36 - (2 * l.side + markBits l)), tt)))))))
+pub header_roomy : (l : Layout) → Lawful l → Roomy (header_slots l)
+header_roomy l k =
+    (omega (arith, k.edition), (ones_lt l.side, (ones_lt l.side, (lit< tt, (lit< tt, (pow_pos (mark_bits l), (pow_pos (36 - (2 * l.side + mark_bits l)), tt)))))))
 
 -- what a sound header says of its frame
 pub record Framed (l : Layout) (f : Frame) : Type 0 where
   pub width : f.width - 1 < 2 ^ l.side
   pub height : f.height - 1 < 2 ^ l.side
-  pub layers : f.layers ≤ maxLayers
+  pub layers : f.layers ≤ max_layers
 
-pub record-roomy : (l : Layout) (f : Frame) → Framed l f → Roomy (recordSlots l f)
-unfolding recordSlots
-record-roomy l f h = (
+pub record_roomy : (l : Layout) (f : Frame) → Framed l f → Roomy (record_slots l f)
+unfolding record_slots
+record_roomy l f h = (
   h.height,
   (
     h.width,
@@ -86,10 +86,10 @@ record-roomy l f h = (
         (
           lit< tt,
           (
-            mark-roomy l.marked,
+            mark_roomy l.marked,
             (
-              pow_pos (32 - (2 * l.side + markBits l)),
-              (lit< tt, (lit< tt, (lit< tt, (lit< tt, (angle-roomy l.angled, roomy-replicate valueCount (slot 8 0 255) (lit< tt)))))),
+              pow_pos (32 - (2 * l.side + mark_bits l)),
+              (lit< tt, (lit< tt, (lit< tt, (lit< tt, (angle_roomy l.angled, roomy_replicate value_count (slot 8 0 255) (lit< tt)))))),
             ),
           ),
         ),
@@ -99,9 +99,9 @@ record-roomy l f h = (
 )
 
 -- a right record's values are in their slots' ranges, and so have room there
-pub right-sound : (l : Layout) (f : Frame) (v : List ℕ) → recordRight l f v ≡ true → sound (recordSlots l f) v ≡ true
-unfolding recordRight
-right-sound l f v e = ((and-eq-true_iff _ _).0 e).0
+pub right_sound : (l : Layout) (f : Frame) (v : List ℕ) → record_right l f v ≡ true → sound (record_slots l f) v ≡ true
+unfolding record_right
+right_sound l f v e = ((and-eq-true_iff _ _).0 e).0
 
-pub right-held : (l : Layout) (f : Frame) → Framed l f → (v : List ℕ) → recordRight l f v ≡ true → Held (recordSlots l f) v
-right-held l f h v e = held (recordSlots l f) v (record-roomy l f h) (right-sound l f v e)
+pub right_held : (l : Layout) (f : Frame) → Framed l f → (v : List ℕ) → record_right l f v ≡ true → Held (record_slots l f) v
+right_held l f h v e = held (record_slots l f) v (record_roomy l f h) (right_sound l f v e)

@@ -1,17 +1,17 @@
 -- The return trip, whole. Assumes nothing.
 use Rattle.sheet.specs.Trip.{TripRule}
-use Rattle.sheet.proofs.Lawful.{lawful-edition}
-use Rattle.sheet.proofs.Return.{reads-back, writes-back, reads-once}
-use Rattle.sheet.proofs.Public.{written-is-read, read-is-written, read-once}
+use Rattle.sheet.proofs.Lawful.{lawful_edition}
+use Rattle.sheet.proofs.Return.{reads_back, writes_back, reads_once}
+use Rattle.sheet.proofs.Public.{written_is_read, read_is_written, read_once}
 
-pub trip-rule : TripRule
-trip-rule =
+pub trip_rule : TripRule
+trip_rule =
     record {
-      reads-back = reads-back;
-      writes-back = writes-back;
-      reads-once = reads-once;
-      editions-lawful = lawful-edition;
-      written-is-read = written-is-read;
-      read-is-written = read-is-written;
-      read-once = read-once;
+      reads_back = reads_back;
+      writes_back = writes_back;
+      reads_once = reads_once;
+      editions_lawful = lawful_edition;
+      written_is_read = written_is_read;
+      read_is_written = read_is_written;
+      read_once = read_once;
     }

@@ -1,6 +1,6 @@
 -- The sheet's header and records, field by field: rules S2, S3 and S5. Definitions only.
 use Rattle.std.specs.Prelude.{Bool, true, false, cond, List, [], ◌∷◌, ◌++◌, ℕ, ◌+◌, ◌-◌, ◌*◌, ◌^◌, eqb, replicate}
-use Rattle.params.specs.Limits.{maxLayers, maxOctave, valueCount}
+use Rattle.params.specs.Limits.{max_layers, max_octave, value_count}
 use Rattle.sheet.specs.Pack.{Slot, slot}
 
 -- What an edition fixes. A field that an edition leaves out keeps its slot, which then has no bits and no value but 0.
@@ -33,79 +33,79 @@ pub record Frame : Type 0 where
   pub rule : ℕ
 
 -- the header's bytes, and the largest count
-abbrev pub headerSize : ℕ
-headerSize = 8
+abbrev pub header_size : ℕ
+header_size = 8
 
-abbrev pub maxCount : ℕ
-maxCount = 1_048_575
+abbrev pub max_count : ℕ
+max_count = 1_048_575
 
-abbrev pub markBits : Layout → ℕ
-markBits l = cond l.marked 1 0
+abbrev pub mark_bits : Layout → ℕ
+mark_bits l = cond l.marked 1 0
 
 -- the largest that a rule bit says: there is one rule
-abbrev pub topRule : Layout → ℕ
-topRule l = 0
+abbrev pub top_rule : Layout → ℕ
+top_rule l = 0
 
 -- Rule S2: edition, width less 1, height less 1, layers, count, and spare bits that are 0 and fill the 64.
 -- The first of the spare bits is the rule bit of a layout that is marked.
-abbrev pub headerSlots : Layout → List Slot
-headerSlots l =
+abbrev pub header_slots : Layout → List Slot
+header_slots l =
     slot 4 l.edition l.edition ∷
     slot l.side 0 (2 ^ l.side - 1) ∷
     slot l.side 0 (2 ^ l.side - 1) ∷
-    slot 4 1 maxLayers ∷
-    slot 20 0 maxCount ∷
-    slot (markBits l) 0 (topRule l) ∷
-    slot (36 - (2 * l.side + markBits l)) 0 0 ∷ []
+    slot 4 1 max_layers ∷
+    slot 20 0 max_count ∷
+    slot (mark_bits l) 0 (top_rule l) ∷
+    slot (36 - (2 * l.side + mark_bits l)) 0 0 ∷ []
 
-abbrev pub headerValues : Layout → Frame → ℕ → List ℕ
-headerValues l f count = l.edition ∷ (f.width - 1) ∷ (f.height - 1) ∷ f.layers ∷ count ∷ f.rule ∷ 0 ∷ []
+abbrev pub header_values : Layout → Frame → ℕ → List ℕ
+header_values l f count = l.edition ∷ (f.width - 1) ∷ (f.height - 1) ∷ f.layers ∷ count ∷ f.rule ∷ 0 ∷ []
 
 -- the bytes of a record, 4 fewer where it has no angle (rule S1)
-abbrev pub recordSize : Layout → ℕ
-recordSize l = cond l.angled 154 150
+abbrev pub record_size : Layout → ℕ
+record_size l = cond l.angled 154 150
 
 -- of these the bytes of its whole numbers, and those before its 128 values
-abbrev pub headSize : ℕ
-headSize = 6
+abbrev pub head_size : ℕ
+head_size = 6
 
-abbrev pub frontSize : Layout → ℕ
-frontSize l = recordSize l - valueCount
+abbrev pub front_size : Layout → ℕ
+front_size l = record_size l - value_count
 
 -- Rule S3, the whole numbers: row and column inside the frame, octave, layer up to the header's, code, and spare bits that are 0 and fill the 48.
 -- The first of the spare bits is the blank bit of a layout that is marked.
-abbrev pub headSlots : Layout → Frame → List Slot
-headSlots l f =
+abbrev pub head_slots : Layout → Frame → List Slot
+head_slots l f =
     slot l.side 0 (f.height - 1) ∷
     slot l.side 0 (f.width - 1) ∷
-    slot 4 0 maxOctave ∷
+    slot 4 0 max_octave ∷
     slot 4 1 f.layers ∷
     slot 8 0 255 ∷
-    slot (markBits l) 0 (markBits l) ∷
-    slot (32 - (2 * l.side + markBits l)) 0 0 ∷ []
+    slot (mark_bits l) 0 (mark_bits l) ∷
+    slot (32 - (2 * l.side + mark_bits l)) 0 0 ∷ []
 
 -- as bits of an f32 whose sign bit is clear: the largest that is finite, the least above 0, and the largest below 360
-abbrev pub largestFinite : ℕ
-largestFinite = 0x7f7f_ffff
+abbrev pub largest_finite : ℕ
+largest_finite = 0x7f7f_ffff
 
-abbrev pub leastPositive : ℕ
-leastPositive = 1
+abbrev pub least_positive : ℕ
+least_positive = 1
 
-abbrev pub largestAngle : ℕ
-largestAngle = 0x43b3_ffff
+abbrev pub largest_angle : ℕ
+largest_angle = 0x43b3_ffff
 
 -- rules S3 and S5, the floats by their bits: x, y, size, response and angle
-abbrev pub floatSlots : Layout → List Slot
-floatSlots l =
-    slot 32 0 largestFinite ∷
-    slot 32 0 largestFinite ∷
-    slot 32 leastPositive largestFinite ∷
-    slot 32 0 largestFinite ∷
-    slot (cond l.angled 32 0) 0 (cond l.angled largestAngle 0) ∷ []
+abbrev pub float_slots : Layout → List Slot
+float_slots l =
+    slot 32 0 largest_finite ∷
+    slot 32 0 largest_finite ∷
+    slot 32 least_positive largest_finite ∷
+    slot 32 0 largest_finite ∷
+    slot (cond l.angled 32 0) 0 (cond l.angled largest_angle 0) ∷ []
 
 -- rule S3, the values: a byte each
-abbrev pub valueSlots : List Slot
-valueSlots = replicate valueCount (slot 8 0 255)
+abbrev pub value_slots : List Slot
+value_slots = replicate value_count (slot 8 0 255)
 
-unfoldable pub recordSlots : Layout → Frame → List Slot
-recordSlots l f = headSlots l f ++ (floatSlots l ++ valueSlots)
+unfoldable pub record_slots : Layout → Frame → List Slot
+record_slots l f = head_slots l f ++ (float_slots l ++ value_slots)

@@ -3,7 +3,7 @@
 
 ghost use Rattle.std.specs.Prelude.{◌≡◌};
 ghost use Rattle.sheet.specs.Layout.{layout_of};
-ghost use Rattle.sheet_edition.specs.Edition.{editionOf, Known};
+ghost use Rattle.sheet_edition.specs.Edition.{edition_of, Known};
 
 #[derive(Clone, Copy)]
 pub struct Edition {
@@ -22,7 +22,7 @@ pub struct Edition {
 
 // The edition of a number; edition 1 where the number is no edition's.
 pub fn edition_of(number: u64) -> Edition
-    ensures value { result ≡ editionOf (layout_of number) }
+    ensures value { result ≡ edition_of (layout_of number) }
     ensures known { Known result }
 {
     if number == 2 {

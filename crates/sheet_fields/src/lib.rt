@@ -4,12 +4,12 @@
 ghost use Rattle.std.specs.Prelude.{◌≡◌, ◌&&◌, ◌+◌, ◌*◌, ◌^◌, ◌<◌, ◌≤◌, leb, length, take, drop};
 ghost use Rattle.lists.specs.Pasted.{pasted};
 ghost use Rattle.sheet.specs.Pack.{bytes, number, value, fields, sound};
-ghost use Rattle.sheet.specs.Layout.{headerSize, headerSlots, headSize, headSlots, floatSlots};
-ghost use Rattle.sheet.specs.Sheet.{headerIn};
+ghost use Rattle.sheet.specs.Layout.{header_size, header_slots, head_size, head_slots, float_slots};
+ghost use Rattle.sheet.specs.Sheet.{header_in};
 ghost use Rattle.sheet.specs.Writes.{frame_of};
-ghost use Rattle.sheet.specs.Reads.{layoutIn};
-ghost use Rattle.sheet_edition.specs.Edition.{editionOf, layoutFor, Known};
-ghost use Rattle.sheet_fields.specs.Fields.{headerList, HeaderFits, headValues, HeadFits, floatValues, anyFrame};
+ghost use Rattle.sheet.specs.Reads.{layout_in};
+ghost use Rattle.sheet_edition.specs.Edition.{edition_of, layout_for, Known};
+ghost use Rattle.sheet_fields.specs.Fields.{header_list, HeaderFits, head_values, HeadFits, float_values, any_frame};
 
 use sheet_edition::Edition;
 
@@ -108,8 +108,8 @@ fn behind(before: u64, room: u64, v: u64) -> u64
 // The header's 64 bits as one number: the edition's 4 bits, width − 1 and height − 1, layers 4, count 20, the rule bit where there is one, and the zero bits.
 pub fn header_number(e: Edition, h: Header) -> u64
     requires fact_1 { Known e }
-    requires fact_2 { HeaderFits (layoutFor e) h }
-    ensures { result ≡ number (headerSlots (layoutFor e)) (headerList h) }
+    requires fact_2 { HeaderFits (layout_for e) h }
+    ensures { result ≡ number (header_slots (layout_for e)) (header_list h) }
 {
     let wide = behind(h.edition, e.sides, h.width);
     let high = behind(wide, e.sides, h.height);
@@ -122,8 +122,8 @@ pub fn header_number(e: Edition, h: Header) -> u64
 // The header's fields, the last one first.
 pub fn cut_header(e: Edition, n: u64) -> Header
     requires { Known e }
-    ensures n_value { fields (headerSlots (layoutFor e)) n ≡ headerList result }
-    ensures header_fits { HeaderFits (layoutFor e) result }
+    ensures n_value { fields (header_slots (layout_for e)) n ≡ header_list result }
+    ensures header_fits { HeaderFits (layout_for e) result }
 {
     let spare = e.spare * 16;
     let rule = n / spare;
@@ -144,8 +144,8 @@ pub fn cut_header(e: Edition, n: u64) -> Header
 
 // The edition that a sheet's bytes state.
 pub fn edition_in(sheet: &[u8]) -> Edition
-    requires { headerSize ≤ length sheet.now }
-    ensures value { result ≡ editionOf (layoutIn sheet.now) }
+    requires { header_size ≤ length sheet.now }
+    ensures value { result ≡ edition_of (layout_in sheet.now) }
     ensures known { Known result }
 {
     sheet_edition::edition_of(get(sheet, 0, HEADER_BYTES) / 0x1000_0000_0000_0000)
@@ -154,9 +154,9 @@ pub fn edition_in(sheet: &[u8]) -> Edition
 // The header's fields, of a sheet's bytes.
 pub fn header_in(e: Edition, sheet: &[u8]) -> Header
     requires fact_1 { Known e }
-    requires fact_2 { headerSize ≤ length sheet.now }
-    ensures sheet_value { headerIn (layoutFor e) sheet.now ≡ headerList result }
-    ensures header_fits { HeaderFits (layoutFor e) result }
+    requires fact_2 { header_size ≤ length sheet.now }
+    ensures sheet_value { header_in (layout_for e) sheet.now ≡ header_list result }
+    ensures header_fits { HeaderFits (layout_for e) result }
 {
     cut_header(e, get(sheet, 0, HEADER_BYTES))
 }
@@ -164,7 +164,7 @@ pub fn header_in(e: Edition, sheet: &[u8]) -> Header
 // Whether a header's fields keep the rules. There is one rule, so that its bit is 0.
 pub fn header_right(e: Edition, h: Header) -> bool
     requires { Known e }
-    ensures { result ≡ sound (headerSlots (layoutFor e)) (headerList h) }
+    ensures { result ≡ sound (header_slots (layout_for e)) (header_list h) }
 {
     between(e.number, e.number, h.edition)
         & (between(0, e.sides - 1, h.width)
@@ -177,8 +177,8 @@ pub fn header_right(e: Edition, h: Header) -> bool
 // The 48 bits of a record's whole numbers as one number: row, column, octave 4 bits, layer 4, code 8, the blank bit where there is one, and the zero bits.
 pub fn head_number(e: Edition, h: Head) -> u64
     requires fact_1 { Known e }
-    requires fact_2 { HeadFits (layoutFor e) h }
-    ensures { result ≡ number (headSlots (layoutFor e) anyFrame) (headValues h) }
+    requires fact_2 { HeadFits (layout_for e) h }
+    ensures { result ≡ number (head_slots (layout_for e) any_frame) (head_values h) }
 {
     let column = behind(h.row, e.sides, h.column);
     let octave = behind(column, 16, h.octave);
@@ -191,9 +191,9 @@ pub fn head_number(e: Edition, h: Head) -> u64
 // A record's whole numbers, the last one first.
 pub fn cut_head(e: Edition, n: u64) -> Head
     requires fact_1 { Known e }
-    requires fact_2 { n < 2 ^ (8 * headSize) }
-    ensures n_value { fields (headSlots (layoutFor e) anyFrame) n ≡ headValues result }
-    ensures head_fits { HeadFits (layoutFor e) result }
+    requires fact_2 { n < 2 ^ (8 * head_size) }
+    ensures n_value { fields (head_slots (layout_for e) any_frame) n ≡ head_values result }
+    ensures head_fits { HeadFits (layout_for e) result }
 {
     let blank = n / e.spare;
     let code = blank / e.marks;
@@ -215,7 +215,7 @@ pub fn cut_head(e: Edition, n: u64) -> Head
 pub fn head_right(e: Edition, width: u64, height: u64, layers: u64, h: Head) -> bool
     requires fact_1 { Known e }
     requires fact_2 { (1 ≤ width) × (1 ≤ height) }
-    ensures { result ≡ sound (headSlots (layoutFor e) (frame_of width height layers)) (headValues h) }
+    ensures { result ≡ sound (head_slots (layout_for e) (frame_of width height layers)) (head_values h) }
 {
     between(0, height - 1, h.row)
         & (between(0, width - 1, h.column)
@@ -229,7 +229,7 @@ pub fn head_right(e: Edition, width: u64, height: u64, layers: u64, h: Head) -> 
 // the largest finite f32, 1 the least above 0, and 0x43b3_ffff the last below 360.
 pub fn floats_right(e: Edition, f: Floats) -> bool
     requires { Known e }
-    ensures { result ≡ sound (floatSlots (layoutFor e)) (floatValues f) }
+    ensures { result ≡ sound (float_slots (layout_for e)) (float_values f) }
 {
     between(0, 0x7f7f_ffff, f.x)
         & (between(0, 0x7f7f_ffff, f.y)

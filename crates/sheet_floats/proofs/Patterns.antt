@@ -13,13 +13,13 @@ use lib.Ieee.Bits.{is_true, is_false, of_bits-to_bits}
 use lib.Ieee.Exact.{HasValue, odd_sign}
 use lib.Ieee.Order.{le_of_values}
 use lib.Ieee.Scale.{finite}
-use Rattle.lists.proofs.Naturals.{le-or-lt}
-use Rattle.packing.proofs.Fields.{of_bits_is, normal-is, value_low, value-normal, field-ne}
-use Rattle.ieee.specs.F32.{f32, bits_of, absOf}
+use Rattle.lists.proofs.Naturals.{le_or_lt}
+use Rattle.packing.proofs.Fields.{of_bits_is, normal_is, value_low, value_normal, field_ne}
+use Rattle.ieee.specs.F32.{f32, bits_of, abs_of}
 use Rattle.ieee_laws.proofs.Order.{lt_not_le}
 use Rattle.ieee_laws.proofs.Monotone.{nil}
 use Rattle.ieee_laws.proofs.Bounds.{zero_is}
-use Rattle.sheet.specs.Layout.{largestFinite, leastPositive}
+use Rattle.sheet.specs.Layout.{largest_finite, least_positive}
 
 -- ---- the value of a normal pattern
 
@@ -39,7 +39,7 @@ module _ (b : ℕ) (lo : 2 ^ 23 ≤ b) (hi : b < 2139095040) where
   pub value : HasValue (of_bits binary32 b) false (digits b * 2 ^ power b) (2 ^ 149)
   value =
       subst (λ (v : Float). HasValue v false (digits b * 2 ^ power b) (2 ^ 149))
-      (sym (of_bits_is binary32 b ∙ ap₂ (λ (s : Bool) (z : ℕ). of_fields binary32 s z (b % 2 ^ 23)) (is_false (leb (2 ^ 31) b) (lt→nleb (2 ^ 31) b (lt_of_lt_of_le hi (lit≤ tt)))) field ∙ normal-is binary32 false (power b) (b % 2 ^ 23) (is_false (eqb (suc (power b)) 255) (not_T (eqb (suc (power b)) 255) (λ t. top_field (eqb→eq (suc (power b)) 255 t))))))
+      (sym (of_bits_is binary32 b ∙ ap₂ (λ (s : Bool) (z : ℕ). of_fields binary32 s z (b % 2 ^ 23)) (is_false (leb (2 ^ 31) b) (lt→nleb (2 ^ 31) b (lt_of_lt_of_le hi (lit≤ tt)))) field ∙ normal_is binary32 false (power b) (b % 2 ^ 23) (is_false (eqb (suc (power b)) 255) (not_T (eqb (suc (power b)) 255) (λ t. top_field (eqb→eq (suc (power b)) 255 t))))))
       (odd_sign 24 false (digits b) (power b) 149)
 
 -- ---- a larger pattern has a larger value
@@ -66,8 +66,8 @@ module _ (c b : ℕ) (lo : 2 ^ 23 ≤ c) (up : c ≤ b) where
 -- ---- a float whose sign bit is clear
 
 -- a value's sign is the one that its pattern tells
-sign_of : (x : Float) {s : Bool} (a c : ℕ) → absOf x ≡ x → HasValue x s a c → s ≡ false
-unfolding absOf
+sign_of : (x : Float) {s : Bool} (a c : ℕ) → abs_of x ≡ x → HasValue x s a c → s ≡ false
+unfolding abs_of
 sign_of nan a c p v = absurd v
 sign_of (inf t) a c p v = absurd v
 sign_of (fin false m e) a c p v = sym v.0
@@ -82,10 +82,10 @@ no_self : lt nil nil ≡ true → ⊥
 unfolding lt
 no_self h = false≢true h
 
-module _ (x : Float) (held : T (fits binary32 x)) (ends : finite x ≡ true) (plain : absOf x ≡ x) where
+module _ (x : Float) (held : T (fits binary32 x)) (ends : finite x ≡ true) (plain : abs_of x ≡ x) where
   by_field : (n : ℕ) → bits_of x % 2 ^ 31 / 2 ^ 23 ≡ n → leb (2 ^ 31) (bits_of x) ≡ false
   by_field zero e = sign_of x (bits_of x % 2 ^ 23 * 2 ^ 0) (2 ^ 149) plain (value_low binary32 x held ends e)
-  by_field (suc n) e = sign_of x ((2 ^ 23 + bits_of x % 2 ^ 23) * 2 ^ n) (2 ^ 149) plain (value-normal binary32 x held ends n e)
+  by_field (suc n) e = sign_of x ((2 ^ 23 + bits_of x % 2 ^ 23) * 2 ^ n) (2 ^ 149) plain (value_normal binary32 x held ends n e)
 
   sign_clear : bits_of x < 2 ^ 31
   sign_clear = nleb→lt (2 ^ 31) (bits_of x) (subst (λ (t : Bool). T (not t)) (sym (by_field (bits_of x % 2 ^ 31 / 2 ^ 23) refl)) tt)
@@ -94,29 +94,29 @@ module _ (x : Float) (held : T (fits binary32 x)) (ends : finite x ≡ true) (pl
   own = mod-eq_of_lt sign_clear
 
   highest : bits_of x / 2 ^ 23 ≡ 255 → ⊥
-  highest e = field-ne binary32 x held ends 254 (ap (λ (n : ℕ). n / 2 ^ 23) own ∙ e) refl
+  highest e = field_ne binary32 x held ends 254 (ap (λ (n : ℕ). n / 2 ^ 23) own ∙ e) refl
 
-  small : (n : ℕ) → n < 2 ^ 31 → (n / 2 ^ 23 ≡ 255 → ⊥) → n ≤ largestFinite
+  small : (n : ℕ) → n < 2 ^ 31 → (n / 2 ^ 23 ≡ 255 → ⊥) → n ≤ largest_finite
   small n l h = omega (arith, h)
 
-  pub finite-bits : bits_of x ≤ largestFinite
-  finite-bits = small (bits_of x) sign_clear highest
+  pub finite_bits : bits_of x ≤ largest_finite
+  finite_bits = small (bits_of x) sign_clear highest
 
   no_less : (c : ℕ) → 2 ^ 23 ≤ c → c ≤ bits_of x → le (f32 c) x ≡ true
   no_less c lo u =
       is_true (le (f32 c) x)
       (subst (λ (v : Float). T (le (f32 c) v)) (of_bits-to_bits binary32 x held)
       (le_of_values (f32 c) (f32 (bits_of x)) (digits c * 2 ^ power c) (2 ^ 149) (digits (bits_of x) * 2 ^ power (bits_of x)) (2 ^ 149) (pow_pos 149) (pow_pos 149)
-      (value c lo (lt_of_le_of_lt u (lt_of_le_of_lt finite-bits (lit< tt)))) (value (bits_of x) (le_trans lo u) (lt_of_le_of_lt finite-bits (lit< tt)))
+      (value c lo (lt_of_le_of_lt u (lt_of_le_of_lt finite_bits (lit< tt)))) (value (bits_of x) (le_trans lo u) (lt_of_le_of_lt finite_bits (lit< tt)))
       (mul-le-mul_right (2 ^ 149) (rising c (bits_of x) lo u))))
 
   -- a smaller value has a smaller pattern
   pub bits_below : (c : ℕ) → 2 ^ 23 ≤ c → lt x (f32 c) ≡ true → bits_of x < c
-  bits_below c lo l = ⊎_elim (λ u. absurd (lt_not_le x (f32 c) l (no_less c lo u))) (λ d. d) (le-or-lt c (bits_of x))
+  bits_below c lo l = ⊎_elim (λ u. absurd (lt_not_le x (f32 c) l (no_less c lo u))) (λ d. d) (le_or_lt c (bits_of x))
 
-  none_below : (n : ℕ) → (n ≡ 0 → ⊥) → leastPositive ≤ n
+  none_below : (n : ℕ) → (n ≡ 0 → ⊥) → least_positive ≤ n
   none_below n h = omega (arith, h)
 
   -- and one above 0 is not the pattern 0
-  pub bits_above : lt nil x ≡ true → leastPositive ≤ bits_of x
+  pub bits_above : lt nil x ≡ true → least_positive ≤ bits_of x
   bits_above l = none_below (bits_of x) (λ e. no_self (subst (λ (v : Float). lt nil v ≡ true) (sym (of_bits-to_bits binary32 x held) ∙ ap f32 e ∙ zero_is binary32) l))

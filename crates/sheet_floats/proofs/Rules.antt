@@ -15,16 +15,16 @@ use lib.Ieee.Exact.{HasValue, odd_sign}
 use lib.Ieee.Order.{le_of_values}
 use lib.Ieee.Positive.{first_pos}
 use lib.Ieee.Fits.{down_pos}
-use Rattle.lists.proofs.Naturals.{le-or-lt}
-use Rattle.packing.proofs.Fields.{of_bits_is, finite-no-nan}
-use Rattle.ieee.specs.F32.{f32, bits_of, absOf}
-use Rattle.ieee.specs.Numbers.{nought, wholeTurn}
+use Rattle.lists.proofs.Naturals.{le_or_lt}
+use Rattle.packing.proofs.Fields.{of_bits_is, finite_no_nan}
+use Rattle.ieee.specs.F32.{f32, bits_of, abs_of}
+use Rattle.ieee.specs.Numbers.{nought, whole_turn}
 use Rattle.ieee_laws.proofs.Monotone.{nil}
-use Rattle.ieee_laws.proofs.Order.{fin-lt, le_lt_trans}
+use Rattle.ieee_laws.proofs.Order.{fin_lt, le_lt_trans}
 use Rattle.ieee_laws.proofs.Bounds.{zero_is}
-use Rattle.sheet.specs.Layout.{largestFinite, leastPositive, largestAngle}
+use Rattle.sheet.specs.Layout.{largest_finite, least_positive, largest_angle}
 use Rattle.sheet_floats.specs.Rules.{Plain, FloatRule}
-use Rattle.sheet_floats.proofs.Patterns.{digits, power, value, rising, finite-bits, bits_below, bits_above}
+use Rattle.sheet_floats.proofs.Patterns.{digits, power, value, rising, finite_bits, bits_below, bits_above}
 
 -- ---- from the bits to the float
 
@@ -48,10 +48,10 @@ low_value b l =
 record Valued (b : ℕ) : Type 0 where
   pub units : ℕ
   pub is : HasValue (f32 b) false units (2 ^ 149)
-  pub some : leastPositive ≤ b → 0 < units
+  pub some : least_positive ≤ b → 0 < units
 
-valued : (b : ℕ) → b ≤ largestFinite → Valued b
-valued b l = ⊎_elim normal low (le-or-lt (2 ^ 23) b)
+valued : (b : ℕ) → b ≤ largest_finite → Valued b
+valued b l = ⊎_elim normal low (le_or_lt (2 ^ 23) b)
   where
     normal : 2 ^ 23 ≤ b → Valued b
     normal m = record { units = digits b * 2 ^ power b; is = value b m (lt_of_le_of_lt l (lit< tt)); some = λ _. mul-pos (lt_of_lt_of_le (lit< tt) least) (pow_pos (power b)) }
@@ -63,7 +63,7 @@ valued b l = ⊎_elim normal low (le-or-lt (2 ^ 23) b)
     low m = record { units = b * 2 ^ 0; is = low_value b m; some = λ p. mul-pos p (pow_pos 0) }
 
 plain_of : (x : Float) (a c : ℕ) → HasValue x false a c → Plain x
-unfolding absOf
+unfolding abs_of
 plain_of nan a c h = absurd h
 plain_of (inf s) a c h = absurd h
 plain_of (fin true m e) a c h = absurd (true≢false h.0)
@@ -74,62 +74,62 @@ above_of nan a c h l = absurd h
 above_of (inf s) a c h l = absurd h
 above_of (fin true m e) a c h l = absurd (true≢false h.0)
 above_of (fin false m e) a c h l =
-    fin-lt false 0 (pos 0) false m e (record { cross = omega (arith, first_pos (m * up e) c (subst (λ (k : ℕ). 0 < k) (sym h.1) (mul-pos l (down_pos e)))) })
+    fin_lt false 0 (pos 0) false m e (record { cross = omega (arith, first_pos (m * up e) c (subst (λ (k : ℕ). 0 < k) (sym h.1) (mul-pos l (down_pos e)))) })
 
-plain_in : (b : ℕ) → b ≤ largestFinite → Plain (f32 b)
+plain_in : (b : ℕ) → b ≤ largest_finite → Plain (f32 b)
 plain_in b l = let v = valued b l in plain_of (f32 b) v.units (2 ^ 149) v.is
 
-above_in : (b : ℕ) → leastPositive ≤ b → b ≤ largestFinite → lt nought (f32 b) ≡ true
+above_in : (b : ℕ) → least_positive ≤ b → b ≤ largest_finite → lt nought (f32 b) ≡ true
 above_in b p l = let v = valued b l in subst (λ (z : Float). lt z (f32 b) ≡ true) (sym (zero_is binary32)) (above_of (f32 b) v.units (2 ^ 149) v.is (v.some p))
 
-largest-below : lt (f32 largestAngle) wholeTurn ≡ true
+largest_below : lt (f32 largest_angle) whole_turn ≡ true
 unfolding lt of_bits
-largest-below = refl
+largest_below = refl
 
-up-to-largest : (b : ℕ) → b ≤ largestAngle → le (f32 b) (f32 largestAngle) ≡ true
-up-to-largest b l = is_true (le (f32 b) (f32 largestAngle)) (⊎_elim normal low (le-or-lt (2 ^ 23) b))
+up_to_largest : (b : ℕ) → b ≤ largest_angle → le (f32 b) (f32 largest_angle) ≡ true
+up_to_largest b l = is_true (le (f32 b) (f32 largest_angle)) (⊎_elim normal low (le_or_lt (2 ^ 23) b))
   where
-    largest : HasValue (f32 largestAngle) false (digits largestAngle * 2 ^ power largestAngle) (2 ^ 149)
-    largest = value largestAngle (lit≤ tt) (lit< tt)
+    largest : HasValue (f32 largest_angle) false (digits largest_angle * 2 ^ power largest_angle) (2 ^ 149)
+    largest = value largest_angle (lit≤ tt) (lit< tt)
 
-    normal : 2 ^ 23 ≤ b → T (le (f32 b) (f32 largestAngle))
+    normal : 2 ^ 23 ≤ b → T (le (f32 b) (f32 largest_angle))
     normal m =
-        le_of_values (f32 b) (f32 largestAngle) (digits b * 2 ^ power b) (2 ^ 149) (digits largestAngle * 2 ^ power largestAngle) (2 ^ 149) (pow_pos 149) (pow_pos 149)
-        (value b m (lt_of_le_of_lt l (lit< tt))) largest (mul-le-mul_right (2 ^ 149) (rising b largestAngle m l))
+        le_of_values (f32 b) (f32 largest_angle) (digits b * 2 ^ power b) (2 ^ 149) (digits largest_angle * 2 ^ power largest_angle) (2 ^ 149) (pow_pos 149) (pow_pos 149)
+        (value b m (lt_of_le_of_lt l (lit< tt))) largest (mul-le-mul_right (2 ^ 149) (rising b largest_angle m l))
 
-    low : b < 2 ^ 23 → T (le (f32 b) (f32 largestAngle))
+    low : b < 2 ^ 23 → T (le (f32 b) (f32 largest_angle))
     low m =
-        le_of_values (f32 b) (f32 largestAngle) (b * 2 ^ 0) (2 ^ 149) (digits largestAngle * 2 ^ power largestAngle) (2 ^ 149) (pow_pos 149) (pow_pos 149)
-        (low_value b m) largest (mul-le-mul_right {n = digits largestAngle * 2 ^ power largestAngle} (2 ^ 149) (le_trans (le_of_eq (mul-one b)) (le_trans (le_of_lt m) (lit≤ tt))))
+        le_of_values (f32 b) (f32 largest_angle) (b * 2 ^ 0) (2 ^ 149) (digits largest_angle * 2 ^ power largest_angle) (2 ^ 149) (pow_pos 149) (pow_pos 149)
+        (low_value b m) largest (mul-le-mul_right {n = digits largest_angle * 2 ^ power largest_angle} (2 ^ 149) (le_trans (le_of_eq (mul-one b)) (le_trans (le_of_lt m) (lit≤ tt))))
 
-angle-in : (b : ℕ) → b ≤ largestAngle → lt (f32 b) wholeTurn ≡ true
-angle-in b l = le_lt_trans (f32 b) (f32 largestAngle) wholeTurn (up-to-largest b l) largest-below
+angle_in : (b : ℕ) → b ≤ largest_angle → lt (f32 b) whole_turn ≡ true
+angle_in b l = le_lt_trans (f32 b) (f32 largest_angle) whole_turn (up_to_largest b l) largest_below
 
 -- ---- from the float to the bits
 
 module _ (b : ℕ) (small : b < 2 ^ 32) (plain : Plain (f32 b)) where
   bits_are : bits_of (f32 b) ≡ b
-  bits_are = to_bits-of_bits binary32 b small (finite-no-nan (f32 b) plain.ends)
+  bits_are = to_bits-of_bits binary32 b small (finite_no_nan (f32 b) plain.ends)
 
-  plain_out : b ≤ largestFinite
-  plain_out = subst (λ (n : ℕ). n ≤ largestFinite) bits_are (finite-bits (f32 b) (of_bits-fits binary32 b) plain.ends plain.clear)
+  plain_out : b ≤ largest_finite
+  plain_out = subst (λ (n : ℕ). n ≤ largest_finite) bits_are (finite_bits (f32 b) (of_bits-fits binary32 b) plain.ends plain.clear)
 
-  above-out : lt nought (f32 b) ≡ true → leastPositive ≤ b
-  above-out l = subst (λ (n : ℕ). leastPositive ≤ n) bits_are (bits_above (f32 b) (of_bits-fits binary32 b) plain.ends plain.clear (subst (λ (z : Float). lt z (f32 b) ≡ true) (zero_is binary32) l))
+  above_out : lt nought (f32 b) ≡ true → least_positive ≤ b
+  above_out l = subst (λ (n : ℕ). least_positive ≤ n) bits_are (bits_above (f32 b) (of_bits-fits binary32 b) plain.ends plain.clear (subst (λ (z : Float). lt z (f32 b) ≡ true) (zero_is binary32) l))
 
-  angle-out : lt (f32 b) wholeTurn ≡ true → b ≤ largestAngle
-  angle-out l = under (subst (λ (n : ℕ). n < 0x43b4_0000) bits_are (bits_below (f32 b) (of_bits-fits binary32 b) plain.ends plain.clear 0x43b4_0000 (lit≤ tt) l))
+  angle_out : lt (f32 b) whole_turn ≡ true → b ≤ largest_angle
+  angle_out l = under (subst (λ (n : ℕ). n < 0x43b4_0000) bits_are (bits_below (f32 b) (of_bits-fits binary32 b) plain.ends plain.clear 0x43b4_0000 (lit≤ tt) l))
     where
-      under : b < 0x43b4_0000 → b ≤ largestAngle
+      under : b < 0x43b4_0000 → b ≤ largest_angle
       under h = omega (arith, h)
 
-pub float-rule : FloatRule
-float-rule =
+pub float_rule : FloatRule
+float_rule =
     record {
       plain_in = plain_in;
       plain_out = plain_out;
       above_in = above_in;
-      above-out = above-out;
-      angle-in = angle-in;
-      angle-out = angle-out;
+      above_out = above_out;
+      angle_in = angle_in;
+      angle_out = angle_out;
     }

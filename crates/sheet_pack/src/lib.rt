@@ -4,23 +4,23 @@
 ghost use Rattle.std.specs.Prelude.{◌≡◌, ◌||◌, ℕ, ◌+◌, ◌*◌, ◌<◌, ◌≤◌, eqb, length, take, drop, get_or};
 ghost use mathlib.Core.List.{◌∷◌, [], ◌++◌, flat_map};
 ghost use Rattle.lists.specs.Pasted.{pasted};
-ghost use Rattle.params.specs.Limits.{valueCount};
+ghost use Rattle.params.specs.Limits.{value_count};
 ghost use Rattle.sheet.specs.Pack.{Held, bytes, sound};
-ghost use Rattle.sheet.specs.Layout.{recordSize, valueSlots, recordSlots};
-ghost use Rattle.sheet.specs.Words.{plainWords, takenWords, headWords, floatWords, frontWords, filled, allZero};
-ghost use Rattle.sheet.specs.Writes.{frame_of, wordsRight};
-ghost use Rattle.sheet_edition.specs.Edition.{layoutFor, Known};
-ghost use Rattle.sheet_fields.specs.Fields.{headValues, floatValues, anyFrame, wordsBytes};
+ghost use Rattle.sheet.specs.Layout.{record_size, value_slots, record_slots};
+ghost use Rattle.sheet.specs.Words.{plain_words, taken_words, head_words, float_words, front_words, filled, all_zero};
+ghost use Rattle.sheet.specs.Writes.{frame_of, words_right};
+ghost use Rattle.sheet_edition.specs.Edition.{layout_for, Known};
+ghost use Rattle.sheet_fields.specs.Fields.{head_values, float_values, any_frame, words_bytes};
 
 use sheet_edition::Edition;
 use sheet_fields::{Floats, Head};
 
 // Writes a record's 128 values at the place `at`.
 fn put_values(words: &[u32], out: &mut [u8], at: usize)
-    requires plain_words_in_bounds { plainWords ≤ length words.now }
-    requires value_count_in_bounds { at + valueCount ≤ length out.old }
-    requires by_index { (i : ℕ) → i < valueCount → get_or words.now (frontWords + i) 0 < 256 }
-    ensures { out.new ≡ pasted at (take valueCount (drop frontWords words.now)) out.old }
+    requires plain_words_in_bounds { plain_words ≤ length words.now }
+    requires value_count_in_bounds { at + value_count ≤ length out.old }
+    requires by_index { (i : ℕ) → i < value_count → get_or words.now (front_words + i) 0 < 256 }
+    ensures { out.new ≡ pasted at (take value_count (drop front_words words.now)) out.old }
 {
     let mut i = 0;
     while i < 128 {
@@ -31,9 +31,9 @@ fn put_values(words: &[u32], out: &mut [u8], at: usize)
 
 // Writes a record's five floats, four bytes each, at the place `at`.
 fn put_floats(words: &[u32], out: &mut [u8], at: usize)
-    requires plain_words_in_bounds { plainWords ≤ length words.now }
-    requires float_words_in_bounds { at + 4 * floatWords ≤ length out.old }
-    ensures { out.new ≡ pasted at (flat_map (bytes 4) (take floatWords (drop headWords words.now))) out.old }
+    requires plain_words_in_bounds { plain_words ≤ length words.now }
+    requires float_words_in_bounds { at + 4 * float_words ≤ length out.old }
+    ensures { out.new ≡ pasted at (flat_map (bytes 4) (take float_words (drop head_words words.now))) out.old }
 {
     let mut i = 0;
     while i < 5 {
@@ -45,7 +45,7 @@ fn put_floats(words: &[u32], out: &mut [u8], at: usize)
 
 // The blank word, 0 where the words end before it.
 fn blank_of(words: &[u32]) -> u64
-    ensures { result ≡ get_or words.now plainWords 0 }
+    ensures { result ≡ get_or words.now plain_words 0 }
 {
     if words.len() > 138 {
         return sheet_fields::wide(words[138]);
@@ -55,8 +55,8 @@ fn blank_of(words: &[u32]) -> u64
 
 // A record's whole numbers and its blank word.
 fn head_of(words: &[u32]) -> Head
-    requires { plainWords ≤ length words.now }
-    ensures { headValues result ≡ take headWords words.now ++ (get_or words.now plainWords 0 ∷ 0 ∷ []) }
+    requires { plain_words ≤ length words.now }
+    ensures { head_values result ≡ take head_words words.now ++ (get_or words.now plain_words 0 ∷ 0 ∷ []) }
 {
     Head {
         row: sheet_fields::wide(words[0]),
@@ -71,8 +71,8 @@ fn head_of(words: &[u32]) -> Head
 
 // A record's floats.
 fn floats_of(words: &[u32]) -> Floats
-    requires { plainWords ≤ length words.now }
-    ensures { floatValues result ≡ take floatWords (drop headWords words.now) }
+    requires { plain_words ≤ length words.now }
+    ensures { float_values result ≡ take float_words (drop head_words words.now) }
 {
     Floats {
         x: sheet_fields::wide(words[5]),
@@ -86,10 +86,10 @@ fn floats_of(words: &[u32]) -> Floats
 // Writes a record's bytes at the place `at`: 6 of whole numbers, the floats', and the 128 values, which are the last.
 pub fn put_record(e: Edition, words: &[u32], out: &mut [u8], at: usize)
     requires known { Known e }
-    requires words_len { length words.now ≡ takenWords (layoutFor e) }
-    requires e_in_bounds { at + recordSize (layoutFor e) ≤ length out.old }
-    requires held { Held (recordSlots (layoutFor e) anyFrame) (filled words.now) }
-    ensures { out.new ≡ pasted at (wordsBytes (layoutFor e) words.now) out.old }
+    requires words_len { length words.now ≡ taken_words (layout_for e) }
+    requires e_in_bounds { at + record_size (layout_for e) ≤ length out.old }
+    requires held { Held (record_slots (layout_for e) any_frame) (filled words.now) }
+    ensures { out.new ≡ pasted at (words_bytes (layout_for e) words.now) out.old }
 {
     let head = sheet_fields::head_number(e, head_of(words));
     sheet_fields::put(out, at, head, 6);
@@ -99,8 +99,8 @@ pub fn put_record(e: Edition, words: &[u32], out: &mut [u8], at: usize)
 
 // Whether a record's 128 values are bytes.
 fn values_right(words: &[u32]) -> bool
-    requires { plainWords ≤ length words.now }
-    ensures { result ≡ sound valueSlots (take valueCount (drop frontWords words.now)) }
+    requires { plain_words ≤ length words.now }
+    ensures { result ≡ sound value_slots (take value_count (drop front_words words.now)) }
 {
     let mut i = 0;
     while i < 128 {
@@ -114,8 +114,8 @@ fn values_right(words: &[u32]) -> bool
 
 // Whether they are all 0.
 fn values_zero(words: &[u32]) -> bool
-    requires { plainWords ≤ length words.now }
-    ensures { result ≡ allZero (take valueCount (drop frontWords words.now)) }
+    requires { plain_words ≤ length words.now }
+    ensures { result ≡ all_zero (take value_count (drop front_words words.now)) }
 {
     let mut i = 0;
     while i < 128 {
@@ -129,8 +129,8 @@ fn values_zero(words: &[u32]) -> bool
 
 // Whether a record that is blank has no value but 0.
 fn blank_right(words: &[u32]) -> bool
-    requires { plainWords ≤ length words.now }
-    ensures { result ≡ (eqb (get_or words.now plainWords 0) 0 || allZero (take valueCount (drop frontWords words.now))) }
+    requires { plain_words ≤ length words.now }
+    ensures { result ≡ (eqb (get_or words.now plain_words 0) 0 || all_zero (take value_count (drop front_words words.now))) }
 {
     if blank_of(words) == 0 {
         return true;
@@ -142,8 +142,8 @@ fn blank_right(words: &[u32]) -> bool
 pub fn record_right(e: Edition, width: u64, height: u64, layers: u64, words: &[u32]) -> bool
     requires known { Known e }
     requires le_width { (1 ≤ width) × (1 ≤ height) }
-    requires words_len { length words.now ≡ takenWords (layoutFor e) }
-    ensures { result ≡ wordsRight (layoutFor e) (frame_of width height layers) words.now }
+    requires words_len { length words.now ≡ taken_words (layout_for e) }
+    ensures { result ≡ words_right (layout_for e) (frame_of width height layers) words.now }
 {
     let head = sheet_fields::head_right(e, width, height, layers, head_of(words));
     let floats = sheet_fields::floats_right(e, floats_of(words));

@@ -4,13 +4,13 @@
 ghost use Rattle.std.specs.Prelude.{◌≡◌, ◌+◌, ◌*◌, ◌≤◌, length, drop};
 ghost use mathlib.Core.List.{flat_map};
 ghost use Rattle.lists.specs.Pasted.{pasted};
-ghost use Rattle.sheet.specs.Layout.{headerSize, recordSize};
-ghost use Rattle.sheet.specs.Sheet.{parts, allPass, bytesRight};
-ghost use Rattle.sheet.specs.Words.{readWords};
+ghost use Rattle.sheet.specs.Layout.{header_size, record_size};
+ghost use Rattle.sheet.specs.Sheet.{parts, all_pass, bytes_right};
+ghost use Rattle.sheet.specs.Words.{read_words};
 ghost use Rattle.sheet.specs.Writes.{frame_of};
-ghost use Rattle.sheet.specs.Reads.{layoutIn, readAnswer, readOut};
-ghost use Rattle.sheet_edition.specs.Edition.{layoutFor, Known};
-ghost use Rattle.sheet_fields.specs.Fields.{bytesWords, recordBytesRight};
+ghost use Rattle.sheet.specs.Reads.{layout_in, read_answer, read_out};
+ghost use Rattle.sheet_edition.specs.Edition.{layout_for, Known};
+ghost use Rattle.sheet_fields.specs.Fields.{bytes_words, record_bytes_right};
 
 use params::Answer;
 use sheet::Read;
@@ -25,8 +25,8 @@ const HEADER_BYTES: usize = 8;
 fn records_right(e: Edition, width: u64, height: u64, layers: u64, sheet: &[u8], n: usize) -> bool
     requires known_1 { Known e }
     requires known_2 { (1 ≤ width) × (1 ≤ height) }
-    requires n_in_bounds { headerSize + recordSize (layoutFor e) * n ≤ length sheet.now }
-    ensures { result ≡ allPass (recordBytesRight (layoutFor e) (frame_of width height layers)) (parts (recordSize (layoutFor e)) n (drop headerSize sheet.now)) }
+    requires n_in_bounds { header_size + record_size (layout_for e) * n ≤ length sheet.now }
+    ensures { result ≡ all_pass (record_bytes_right (layout_for e) (frame_of width height layers)) (parts (record_size (layout_for e)) n (drop header_size sheet.now)) }
 {
     let mut i = 0;
     while i < n {
@@ -43,8 +43,8 @@ fn records_right(e: Edition, width: u64, height: u64, layers: u64, sheet: &[u8],
 // Whether bytes with a whole header are a sheet that keeps every rule of an edition.
 fn sheet_right(e: Edition, sheet: &[u8]) -> bool
     requires fact_1 { Known e }
-    requires fact_2 { headerSize ≤ length sheet.now }
-    ensures { result ≡ bytesRight (layoutFor e) sheet.now }
+    requires fact_2 { header_size ≤ length sheet.now }
+    ensures { result ≡ bytes_right (layout_for e) sheet.now }
 {
     let h = sheet_fields::header_in(e, sheet);
     if !sheet_fields::header_right(e, h) {
@@ -59,7 +59,7 @@ fn sheet_right(e: Edition, sheet: &[u8]) -> bool
 
 // Whether bytes are a sheet that keeps every rule of the edition that they state.
 pub fn sheet_sound(sheet: &[u8]) -> bool
-    ensures { result ≡ bytesRight (layoutIn sheet.now) sheet.now }
+    ensures { result ≡ bytes_right (layout_in sheet.now) sheet.now }
 {
     if sheet.len() < HEADER_BYTES {
         return false;
@@ -70,9 +70,9 @@ pub fn sheet_sound(sheet: &[u8]) -> bool
 // Writes the words of the first n records.
 fn take_records(e: Edition, sheet: &[u8], n: usize, out: &mut [u32])
     requires known_1 { Known e }
-    requires known_2 { headerSize + recordSize (layoutFor e) * n ≤ length sheet.now }
-    requires n_in_bounds { readWords * n ≤ length out.old }
-    ensures { out.new ≡ pasted 0 (flat_map (bytesWords (layoutFor e)) (parts (recordSize (layoutFor e)) n (drop headerSize sheet.now))) out.old }
+    requires known_2 { header_size + record_size (layout_for e) * n ≤ length sheet.now }
+    requires n_in_bounds { read_words * n ≤ length out.old }
+    ensures { out.new ≡ pasted 0 (flat_map (bytes_words (layout_for e)) (parts (record_size (layout_for e)) n (drop header_size sheet.now))) out.old }
 {
     let mut i = 0;
     while i < n {
@@ -97,8 +97,8 @@ fn refusal(answer: Answer) -> Read
 
 // The reader: the words of a sheet's records, and its edition, width, height and layers.
 pub fn read_sheet(sheet: &[u8], out: &mut [u32]) -> Read
-    ensures { (result ≡ readAnswer sheet.now (length out.old))
-        × (out.new ≡ readOut sheet.now out.old) }
+    ensures { (result ≡ read_answer sheet.now (length out.old))
+        × (out.new ≡ read_out sheet.now out.old) }
 {
     if !sheet_sound(sheet) {
         return refusal(Answer::Refused(8));

@@ -3,13 +3,13 @@
 
 ghost use Rattle.std.specs.Prelude.{◌≡◌, cond, ◌∷◌, [], ◌+◌, ◌-◌, ◌<◌, ◌≤◌, length, get_or, take, drop};
 ghost use Rattle.lists.specs.Pasted.{pasted};
-ghost use Rattle.params.specs.Limits.{valueCount};
+ghost use Rattle.params.specs.Limits.{value_count};
 ghost use Rattle.sheet.specs.Pack.{unpack};
-ghost use Rattle.sheet.specs.Layout.{recordSize, headSize, frontSize, headSlots, floatSlots};
-ghost use Rattle.sheet.specs.Words.{readWords, headWords, floatWords, frontWords, allZero, unknownOf};
+ghost use Rattle.sheet.specs.Layout.{record_size, head_size, front_size, head_slots, float_slots};
+ghost use Rattle.sheet.specs.Words.{read_words, head_words, float_words, front_words, all_zero, unknown_of};
 ghost use Rattle.sheet.specs.Writes.{frame_of};
-ghost use Rattle.sheet_edition.specs.Edition.{layoutFor, Known};
-ghost use Rattle.sheet_fields.specs.Fields.{headValues, HeadFits, floatValues, FloatsFit, anyFrame, bytesFront, bytesWords, recordBytesRight};
+ghost use Rattle.sheet_edition.specs.Edition.{layout_for, Known};
+ghost use Rattle.sheet_fields.specs.Fields.{head_values, HeadFits, float_values, FloatsFit, any_frame, bytes_front, bytes_words, record_bytes_right};
 
 use sheet_edition::Edition;
 use sheet_fields::{Floats, Head};
@@ -27,9 +27,9 @@ const VALUES: usize = 128;
 // The whole numbers of a record's bytes.
 fn head_in(e: Edition, bytes: &[u8]) -> Head
     requires fact_1 { Known e }
-    requires fact_2 { length bytes.now ≡ recordSize (layoutFor e) }
-    ensures bytes_value { unpack (headSlots (layoutFor e) anyFrame) (take headSize bytes.now) ≡ headValues result }
-    ensures head_fits { HeadFits (layoutFor e) result }
+    requires fact_2 { length bytes.now ≡ record_size (layout_for e) }
+    ensures bytes_value { unpack (head_slots (layout_for e) any_frame) (take head_size bytes.now) ≡ head_values result }
+    ensures head_fits { HeadFits (layout_for e) result }
 {
     sheet_fields::cut_head(e, sheet_fields::get(bytes, 0, 6))
 }
@@ -37,8 +37,8 @@ fn head_in(e: Edition, bytes: &[u8]) -> Head
 // Its floats.
 fn floats_in(e: Edition, bytes: &[u8]) -> Floats
     requires fact_1 { Known e }
-    requires fact_2 { length bytes.now ≡ recordSize (layoutFor e) }
-    ensures bytes_value { unpack (floatSlots (layoutFor e)) (take (frontSize (layoutFor e) - headSize) (drop headSize bytes.now)) ≡ floatValues result }
+    requires fact_2 { length bytes.now ≡ record_size (layout_for e) }
+    ensures bytes_value { unpack (float_slots (layout_for e)) (take (front_size (layout_for e) - head_size) (drop head_size bytes.now)) ≡ float_values result }
     ensures floats_fit { FloatsFit result }
 {
     Floats {
@@ -53,8 +53,8 @@ fn floats_in(e: Edition, bytes: &[u8]) -> Floats
 // One of a record's 128 values, which are its last bytes.
 fn value_at(e: Edition, bytes: &[u8], i: usize) -> u8
     requires fact_1 { Known e }
-    requires fact_2 { (length bytes.now ≡ recordSize (layoutFor e)) × (i < valueCount) }
-    ensures { result ≡ get_or bytes.now (frontSize (layoutFor e) + i) 0 }
+    requires fact_2 { (length bytes.now ≡ record_size (layout_for e)) × (i < value_count) }
+    ensures { result ≡ get_or bytes.now (front_size (layout_for e) + i) 0 }
 {
     bytes[(e.bytes - VALUES) + i]
 }
@@ -62,8 +62,8 @@ fn value_at(e: Edition, bytes: &[u8], i: usize) -> u8
 // Whether a record's 128 bytes are all zero.
 fn values_zero(e: Edition, bytes: &[u8]) -> bool
     requires fact_1 { Known e }
-    requires fact_2 { length bytes.now ≡ recordSize (layoutFor e) }
-    ensures { result ≡ allZero (drop (frontSize (layoutFor e)) bytes.now) }
+    requires fact_2 { length bytes.now ≡ record_size (layout_for e) }
+    ensures { result ≡ all_zero (drop (front_size (layout_for e)) bytes.now) }
 {
     let mut i = 0;
     while i < VALUES {
@@ -79,8 +79,8 @@ fn values_zero(e: Edition, bytes: &[u8]) -> bool
 pub fn record_right(e: Edition, width: u64, height: u64, layers: u64, bytes: &[u8]) -> bool
     requires known { Known e }
     requires le_width { (1 ≤ width) × (1 ≤ height) }
-    requires bytes_len { length bytes.now ≡ recordSize (layoutFor e) }
-    ensures { result ≡ recordBytesRight (layoutFor e) (frame_of width height layers) bytes.now }
+    requires bytes_len { length bytes.now ≡ record_size (layout_for e) }
+    ensures { result ≡ record_bytes_right (layout_for e) (frame_of width height layers) bytes.now }
 {
     let head = head_in(e, bytes);
     let whole = sheet_fields::head_right(e, width, height, layers, head);
@@ -97,9 +97,9 @@ pub fn record_right(e: Edition, width: u64, height: u64, layers: u64, bytes: &[u
 // The added word: the blank bit, and where there is none 2, unknown, for a record whose 128 bytes are all zero.
 fn blank_in(e: Edition, bytes: &[u8]) -> u32
     requires fact_1 { Known e }
-    requires fact_2 { length bytes.now ≡ recordSize (layoutFor e) }
-    ensures { result ≡ cond (layoutFor e).marked (get_or (unpack (headSlots (layoutFor e) anyFrame) (take headSize bytes.now)) headWords 0)
-        (unknownOf (drop (frontSize (layoutFor e)) bytes.now)) }
+    requires fact_2 { length bytes.now ≡ record_size (layout_for e) }
+    ensures { result ≡ cond (layout_for e).marked (get_or (unpack (head_slots (layout_for e) any_frame) (take head_size bytes.now)) head_words 0)
+        (unknown_of (drop (front_size (layout_for e)) bytes.now)) }
 {
     if e.marks == 2 {
         let head = head_in(e, bytes);
@@ -114,9 +114,9 @@ fn blank_in(e: Edition, bytes: &[u8]) -> u32
 // Writes a record's 128 bytes as words at the place `to`.
 fn take_values(e: Edition, bytes: &[u8], out: &mut [u32], to: usize)
     requires known_1 { Known e }
-    requires known_2 { length bytes.now ≡ recordSize (layoutFor e) }
-    requires value_count_in_bounds { to + valueCount ≤ length out.old }
-    ensures { out.new ≡ pasted to (drop (frontSize (layoutFor e)) bytes.now) out.old }
+    requires known_2 { length bytes.now ≡ record_size (layout_for e) }
+    requires value_count_in_bounds { to + value_count ≤ length out.old }
+    ensures { out.new ≡ pasted to (drop (front_size (layout_for e)) bytes.now) out.old }
 {
     let mut i = 0;
     while i < VALUES {
@@ -136,7 +136,7 @@ struct Five {
 }
 
 fn put_five(out: &mut [u32], to: usize, five: Five)
-    requires { to + headWords ≤ length out.old }
+    requires { to + head_words ≤ length out.old }
     ensures { out.new ≡ pasted to (five.a ∷ five.b ∷ five.c ∷ five.d ∷ five.e ∷ []) out.old }
 {
     out[to] = five.a;
@@ -149,9 +149,9 @@ fn put_five(out: &mut [u32], to: usize, five: Five)
 // Writes a record's whole numbers at the place `to`.
 fn put_head(e: Edition, out: &mut [u32], to: usize, h: Head)
     requires known { Known e }
-    requires head_words_in_bounds { to + headWords ≤ length out.old }
-    requires head_fits { HeadFits (layoutFor e) h }
-    ensures { out.new ≡ pasted to (take headWords (headValues h)) out.old }
+    requires head_words_in_bounds { to + head_words ≤ length out.old }
+    requires head_fits { HeadFits (layout_for e) h }
+    ensures { out.new ≡ pasted to (take head_words (head_values h)) out.old }
 {
     let five = Five {
         a: h.row as u32,
@@ -165,9 +165,9 @@ fn put_head(e: Edition, out: &mut [u32], to: usize, h: Head)
 
 // Writes a record's floats at the place `to`.
 fn put_floats(out: &mut [u32], to: usize, f: Floats)
-    requires float_words_in_bounds { to + floatWords ≤ length out.old }
+    requires float_words_in_bounds { to + float_words ≤ length out.old }
     requires floats_fit { FloatsFit f }
-    ensures { out.new ≡ pasted to (floatValues f) out.old }
+    ensures { out.new ≡ pasted to (float_values f) out.old }
 {
     let five = Five {
         a: f.x as u32,
@@ -182,9 +182,9 @@ fn put_floats(out: &mut [u32], to: usize, f: Floats)
 // Writes both, from a record's bytes.
 fn take_front(e: Edition, bytes: &[u8], out: &mut [u32], to: usize)
     requires known_1 { Known e }
-    requires known_2 { length bytes.now ≡ recordSize (layoutFor e) }
-    requires front_words_in_bounds { to + frontWords ≤ length out.old }
-    ensures { out.new ≡ pasted to (bytesFront (layoutFor e) bytes.now) out.old }
+    requires known_2 { length bytes.now ≡ record_size (layout_for e) }
+    requires front_words_in_bounds { to + front_words ≤ length out.old }
+    ensures { out.new ≡ pasted to (bytes_front (layout_for e) bytes.now) out.old }
 {
     put_head(e, out, to, head_in(e, bytes));
     put_floats(out, to + HEAD_WORDS, floats_in(e, bytes));
@@ -193,9 +193,9 @@ fn take_front(e: Edition, bytes: &[u8], out: &mut [u32], to: usize)
 // Writes a record's words at the place `to`.
 pub fn take_record(e: Edition, bytes: &[u8], out: &mut [u32], to: usize)
     requires known_1 { Known e }
-    requires known_2 { length bytes.now ≡ recordSize (layoutFor e) }
-    requires read_words_in_bounds { to + readWords ≤ length out.old }
-    ensures { out.new ≡ pasted to (bytesWords (layoutFor e) bytes.now) out.old }
+    requires known_2 { length bytes.now ≡ record_size (layout_for e) }
+    requires read_words_in_bounds { to + read_words ≤ length out.old }
+    ensures { out.new ≡ pasted to (bytes_words (layout_for e) bytes.now) out.old }
 {
     let blank = blank_in(e, bytes);
     take_front(e, bytes, out, to);

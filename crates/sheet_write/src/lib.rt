@@ -6,12 +6,12 @@ ghost use mathlib.Core.List.{flat_map};
 ghost use Rattle.lists.specs.Pasted.{pasted};
 ghost use Rattle.params.specs.Answers.{answer_of, landed};
 ghost use Rattle.sheet.specs.Pack.{Held};
-ghost use Rattle.sheet.specs.Layout.{headerSize, recordSize, recordSlots};
-ghost use Rattle.sheet.specs.Sheet.{parts, allPass};
-ghost use Rattle.sheet.specs.Words.{takenWords, filled};
-ghost use Rattle.sheet.specs.Writes.{frame_of, sidesWrong, layerRight, wordsRight, faultIn, written, writeSize, writeAnswer, writeOut};
-ghost use Rattle.sheet_edition.specs.Edition.{layoutFor, Known};
-ghost use Rattle.sheet_fields.specs.Fields.{anyFrame, wordsBytes};
+ghost use Rattle.sheet.specs.Layout.{header_size, record_size, record_slots};
+ghost use Rattle.sheet.specs.Sheet.{parts, all_pass};
+ghost use Rattle.sheet.specs.Words.{taken_words, filled};
+ghost use Rattle.sheet.specs.Writes.{frame_of, sides_wrong, layer_right, words_right, fault_in, written, write_size, write_answer, write_out};
+ghost use Rattle.sheet_edition.specs.Edition.{layout_for, Known};
+ghost use Rattle.sheet_fields.specs.Fields.{any_frame, words_bytes};
 
 use params::Answer;
 use sheet_edition::Edition;
@@ -27,7 +27,7 @@ const MAX_LAYERS: usize = 15;
 // Whether width or height is 0, or above the limit, or above what the edition has bits for.
 fn sides_wrong(e: Edition, width: usize, height: usize) -> bool
     requires { Known e }
-    ensures { (layers : ℕ) → result ≡ sidesWrong (layoutFor e) (frame_of width height layers) }
+    ensures { (layers : ℕ) → result ≡ sides_wrong (layout_for e) (frame_of width height layers) }
 {
     params::shape_wrong(width, height) | ((e.sides < width as u64) | (e.sides < height as u64))
 }
@@ -35,8 +35,8 @@ fn sides_wrong(e: Edition, width: usize, height: usize) -> bool
 // Whether the layers of the first n records lie from 1 to `layers`.
 fn layers_right(e: Edition, layers: u64, words: &[u32], n: usize) -> bool
     requires fact_1 { Known e }
-    requires fact_2 { takenWords (layoutFor e) * n ≤ length words.now }
-    ensures { result ≡ allPass (layerRight layers) (parts (takenWords (layoutFor e)) n words.now) }
+    requires fact_2 { taken_words (layout_for e) * n ≤ length words.now }
+    ensures { result ≡ all_pass (layer_right layers) (parts (taken_words (layout_for e)) n words.now) }
 {
     let mut i = 0;
     while i < n {
@@ -52,8 +52,8 @@ fn layers_right(e: Edition, layers: u64, words: &[u32], n: usize) -> bool
 fn records_right(e: Edition, width: u64, height: u64, layers: u64, words: &[u32], n: usize) -> bool
     requires known_1 { Known e }
     requires known_2 { (1 ≤ width) × (1 ≤ height) }
-    requires n_in_bounds { takenWords (layoutFor e) * n ≤ length words.now }
-    ensures { result ≡ allPass (wordsRight (layoutFor e) (frame_of width height layers)) (parts (takenWords (layoutFor e)) n words.now) }
+    requires n_in_bounds { taken_words (layout_for e) * n ≤ length words.now }
+    ensures { result ≡ all_pass (words_right (layout_for e) (frame_of width height layers)) (parts (taken_words (layout_for e)) n words.now) }
 {
     let mut i = 0;
     while i < n {
@@ -77,7 +77,7 @@ fn write_fault(
     words: &[u32],
 ) -> u32
     requires { Known e }
-    ensures { result ≡ faultIn asked (layoutFor e) (frame_of width height layers) words.now }
+    ensures { result ≡ fault_in asked (layout_for e) (frame_of width height layers) words.now }
 {
     if sides_wrong(e, width, height) {
         return 1;
@@ -104,10 +104,10 @@ fn write_fault(
 // Writes the first n records behind the header.
 fn put_records(e: Edition, words: &[u32], n: usize, out: &mut [u8])
     requires known_1 { Known e }
-    requires known_2 { takenWords (layoutFor e) * n ≤ length words.now }
-    requires n_in_bounds { headerSize + recordSize (layoutFor e) * n ≤ length out.old }
-    requires by_index { (i : ℕ) → i < n → Held (recordSlots (layoutFor e) anyFrame) (filled (take (takenWords (layoutFor e)) (drop (takenWords (layoutFor e) * i) words.now))) }
-    ensures { out.new ≡ pasted headerSize (flat_map (wordsBytes (layoutFor e)) (parts (takenWords (layoutFor e)) n words.now)) out.old }
+    requires known_2 { taken_words (layout_for e) * n ≤ length words.now }
+    requires n_in_bounds { header_size + record_size (layout_for e) * n ≤ length out.old }
+    requires by_index { (i : ℕ) → i < n → Held (record_slots (layout_for e) any_frame) (filled (take (taken_words (layout_for e)) (drop (taken_words (layout_for e) * i) words.now))) }
+    ensures { out.new ≡ pasted header_size (flat_map (words_bytes (layout_for e)) (parts (taken_words (layout_for e)) n words.now)) out.old }
 {
     let mut i = 0;
     while i < n {
@@ -129,9 +129,9 @@ fn write_in(
     out: &mut [u8],
 ) -> Answer
     requires { Known e }
-    ensures { (result ≡ answer_of (faultIn asked (layoutFor e) (frame_of width height layers) words.now) (writeSize (layoutFor e) words.now)
-        (writeSize (layoutFor e) words.now) (length out.old))
-        × (out.new ≡ landed result (written (layoutFor e) (frame_of width height layers) words.now) out.old) }
+    ensures { (result ≡ answer_of (fault_in asked (layout_for e) (frame_of width height layers) words.now) (write_size (layout_for e) words.now)
+        (write_size (layout_for e) words.now) (length out.old))
+        × (out.new ≡ landed result (written (layout_for e) (frame_of width height layers) words.now) out.old) }
 {
     let fault = write_fault(asked, e, width, height, layers, words);
     if fault != 0 {
@@ -165,8 +165,8 @@ pub fn write_sheet(
     words: &[u32],
     out: &mut [u8],
 ) -> Answer
-    ensures { (result ≡ writeAnswer edition (frame_of width height layers) words.now (length out.old))
-        × (out.new ≡ writeOut edition (frame_of width height layers) words.now out.old) }
+    ensures { (result ≡ write_answer edition (frame_of width height layers) words.now (length out.old))
+        × (out.new ≡ write_out edition (frame_of width height layers) words.now out.old) }
 {
     let number = edition as u64;
     let e = sheet_edition::edition_of(number);

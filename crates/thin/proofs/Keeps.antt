@@ -11,164 +11,164 @@ use borrow.Author.Tests.{leb-true, leb-false, le-leb, lt-leb, ltb-true, lt-ltb}
 use lib.Dec.{leb, ltb}
 use lib.ListN.{length, get_or, drop, get_or-append}
 use Rattle.lists.specs.Pasted.{pasted}
-use Rattle.lists.proofs.Bools.{and-false}
-use Rattle.lists.proofs.Naturals.{le-or-lt}
-use Rattle.lists.proofs.Ranges.{joined-more}
+use Rattle.lists.proofs.Bools.{and_false}
+use Rattle.lists.proofs.Naturals.{le_or_lt}
+use Rattle.lists.proofs.Ranges.{joined_more}
 use Rattle.counts.specs.Counts.{counted, passed}
-use Rattle.counts.proofs.Counts.{either, counted_same, counted_never, counted-zero, counted-all, length-passed}
-use Rattle.params.specs.Answers.{answer_of, landed, onFault}
+use Rattle.counts.proofs.Counts.{either, counted_same, counted_never, counted_zero, counted_all, length_passed}
+use Rattle.params.specs.Answers.{answer_of, landed, on_fault}
 use Rattle.params.specs.declared.Answer.{Answer}
 use Rattle.params.specs.declared.Answer.TheVariants.{Done, Short, Refused}
-use Rattle.thin_rule.specs.Rule.{pointsIn, inside, many, keeps, kept}
+use Rattle.thin_rule.specs.Rule.{points_in, inside, many, keeps, kept}
 use Rattle.thin_rule.specs.Strength.{Ordered, Sound}
 use Rattle.thin_rule.specs.declared.Region.{Region}
-use Rattle.thin_laws.proofs.Cases.{keeps-all}
-use Rattle.thin_laws.proofs.Few.{keeps-few}
+use Rattle.thin_laws.proofs.Cases.{keeps_all}
+use Rattle.thin_laws.proofs.Few.{keeps_few}
 use Rattle.thin_part.specs.Runs.{held, Listed, Beside, Dealt, Arranged}
-use Rattle.thin_part.proofs.Parts.{none-listed}
+use Rattle.thin_part.proofs.Parts.{none_listed}
 use Rattle.thin_source.specs.Adds.{Added}
 use Rattle.thin_region.proofs.Turns.{those, count_kept}
-use Rattle.thin.specs.Entry.{frame, faultOf, keptOf, thinAnswer, thinOut}
+use Rattle.thin.specs.Entry.{frame, fault_of, kept_of, thin_answer, thin_out}
 use Rattle.thin.specs.Frames.{Accepted, Given, Missing}
 
 -- ---- a list that has the new words in front, and behind them what it had
 
-same-list : (s t : List ℕ) → length t ≡ length s → ((k : ℕ) → get_or t k 0 ≡ get_or s k 0) → t ≡ s
-same-list [] [] l h = refl
-same-list [] (y ∷ t) l h = absurd (omega arith)
-same-list (x ∷ s) [] l h = absurd (omega arith)
-same-list (x ∷ s) (y ∷ t) l h = rw (h 0, same-list s t (omega arith) (λ k. h (suc k)))
+same_list : (s t : List ℕ) → length t ≡ length s → ((k : ℕ) → get_or t k 0 ≡ get_or s k 0) → t ≡ s
+same_list [] [] l h = refl
+same_list [] (y ∷ t) l h = absurd (omega arith)
+same_list (x ∷ s) [] l h = absurd (omega arith)
+same_list (x ∷ s) (y ∷ t) l h = rw (h 0, same_list s t (omega arith) (λ k. h (suc k)))
 
-in-front : (new old t : List ℕ) → length new ≤ length old → length t ≡ length old → ((k : ℕ) → k < length new → get_or t k 0 ≡ get_or new k 0) → ((k : ℕ) → length new ≤ k → get_or t k 0 ≡ get_or old k 0) → t ≡ new ++ drop (length new) old
-in-front [] old t f l g h = same-list old t l (λ k. h k (omega arith))
-in-front (v ∷ new) [] t f l g h = absurd (omega arith)
-in-front (v ∷ new) (o ∷ old) [] f l g h = absurd (omega arith)
-in-front (v ∷ new) (o ∷ old) (x ∷ t) f l g h =
-    rw (g 0 (omega arith), in-front new old t (omega arith) (omega arith) (λ k p. g (suc k) (omega arith)) (λ k p. h (suc k) (omega arith)))
+in_front : (new old t : List ℕ) → length new ≤ length old → length t ≡ length old → ((k : ℕ) → k < length new → get_or t k 0 ≡ get_or new k 0) → ((k : ℕ) → length new ≤ k → get_or t k 0 ≡ get_or old k 0) → t ≡ new ++ drop (length new) old
+in_front [] old t f l g h = same_list old t l (λ k. h k (omega arith))
+in_front (v ∷ new) [] t f l g h = absurd (omega arith)
+in_front (v ∷ new) (o ∷ old) [] f l g h = absurd (omega arith)
+in_front (v ∷ new) (o ∷ old) (x ∷ t) f l g h =
+    rw (g 0 (omega arith), in_front new old t (omega arith) (omega arith) (λ k p. g (suc k) (omega arith)) (λ k p. h (suc k) (omega arith)))
 
-pub pasted-front : (new old t : List ℕ) → length new ≤ length old → Beside old t 0 (length new) → ((k : ℕ) → k < length new → get_or t k 0 ≡ get_or new k 0) → t ≡ pasted 0 new old
+pub pasted_front : (new old t : List ℕ) → length new ≤ length old → Beside old t 0 (length new) → ((k : ℕ) → k < length new → get_or t k 0 ≡ get_or new k 0) → t ≡ pasted 0 new old
 unfolding pasted
-pasted-front new old t f b g = rw (zero-add) (in-front new old t f b.length g (λ k p. b.outside k (inr p)))
+pasted_front new old t f b g = rw (zero-add) (in_front new old t f b.length g (λ k p. b.outside k (inr p)))
 
 -- ---- the answer
 
-pub given-done : (n : ℕ) (new old t : List ℕ) → n ≡ length new → length new ≤ length old → t ≡ pasted 0 new old → Given new old (Done n) t
+pub given_done : (n : ℕ) (new old t : List ℕ) → n ≡ length new → length new ≤ length old → t ≡ pasted 0 new old → Given new old (Done n) t
 unfolding answer_of
-given-done n new old t e l p = record { answer = rw (le-leb (length new) (length old) l, e); left = rw (le-leb (length new) (length old) l) p }
+given_done n new old t e l p = record { answer = rw (le-leb (length new) (length old) l, e); left = rw (le-leb (length new) (length old) l) p }
 
-pub given-short : (n : ℕ) (new old : List ℕ) → n ≡ length new → length old < length new → Given new old (Short n) old
+pub given_short : (n : ℕ) (new old : List ℕ) → n ≡ length new → length old < length new → Given new old (Short n) old
 unfolding answer_of
-given-short n new old e l = record { answer = rw (lt-leb (length new) (length old) l, e); left = rw (lt-leb (length new) (length old) l) }
+given_short n new old e l = record { answer = rw (lt-leb (length new) (length old) l, e); left = rw (lt-leb (length new) (length old) l) }
 
-pub given-missing : (m : ℕ) (new old : List ℕ) → Missing new (length old) m → (m ≡ 0 → ⊥) → Given new old (Short m) old
-given-missing m new old h z = let w = h.short z in given-short m new old w.0 w.1
+pub given_missing : (m : ℕ) (new old : List ℕ) → Missing new (length old) m → (m ≡ 0 → ⊥) → Given new old (Short m) old
+given_missing m new old h z = let w = h.short z in given_short m new old w.0 w.1
 
 -- ---- what was added, put in order
 
 module _ (ws : List ℕ) (d : ℕ) (r : Region) (q : ℕ) (s t : List ℕ) (m : ℕ) (a : Added (those ws (keeps ws d r q)) s t 0 m) (l : length (kept ws d r q) ≤ length s) where
-  many-kept : m ≡ length (kept ws d r q)
-  many-kept = count_kept ws d r q s t m a
+  many_kept : m ≡ length (kept ws d r q)
+  many_kept = count_kept ws d r q s t m a
 
-  pub added-fits : m ≤ length t
-  added-fits = let e = many-kept in let f = a.beside.length in omega arith
+  pub added_fits : m ≤ length t
+  added_fits = let e = many_kept in let f = a.beside.length in omega arith
 
   fits : m ≤ length s
-  fits = let e = many-kept in omega arith
+  fits = let e = many_kept in omega arith
 
-  pub added-listed : (n : ℕ) → n ≡ pointsIn ws → Listed n t 0 m
-  added-listed n e =
+  pub added_listed : (n : ℕ) → n ≡ points_in ws → Listed n t 0 m
+  added_listed n e =
       subst (λ (j : ℕ). Listed j t 0 m) (sym e)
-      (none-listed (pointsIn ws) t 0 m
-      (a.each fits (λ i. not (ltb i (pointsIn ws)))
-      ∙ counted_never 0 (pointsIn ws) (λ i. keeps ws d r q i && not (ltb i (pointsIn ws))) (λ i x y. rw (lt-ltb i (pointsIn ws) y) (and-false (keeps ws d r q i)))))
+      (none_listed (points_in ws) t 0 m
+      (a.each fits (λ i. not (ltb i (points_in ws)))
+      ∙ counted_never 0 (points_in ws) (λ i. keeps ws d r q i && not (ltb i (points_in ws))) (λ i x y. rw (lt-ltb i (points_in ws) y) (and_false (keeps ws d r q i)))))
 
-  sorted : (n : ℕ) (u : List ℕ) → n ≡ pointsIn ws → Arranged t u 0 m 0 n → (k : ℕ) → k < length (kept ws d r q) → get_or u k 0 ≡ get_or (kept ws d r q) k 0
+  sorted : (n : ℕ) (u : List ℕ) → n ≡ points_in ws → Arranged t u 0 m 0 n → (k : ℕ) → k < length (kept ws d r q) → get_or u k 0 ≡ get_or (kept ws d r q) k 0
   unfolding kept
   sorted n u e g k h =
-      g.sorted (keeps ws d r q) (record { each = λ f. a.each fits f ∙ ap (λ (j : ℕ). counted 0 j (λ i. keeps ws d r q i && f i)) (sym e) }) k (omega arith) (let z = many-kept in omega arith)
+      g.sorted (keeps ws d r q) (record { each = λ f. a.each fits f ∙ ap (λ (j : ℕ). counted 0 j (λ i. keeps ws d r q i && f i)) (sym e) }) k (omega arith) (let z = many_kept in omega arith)
       ∙ rw (sub-zero, e)
 
-  pub given-kept : (n : ℕ) (u : List ℕ) → n ≡ pointsIn ws → Arranged t u 0 m 0 n → Given (kept ws d r q) s (Done m) u
-  given-kept n u e g =
-      given-done m (kept ws d r q) s u many-kept l
-      (pasted-front (kept ws d r q) s u l
-      (subst (Beside s u 0) many-kept (record { length = g.beside.length ∙ a.beside.length; outside = λ k w. g.beside.outside k w ∙ a.beside.outside k w }))
+  pub given_kept : (n : ℕ) (u : List ℕ) → n ≡ points_in ws → Arranged t u 0 m 0 n → Given (kept ws d r q) s (Done m) u
+  given_kept n u e g =
+      given_done m (kept ws d r q) s u many_kept l
+      (pasted_front (kept ws d r q) s u l
+      (subst (Beside s u 0) many_kept (record { length = g.beside.length ∙ a.beside.length; outside = λ k w. g.beside.outside k w ∙ a.beside.outside k w }))
       (sorted n u e g))
 
 -- ---- is there room
 
-pub few-kept : (ws : List ℕ) (d : ℕ) (r : Region) (q : ℕ) → Sound ws → Ordered r → length (kept ws d r q) ≤ q
+pub few_kept : (ws : List ℕ) (d : ℕ) (r : Region) (q : ℕ) → Sound ws → Ordered r → length (kept ws d r q) ≤ q
 unfolding kept
-few-kept ws d r q s o = let e = length-passed 0 (pointsIn ws) (keeps ws d r q) in let f = keeps-few ws s d r q o in omega arith
+few_kept ws d r q s o = let e = length_passed 0 (points_in ws) (keeps ws d r q) in let f = keeps_few ws s d r q o in omega arith
 
-pub missing-few : (ws : List ℕ) (d : ℕ) (r : Region) (q room : ℕ) → Sound ws → Ordered r → q ≤ room → Missing (kept ws d r q) room 0
-missing-few ws d r q room s o l = record { fits = λ z. let f = few-kept ws d r q s o in omega arith; short = λ z. absurd (z refl) }
+pub missing_few : (ws : List ℕ) (d : ℕ) (r : Region) (q room : ℕ) → Sound ws → Ordered r → q ≤ room → Missing (kept ws d r q) room 0
+missing_few ws d r q room s o l = record { fits = λ z. let f = few_kept ws d r q s o in omega arith; short = λ z. absurd (z refl) }
 
-pub missing-none : (new : List ℕ) (room m : ℕ) → m ≡ length new → m ≤ room → Missing new room 0
-missing-none new room m e l = record { fits = λ z. omega arith; short = λ z. absurd (z refl) }
+pub missing_none : (new : List ℕ) (room m : ℕ) → m ≡ length new → m ≤ room → Missing new room 0
+missing_none new room m e l = record { fits = λ z. omega arith; short = λ z. absurd (z refl) }
 
-pub missing-all : (new : List ℕ) (room m : ℕ) → m ≡ length new → room < m → Missing new room m
-missing-all new room m e l = record { fits = λ z. absurd (omega arith); short = λ z. (e, omega arith) }
+pub missing_all : (new : List ℕ) (room m : ℕ) → m ≡ length new → room < m → Missing new room m
+missing_all new room m e l = record { fits = λ z. absurd (omega arith); short = λ z. (e, omega arith) }
 
 -- ---- a list within its quota
 
-getD-last : (l : List ℕ) (v : ℕ) → get_or (l ++ (v ∷ [])) (length l) 0 ≡ v
-getD-last [] v = refl
-getD-last (x ∷ l) v = getD-last l v
+get_d_last : (l : List ℕ) (v : ℕ) → get_or (l ++ (v ∷ [])) (length l) 0 ≡ v
+get_d_last [] v = refl
+get_d_last (x ∷ l) v = get_d_last l v
 
-pub all_pass : (n : ℕ) (f : ℕ → Bool) → ((i : ℕ) → i < n → f i ≡ true) → (length (passed 0 n f) ≡ n) × ((k : ℕ) → k < n → get_or (passed 0 n f) k 0 ≡ k)
-all_pass n f h = (long n h, place n h)
+pub all_pass_lem : (n : ℕ) (f : ℕ → Bool) → ((i : ℕ) → i < n → f i ≡ true) → (length (passed 0 n f) ≡ n) × ((k : ℕ) → k < n → get_or (passed 0 n f) k 0 ≡ k)
+all_pass_lem n f h = (long n h, place n h)
   where
     long : (n : ℕ) → ((i : ℕ) → i < n → f i ≡ true) → length (passed 0 n f) ≡ n
-    long n h = length-passed 0 n f ∙ counted_same 0 n f (λ i. true) (λ i a b. h i b) ∙ counted-all 0 n (omega arith) ∙ sub-zero n
+    long n h = length_passed 0 n f ∙ counted_same 0 n f (λ i. true) (λ i a b. h i b) ∙ counted_all 0 n (omega arith) ∙ sub-zero n
 
     place : (n : ℕ) → ((i : ℕ) → i < n → f i ≡ true) → (k : ℕ) → k < n → get_or (passed 0 n f) k 0 ≡ k
     place zero h k l = absurd (omega arith)
     place (suc n) h k l =
-        let e : passed 0 (suc n) f ≡ passed 0 n f ++ (n ∷ []) = ap (λ (j : ℕ). passed 0 j f) (sym (add-one n)) ∙ joined-more 0 n (λ i. cond (f i) (i ∷ []) []) (omega arith) ∙ ap (λ (b : Bool). passed 0 n f ++ cond b (n ∷ []) []) (h n (omega arith)) in
+        let e : passed 0 (suc n) f ≡ passed 0 n f ++ (n ∷ []) = ap (λ (j : ℕ). passed 0 j f) (sym (add-one n)) ∙ joined_more 0 n (λ i. cond (f i) (i ∷ []) []) (omega arith) ∙ ap (λ (b : Bool). passed 0 n f ++ cond b (n ∷ []) []) (h n (omega arith)) in
         let m = long n (λ i p. h i (omega arith)) in
         ap (λ (x : List ℕ). get_or x k 0) e
         ∙ ⊎_elim
-        (λ q. let z : k ≡ length (passed 0 n f) = omega arith in ap (λ (j : ℕ). get_or (passed 0 n f ++ (n ∷ [])) j 0) z ∙ getD-last (passed 0 n f) n ∙ omega arith)
+        (λ q. let z : k ≡ length (passed 0 n f) = omega arith in ap (λ (j : ℕ). get_or (passed 0 n f ++ (n ∷ [])) j 0) z ∙ get_d_last (passed 0 n f) n ∙ omega arith)
         (λ q. get_or-append (passed 0 n f) (n ∷ []) 0 k (omega arith) ∙ place n (λ i p. h i (omega arith)) k q)
-        (le-or-lt n k)
+        (le_or_lt n k)
 
-module _ (ws : List ℕ) (d : ℕ) (r : Region) (q n : ℕ) (e : n ≡ pointsIn ws) (h : (i : ℕ) → i < pointsIn ws → inside ws r i ≡ true) (l : n ≤ q) where
-  each-kept : (i : ℕ) → i < pointsIn ws → keeps ws d r q i ≡ true
-  each-kept i p =
-      keeps-all ws d r q i (let a = counted_same 0 (pointsIn ws) (inside ws r) (λ j. true) (λ j x y. h j y) in let b = counted-all 0 (pointsIn ws) (omega arith) in omega arith) ∙ h i p
+module _ (ws : List ℕ) (d : ℕ) (r : Region) (q n : ℕ) (e : n ≡ points_in ws) (h : (i : ℕ) → i < points_in ws → inside ws r i ≡ true) (l : n ≤ q) where
+  each_kept : (i : ℕ) → i < points_in ws → keeps ws d r q i ≡ true
+  each_kept i p =
+      keeps_all ws d r q i (let a = counted_same 0 (points_in ws) (inside ws r) (λ j. true) (λ j x y. h j y) in let b = counted_all 0 (points_in ws) (omega arith) in omega arith) ∙ h i p
 
-  pub whole-many : n ≡ length (kept ws d r q)
+  pub whole_many : n ≡ length (kept ws d r q)
   unfolding kept
-  whole-many = e ∙ sym (all_pass (pointsIn ws) (keeps ws d r q) each-kept).0
+  whole_many = e ∙ sym (all_pass_lem (points_in ws) (keeps ws d r q) each_kept).0
 
-  pub whole-place : (k : ℕ) → k < pointsIn ws → get_or (kept ws d r q) k 0 ≡ k
+  pub whole_place : (k : ℕ) → k < points_in ws → get_or (kept ws d r q) k 0 ≡ k
   unfolding kept
-  whole-place k p = (all_pass (pointsIn ws) (keeps ws d r q) each-kept).1 k p
+  whole_place k p = (all_pass_lem (points_in ws) (keeps ws d r q) each_kept).1 k p
 
-  pub whole-short : (s : List ℕ) → length s < n → Given (kept ws d r q) s (Short n) s
-  whole-short s f = given-short n (kept ws d r q) s whole-many (let z = whole-many in omega arith)
+  pub whole_short : (s : List ℕ) → length s < n → Given (kept ws d r q) s (Short n) s
+  whole_short s f = given_short n (kept ws d r q) s whole_many (let z = whole_many in omega arith)
 
-  pub whole-done : (s t : List ℕ) → n ≤ length s → Beside s t 0 n → ((k : ℕ) → k < n → get_or t k 0 ≡ k) → Given (kept ws d r q) s (Done n) t
-  whole-done s t f b g =
-      let z = whole-many in
-      given-done n (kept ws d r q) s t z (omega arith)
-      (pasted-front (kept ws d r q) s t (omega arith) (subst (Beside s t 0) z b) (λ k p. g k (omega arith) ∙ sym (whole-place k (omega arith))))
+  pub whole_done : (s t : List ℕ) → n ≤ length s → Beside s t 0 n → ((k : ℕ) → k < n → get_or t k 0 ≡ k) → Given (kept ws d r q) s (Done n) t
+  whole_done s t f b g =
+      let z = whole_many in
+      given_done n (kept ws d r q) s t z (omega arith)
+      (pasted_front (kept ws d r q) s t (omega arith) (subst (Beside s t 0) z b) (λ k p. g k (omega arith) ∙ sym (whole_place k (omega arith))))
 
 -- ---- the entry
 
-pub frame_refused : (ws : List ℕ) (w h q d f : ℕ) (old : List ℕ) → f ≡ faultOf ws w h q d → (f ≡ 0 → ⊥) → (Refused f ≡ thinAnswer ws w h q d (length old)) × (old ≡ thinOut ws w h q d old)
-unfolding thinAnswer thinOut answer_of
+pub frame_refused : (ws : List ℕ) (w h q d f : ℕ) (old : List ℕ) → f ≡ fault_of ws w h q d → (f ≡ 0 → ⊥) → (Refused f ≡ thin_answer ws w h q d (length old)) × (old ≡ thin_out ws w h q d old)
+unfolding thin_answer thin_out answer_of
 frame_refused ws w h q d zero old e z = absurd (z refl)
 frame_refused ws w h q d (suc f) old e z = (rw (← e), rw (← e))
 
-pub frame-kept : (ws : List ℕ) (w h q d f : ℕ) (r : Region) (a : Answer) (old out : List ℕ) → f ≡ faultOf ws w h q d → f ≡ 0 → r ≡ frame w h → Given (kept ws d r q) old a out → (a ≡ thinAnswer ws w h q d (length old)) × (out ≡ thinOut ws w h q d old)
-unfolding thinAnswer thinOut
-frame-kept ws w h q d f r a old out e z i x =
-    let g : faultOf ws w h q d ≡ 0 = sym e ∙ z in
+pub frame_kept : (ws : List ℕ) (w h q d f : ℕ) (r : Region) (a : Answer) (old out : List ℕ) → f ≡ fault_of ws w h q d → f ≡ 0 → r ≡ frame w h → Given (kept ws d r q) old a out → (a ≡ thin_answer ws w h q d (length old)) × (out ≡ thin_out ws w h q d old)
+unfolding thin_answer thin_out
+frame_kept ws w h q d f r a old out e z i x =
+    let g : fault_of ws w h q d ≡ 0 = sym e ∙ z in
     let y = subst (λ (v : Region). Given (kept ws d v q) old a out) i x in
     (rw g y.answer, rw g y.left)
 
 -- what `keep` is asked for, of the frame as a region
-pub frame-asks : (ws : List ℕ) (w h q : ℕ) (r : Region) → r ≡ frame w h → Accepted ws w h q → (Ordered r × Sound ws) × ((1 ≤ q) × ((i : ℕ) → i < pointsIn ws → inside ws r i ≡ true))
-frame-asks ws w h q r e a = rw e ((a.ordered, a.sound), (a.some, a.inside))
+pub frame_asks : (ws : List ℕ) (w h q : ℕ) (r : Region) → r ≡ frame w h → Accepted ws w h q → (Ordered r × Sound ws) × ((1 ≤ q) × ((i : ℕ) → i < points_in ws → inside ws r i ≡ true))
+frame_asks ws w h q r e a = rw e ((a.ordered, a.sound), (a.some, a.inside))

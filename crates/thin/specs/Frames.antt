@@ -3,17 +3,17 @@ use Rattle.std.specs.Prelude.{ℕ, ◌^◌, ◌≤◌, ◌<◌, ◌≡◌, Bool,
 use Rattle.ieee.specs.F32.{float, ◌<ᶠ◌, ◌≤ᶠ◌}
 use Rattle.params.specs.Answers.{answer_of, landed}
 use Rattle.params.specs.declared.Answer.{Answer}
-use Rattle.thin_rule.specs.Rule.{pointsIn, word_at, xOf, yOf, inside}
+use Rattle.thin_rule.specs.Rule.{points_in, word_at, x_of, y_of, inside}
 use Rattle.thin_rule.specs.Strength.{Ordered, Sound}
 use Rattle.thin.specs.Entry.{frame}
 use Rattle.thin.specs.declared.Sides.{Sides}
 
 -- the frame's sides as floats, and that a keypoint lies between them
-abbrev pub sidesOf : ℕ → ℕ → Sides
-sidesOf w h = record { zero = float 0; width = float w; height = float h }
+abbrev pub sides_of : ℕ → ℕ → Sides
+sides_of w h = record { zero = float 0; width = float w; height = float h }
 
 unfoldable pub sided : List ℕ → Sides → ℕ → Bool
-sided ws e i = ((e.zero ≤ᶠ xOf ws i) && (xOf ws i <ᶠ e.width)) && ((e.zero ≤ᶠ yOf ws i) && (yOf ws i <ᶠ e.height))
+sided ws e i = ((e.zero ≤ᶠ x_of ws i) && (x_of ws i <ᶠ e.width)) && ((e.zero ≤ᶠ y_of ws i) && (y_of ws i <ᶠ e.height))
 
 -- the words that thinning reads have 32 bits
 pub record Words (ws : List ℕ) (i : ℕ) : Type 0 where
@@ -25,7 +25,7 @@ pub record Accepted (ws : List ℕ) (w h q : ℕ) : Type 0 where
   pub ordered : Ordered (frame w h)
   pub sound : Sound ws
   pub some : 1 ≤ q
-  pub inside : (i : ℕ) → i < pointsIn ws → inside ws (frame w h) i ≡ true
+  pub inside : (i : ℕ) → i < points_in ws → inside ws (frame w h) i ≡ true
 
 -- the answer with `new` to give, and the lent list afterwards
 pub record Given (new old : List ℕ) (a : Answer) (out : List ℕ) : Type 0 where

@@ -4,12 +4,12 @@
 ghost use Rattle.std.specs.Prelude.{◌≡◌, true, ◌&&◌, ℕ, ◌≤◌, ◌<◌, length, get_or};
 ghost use Rattle.std.specs.Float.Ieee.Scale.{finite};
 ghost use Rattle.lists.specs.Ranges.{every};
-ghost use Rattle.params.specs.Limits.{maxSide, maxKeypoints};
-ghost use Rattle.thin_rule.specs.Rule.{pointsIn, responseOf, inside, kept};
+ghost use Rattle.params.specs.Limits.{max_side, max_keypoints};
+ghost use Rattle.thin_rule.specs.Rule.{points_in, response_of, inside, kept};
 ghost use Rattle.thin_rule.specs.Strength.{Ordered, Sound};
 ghost use Rattle.thin_part.specs.Runs.{Beside};
-ghost use Rattle.thin.specs.Entry.{frame, pointRight, faultOf, thinAnswer, thinOut};
-ghost use Rattle.thin.specs.Frames.{sidesOf, sided, Words, Accepted, Given, Missing};
+ghost use Rattle.thin.specs.Entry.{frame, point_right, fault_of, thin_answer, thin_out};
+ghost use Rattle.thin.specs.Frames.{sides_of, sided, Words, Accepted, Given, Missing};
 
 use params::{Answer, KEYPOINT_WORDS};
 use thin_rule::Region;
@@ -20,7 +20,7 @@ const MAX_KEYPOINTS: usize = 0x1_0000_0000;
 
 // Writes 0, 1, .., n - 1.
 fn list_all(out: &mut [u32], n: usize)
-    requires { (n ≤ length out.old) × (n ≤ maxKeypoints) }
+    requires { (n ≤ length out.old) × (n ≤ max_keypoints) }
     ensures beside { Beside out.old out.new 0 n }
     ensures by_index { (k : ℕ) → k < n → get_or out.new k 0 ≡ k }
 {
@@ -62,7 +62,7 @@ fn keep_some(words: &[u32], r: Region, q: usize, depth: u32, out: &mut [u32]) ->
 // A list within its quota is kept whole, and nothing is looked for.
 fn keep(words: &[u32], r: Region, q: usize, depth: u32, out: &mut [u32]) -> Answer
     requires ordered { Ordered r × Sound words.now }
-    requires le_q { (1 ≤ q) × ((i : ℕ) → i < pointsIn words.now → inside words.now r i ≡ true) }
+    requires le_q { (1 ≤ q) × ((i : ℕ) → i < points_in words.now → inside words.now r i ≡ true) }
     ensures { Given (kept words.now depth r q) out.old result out.new }
 {
     let n = words.len() / KEYPOINT_WORDS;
@@ -86,15 +86,15 @@ pub struct Sides {
 
 // A side in a word.
 fn side(n: usize) -> u32
-    requires { n ≤ maxSide }
+    requires { n ≤ max_side }
     ensures { result ≡ n }
 {
     n as u32
 }
 
 fn sides_of(w: usize, h: usize) -> Sides
-    requires { (w ≤ maxSide) × (h ≤ maxSide) }
-    ensures { result ≡ sidesOf w h }
+    requires { (w ≤ max_side) × (h ≤ max_side) }
+    ensures { result ≡ sides_of w h }
 {
     Sides {
         zero: thin_rule::whole(0),
@@ -105,8 +105,8 @@ fn sides_of(w: usize, h: usize) -> Sides
 
 // A keypoint in the frame, compared as numbers, with a finite response.
 fn point_right(words: &[u32], e: Sides, i: usize) -> bool
-    requires { i < pointsIn words.now }
-    ensures value { result ≡ (sided words.now e i && finite (responseOf words.now i)) }
+    requires { i < points_in words.now }
+    ensures value { result ≡ (sided words.now e i && finite (response_of words.now i)) }
     ensures words { Words words.now i }
 {
     let x = ieee::of_bits(words[KEYPOINT_WORDS * i]);
@@ -116,9 +116,9 @@ fn point_right(words: &[u32], e: Sides, i: usize) -> bool
 }
 
 fn points_right(words: &[u32], w: usize, h: usize) -> bool
-    requires { (w ≤ maxSide) × (h ≤ maxSide) }
-    ensures value { result ≡ every (pointsIn words.now) (pointRight words.now w h) }
-    ensures words { result ≡ true → (i : ℕ) → i < pointsIn words.now → Words words.now i }
+    requires { (w ≤ max_side) × (h ≤ max_side) }
+    ensures value { result ≡ every (points_in words.now) (point_right words.now w h) }
+    ensures words { result ≡ true → (i : ℕ) → i < points_in words.now → Words words.now i }
 {
     let n = words.len() / KEYPOINT_WORDS;
     let e = sides_of(w, h);
@@ -133,7 +133,7 @@ fn points_right(words: &[u32], w: usize, h: usize) -> bool
 }
 
 fn fault(words: &[u32], w: usize, h: usize, q: usize, depth: u32) -> u32
-    ensures value { result ≡ faultOf words.now w h q depth }
+    ensures value { result ≡ fault_of words.now w h q depth }
     ensures accepted { result ≡ 0 → Accepted words.now w h q }
 {
     if params::shape_wrong(w, h) {
@@ -149,7 +149,7 @@ fn fault(words: &[u32], w: usize, h: usize, q: usize, depth: u32) -> u32
 }
 
 fn frame_of(w: usize, h: usize) -> Region
-    requires { (w ≤ maxSide) × (h ≤ maxSide) }
+    requires { (w ≤ max_side) × (h ≤ max_side) }
     ensures { result ≡ frame w h }
 {
     Region {
@@ -169,8 +169,8 @@ pub fn thin_frame(
     depth: u32,
     out: &mut [u32],
 ) -> Answer
-    ensures value { result ≡ thinAnswer words.now w h q depth (length out.old) }
-    ensures out_after { out.new ≡ thinOut words.now w h q depth out.old }
+    ensures value { result ≡ thin_answer words.now w h q depth (length out.old) }
+    ensures out_after { out.new ≡ thin_out words.now w h q depth out.old }
 {
     let f = fault(words, w, h, q, depth);
     if f != 0 {

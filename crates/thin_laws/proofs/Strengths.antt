@@ -7,28 +7,28 @@ use mathlib.Core.Logic.{◌⊎◌, inl, inr, ⊎_elim}
 use native.Mathlib.Omega.{arith}
 use borrow.Author.Tests.{ltb-true, ltb-false, lt-ltb, le-ltb, not-true}
 use lib.Dec.{ltb}
-use Rattle.lists.proofs.Bools.{and_left, and_right, both-and, or_cases, or_right, both_ways}
-use Rattle.lists.proofs.Naturals.{le-or-lt}
+use Rattle.lists.proofs.Bools.{and_left, and_right, both_and, or_cases, or_right, both_ways}
+use Rattle.lists.proofs.Naturals.{le_or_lt}
 use Rattle.thin_order.specs.Place.{place}
-use Rattle.thin_order.proofs.Order.{place-rule}
-use Rattle.thin_rule.specs.Rule.{pointsIn, word_at, before}
+use Rattle.thin_order.proofs.Order.{place_rule}
+use Rattle.thin_rule.specs.Rule.{points_in, word_at, before}
 use Rattle.thin_rule.specs.Strength.{strength, Sound}
-use Rattle.thin_order.proofs.Signs.{place-low, place-high}
+use Rattle.thin_order.proofs.Signs.{place_low, place_high}
 
-place-lt : (w : ℕ) → w < 2 ^ 32 → place w < 2 ^ 32
-place-lt w h =
+place_lt : (w : ℕ) → w < 2 ^ 32 → place w < 2 ^ 32
+place_lt w h =
     ⊎_elim
-    (λ l. let e = place-high w l in omega arith)
-    (λ l. let e = place-low w l in omega arith)
-    (le-or-lt (2 ^ 31) w)
+    (λ l. let e = place_high w l in omega arith)
+    (λ l. let e = place_low w l in omega arith)
+    (le_or_lt (2 ^ 31) w)
 
 -- two places, each with a position below
 or_left : (a b : Bool) → a ≡ true → (a || b) ≡ true
 or_left true b e = refl
 or_left false b e = absurd (false≢true e)
 
-packed-order : (a b i j : ℕ) → i < 2 ^ 32 → j < 2 ^ 32 → (ltb a b || (not (ltb b a) && ltb j i)) ≡ ltb (a * 2 ^ 32 + (2 ^ 32 - 1 - i)) (b * 2 ^ 32 + (2 ^ 32 - 1 - j))
-packed-order a b i j p q = both_ways (ltb a b || (not (ltb b a) && ltb j i)) (ltb (a * 2 ^ 32 + (2 ^ 32 - 1 - i)) (b * 2 ^ 32 + (2 ^ 32 - 1 - j))) there back
+packed_order : (a b i j : ℕ) → i < 2 ^ 32 → j < 2 ^ 32 → (ltb a b || (not (ltb b a) && ltb j i)) ≡ ltb (a * 2 ^ 32 + (2 ^ 32 - 1 - i)) (b * 2 ^ 32 + (2 ^ 32 - 1 - j))
+packed_order a b i j p q = both_ways (ltb a b || (not (ltb b a) && ltb j i)) (ltb (a * 2 ^ 32 + (2 ^ 32 - 1 - i)) (b * 2 ^ 32 + (2 ^ 32 - 1 - j))) there back
   where
     there : (ltb a b || (not (ltb b a) && ltb j i)) ≡ true → ltb (a * 2 ^ 32 + (2 ^ 32 - 1 - i)) (b * 2 ^ 32 + (2 ^ 32 - 1 - j)) ≡ true
     there h =
@@ -42,23 +42,23 @@ packed-order a b i j p q = both_ways (ltb a b || (not (ltb b a) && ltb j i)) (lt
     back h =
         let w = ltb-true (a * 2 ^ 32 + (2 ^ 32 - 1 - i)) (b * 2 ^ 32 + (2 ^ 32 - 1 - j)) h in
         ⊎_elim
-        (λ l. or_right (ltb a b) (not (ltb b a) && ltb j i) (both-and (not (ltb b a)) (ltb j i) (ap not (le-ltb b a (omega arith))) (lt-ltb j i (omega arith))))
+        (λ l. or_right (ltb a b) (not (ltb b a) && ltb j i) (both_and (not (ltb b a)) (ltb j i) (ap not (le-ltb b a (omega arith))) (lt-ltb j i (omega arith))))
         (λ l. or_left (ltb a b) (not (ltb b a) && ltb j i) (lt-ltb a b l))
-        (le-or-lt b a)
+        (le_or_lt b a)
 
 module _ (ws : List ℕ) (s : Sound ws) where
-  pub strength-lt : (i : ℕ) → i < pointsIn ws → strength ws i < 2 ^ 64
+  pub strength_lt : (i : ℕ) → i < points_in ws → strength ws i < 2 ^ 64
   unfolding strength
-  strength-lt i h = let p = place-lt (word_at ws i 3) (s.words i h) in omega arith
+  strength_lt i h = let p = place_lt (word_at ws i 3) (s.words i h) in omega arith
 
-  pub before-strength : (j i : ℕ) → j < pointsIn ws → i < pointsIn ws → before ws j i ≡ ltb (strength ws i) (strength ws j)
+  pub before_strength : (j i : ℕ) → j < points_in ws → i < points_in ws → before ws j i ≡ ltb (strength ws i) (strength ws j)
   unfolding before strength
-  before-strength j i p q =
+  before_strength j i p q =
       let f = s.few in
-      rw (place-rule (word_at ws i 3) (word_at ws j 3) (s.words i q) (s.words j p) (s.numbers i q) (s.numbers j p), place-rule (word_at ws j 3) (word_at ws i 3) (s.words j p) (s.words i q) (s.numbers j p) (s.numbers i q))
-      (packed-order (place (word_at ws i 3)) (place (word_at ws j 3)) i j (omega arith) (omega arith))
+      rw (place_rule (word_at ws i 3) (word_at ws j 3) (s.words i q) (s.words j p) (s.numbers i q) (s.numbers j p), place_rule (word_at ws j 3) (word_at ws i 3) (s.words j p) (s.words i q) (s.numbers j p) (s.numbers i q))
+      (packed_order (place (word_at ws i 3)) (place (word_at ws j 3)) i j (omega arith) (omega arith))
 
   -- no two keypoints have the same
-  pub strength-apart : (i j : ℕ) → i < pointsIn ws → j < pointsIn ws → strength ws i ≡ strength ws j → i ≡ j
+  pub strength_apart : (i j : ℕ) → i < points_in ws → j < points_in ws → strength ws i ≡ strength ws j → i ≡ j
   unfolding strength
-  strength-apart i j p q e = let f = s.few in omega arith
+  strength_apart i j p q e = let f = s.few in omega arith

@@ -14,8 +14,8 @@ use lib.Ieee.Exact.{HasValue}
 use lib.Ieee.Fits.{down_pos}
 use lib.Ieee.Scale.{finite}
 use Rattle.lists.proofs.Bools.{both_ways}
-use Rattle.lists.proofs.Naturals.{le-or-lt}
-use Rattle.packing.proofs.Fields.{value_low, value-normal, finite-no-nan}
+use Rattle.lists.proofs.Naturals.{le_or_lt}
+use Rattle.packing.proofs.Fields.{value_low, value_normal, finite_no_nan}
 use Rattle.ieee.specs.F32.{f32, bits_of}
 use Rattle.ieee.proofs.SignedParts.{plus, minus}
 use Rattle.thin_order.specs.Place.{place, PlaceRule}
@@ -49,16 +49,16 @@ rising (suc x) t (suc y) u l h k = ⊎_elim same (next x t y u l) (eq-or-lt_of_l
     same : x ≡ y → (2 ^ 23 + t) * 2 ^ x < (2 ^ 23 + u) * 2 ^ y
     same e = subst (λ (z : ℕ). (2 ^ 23 + t) * 2 ^ x < (2 ^ 23 + u) * 2 ^ z) e (mul-lt-mul_of_pos_right (omega arith) (pow_pos x))
 
-units-rise : (m n : ℕ) → m < n → units m < units n
-units-rise m n h = rising (m / 2 ^ 23) (m % 2 ^ 23) (n / 2 ^ 23) (n % 2 ^ 23) (omega arith) (omega arith) (omega arith)
+units_rise : (m n : ℕ) → m < n → units m < units n
+units_rise m n h = rising (m / 2 ^ 23) (m % 2 ^ 23) (n / 2 ^ 23) (n % 2 ^ 23) (omega arith) (omega arith) (omega arith)
 
-units-keep : (m n : ℕ) → m ≤ n → units m ≤ units n
-units-keep m n h = ⊎_elim (λ e. le_of_eq (ap units e)) (λ l. le_of_lt (units-rise m n l)) (eq-or-lt_of_le h)
+units_keep : (m n : ℕ) → m ≤ n → units m ≤ units n
+units_keep m n h = ⊎_elim (λ e. le_of_eq (ap units e)) (λ l. le_of_lt (units_rise m n l)) (eq-or-lt_of_le h)
 
 -- ---- fractions of these units are in the order of the bits, with signs before both
 
-ltb-same : (a b c d : ℕ) → (a < b → c < d) → (c < d → a < b) → ltb a b ≡ ltb c d
-ltb-same a b c d f g = both_ways (ltb a b) (ltb c d) (λ h. lt-ltb c d (f (ltb-true a b h))) (λ h. lt-ltb a b (g (ltb-true c d h)))
+ltb_same : (a b c d : ℕ) → (a < b → c < d) → (c < d → a < b) → ltb a b ≡ ltb c d
+ltb_same a b c d f g = both_ways (ltb a b) (ltb c d) (λ h. lt-ltb c d (f (ltb-true a b h))) (λ h. lt-ltb a b (g (ltb-true c d h)))
 
 -- of two numbers one is above 0
 some : (p q m n : ℕ) → (0 < p → 0 < m) → (0 < q → 0 < n) → 0 < p + q → 0 < m + n
@@ -70,22 +70,22 @@ module _ (c k : ℕ) (C : 0 < c) (K : 0 < k) where
   Says p m = p * c ≡ units m * k
 
   up_from : (p m q n : ℕ) → Says p m → Says q n → m < n → p < q
-  up_from p m q n v w h = lt_of_mul-lt-mul_right c (subst (λ (z : ℕ). z < q * c) (sym v) (subst (λ (z : ℕ). units m * k < z) (sym w) (mul-lt-mul_of_pos_right (units-rise m n h) K)))
+  up_from p m q n v w h = lt_of_mul-lt-mul_right c (subst (λ (z : ℕ). z < q * c) (sym v) (subst (λ (z : ℕ). units m * k < z) (sym w) (mul-lt-mul_of_pos_right (units_rise m n h) K)))
 
   up_to : (p m q n : ℕ) → Says p m → Says q n → p < q → m < n
-  up_to p m q n v w h = ⊎_elim back (λ l. l) (le-or-lt n m)
+  up_to p m q n v w h = ⊎_elim back (λ l. l) (le_or_lt n m)
     where
       back : n ≤ m → m < n
       back l =
           let a = mul-lt-mul_of_pos_right h C in
-          let b = mul-le-mul_right k (units-keep n m l) in
+          let b = mul-le-mul_right k (units_keep n m l) in
           absurd (omega (arith, v, w))
 
-  below-bits : (s t : Bool) (p m q n : ℕ) → Says p m → Says q n → below s p t q ≡ below s m t n
-  below-bits false false p m q n v w = ltb-same p q m n (up_to p m q n v w) (up_from p m q n v w)
-  below-bits false true p m q n v w = refl
-  below-bits true true p m q n v w = ltb-same q p n m (up_to q n p m w v) (up_from q n p m w v)
-  below-bits true false p m q n v w = ltb-same 0 (p + q) 0 (m + n) (some p q m n (up_to 0 0 p m z v) (up_to 0 0 q n z w)) (some m n p q (up_from 0 0 p m z v) (up_from 0 0 q n z w))
+  below_bits : (s t : Bool) (p m q n : ℕ) → Says p m → Says q n → below s p t q ≡ below s m t n
+  below_bits false false p m q n v w = ltb_same p q m n (up_to p m q n v w) (up_from p m q n v w)
+  below_bits false true p m q n v w = refl
+  below_bits true true p m q n v w = ltb_same q p n m (up_to q n p m w v) (up_from q n p m w v)
+  below_bits true false p m q n v w = ltb_same 0 (p + q) 0 (m + n) (some p q m n (up_to 0 0 p m z v) (up_to 0 0 q n z w)) (some m n p q (up_from 0 0 p m z v) (up_from 0 0 q n z w))
     where
       z : Says 0 0
       z = zero-mul c ∙ sym (zero-mul k)
@@ -95,25 +95,25 @@ module _ (c k : ℕ) (C : 0 < c) (K : 0 < k) where
 cross : (a d c A U : ℕ) → a * U ≡ A * c → a * d * U ≡ A * (c * d)
 cross a d c A U h = mul_right_comm a d U ∙ ap (λ (z : ℕ). z * d) h ∙ mul_assoc A c d
 
-lt-bits : (U : ℕ) → 0 < U → (x y : Float) (s t : Bool) (m n : ℕ) → HasValue x s (units m) U → HasValue y t (units n) U → lt x y ≡ below s m t n
+lt_bits : (U : ℕ) → 0 < U → (x y : Float) (s t : Bool) (m n : ℕ) → HasValue x s (units m) U → HasValue y t (units n) U → lt x y ≡ below s m t n
 unfolding lt
-lt-bits U P nan y s t m n h k = absurd h
-lt-bits U P (inf s') y s t m n h k = absurd h
-lt-bits U P (fin s' i e) nan s t m n h k = absurd k
-lt-bits U P (fin s' i e) (inf t') s t m n h k = absurd k
-lt-bits U P (fin s' i e) (fin t' j d) s t m n h k =
-    below-bits U (down e * down d) P (mul-pos (down_pos e) (down_pos d)) s' t' (i * up e * down d) m (j * up d * down e) n
+lt_bits U P nan y s t m n h k = absurd h
+lt_bits U P (inf s') y s t m n h k = absurd h
+lt_bits U P (fin s' i e) nan s t m n h k = absurd k
+lt_bits U P (fin s' i e) (inf t') s t m n h k = absurd k
+lt_bits U P (fin s' i e) (fin t' j d) s t m n h k =
+    below_bits U (down e * down d) P (mul-pos (down_pos e) (down_pos d)) s' t' (i * up e * down d) m (j * up d * down e) n
     (cross (i * up e) (down d) (down e) (units m) U h.1) (cross (j * up d) (down e) (down d) (units n) U k.1 ∙ ap (λ (z : ℕ). units n * z) (mul_comm (down d) (down e)))
     ∙ ap₂ (λ (a b : Bool). below a m b n) h.0 k.0
 
 by_field : (v : Float) → T (fits binary32 v) → finite v ≡ true → (x : ℕ) → bits_of v % 2 ^ 31 / 2 ^ 23 ≡ x → HasValue v (leb (2 ^ 31) (bits_of v)) (sized x (bits_of v % 2 ^ 23)) (2 ^ 149)
 by_field v held ends zero e = value_low binary32 v held ends e
-by_field v held ends (suc x) e = value-normal binary32 v held ends x e
+by_field v held ends (suc x) e = value_normal binary32 v held ends x e
 
 valued : (w : ℕ) → w < 2 ^ 32 → finite (f32 w) ≡ true → HasValue (f32 w) (leb (2 ^ 31) w) (units (w % 2 ^ 31)) (2 ^ 149)
 valued w small ends =
     subst (λ (t : ℕ). HasValue (f32 w) (leb (2 ^ 31) w) (sized (w % 2 ^ 31 / 2 ^ 23) t) (2 ^ 149)) digits
-    (subst (λ (b : ℕ). HasValue (f32 w) (leb (2 ^ 31) b) (sized (b % 2 ^ 31 / 2 ^ 23) (b % 2 ^ 23)) (2 ^ 149)) (to_bits-of_bits binary32 w small (finite-no-nan (f32 w) ends))
+    (subst (λ (b : ℕ). HasValue (f32 w) (leb (2 ^ 31) b) (sized (b % 2 ^ 31 / 2 ^ 23) (b % 2 ^ 23)) (2 ^ 149)) (to_bits-of_bits binary32 w small (finite_no_nan (f32 w) ends))
     (by_field (f32 w) (of_bits-fits binary32 w) ends (bits_of (f32 w) % 2 ^ 31 / 2 ^ 23) refl))
   where
     digits : w % 2 ^ 23 ≡ w % 2 ^ 31 % 2 ^ 23
@@ -127,13 +127,13 @@ unfolding place
 placed w true small e = let l = leb-true (2 ^ 31) w e in rw (le-ltb w (2 ^ 31) l) (omega arith)
 placed w false small e = let l = leb-false (2 ^ 31) w e in rw (lt-ltb w (2 ^ 31) l) (omega arith)
 
-below-places : (s t : Bool) (m n P Q : ℕ) → P + minus s m ≡ 2 ^ 31 + plus s m → Q + minus t n ≡ 2 ^ 31 + plus t n → below s m t n ≡ ltb P Q
-below-places false false m n P Q h k = ltb-same m n P Q (λ l. omega arith) (λ l. omega arith)
-below-places false true m n P Q h k = sym (le-ltb P Q (omega arith))
-below-places true false m n P Q h k = ltb-same 0 (m + n) P Q (λ l. omega arith) (λ l. omega arith)
-below-places true true m n P Q h k = ltb-same n m P Q (λ l. omega arith) (λ l. omega arith)
+below_places : (s t : Bool) (m n P Q : ℕ) → P + minus s m ≡ 2 ^ 31 + plus s m → Q + minus t n ≡ 2 ^ 31 + plus t n → below s m t n ≡ ltb P Q
+below_places false false m n P Q h k = ltb_same m n P Q (λ l. omega arith) (λ l. omega arith)
+below_places false true m n P Q h k = sym (le-ltb P Q (omega arith))
+below_places true false m n P Q h k = ltb_same 0 (m + n) P Q (λ l. omega arith) (λ l. omega arith)
+below_places true true m n P Q h k = ltb_same n m P Q (λ l. omega arith) (λ l. omega arith)
 
-pub place-rule : PlaceRule
-place-rule a b A B f g =
-    lt-bits (2 ^ 149) (pow_pos 149) (f32 a) (f32 b) (leb (2 ^ 31) a) (leb (2 ^ 31) b) (a % 2 ^ 31) (b % 2 ^ 31) (valued a A f) (valued b B g)
-    ∙ below-places (leb (2 ^ 31) a) (leb (2 ^ 31) b) (a % 2 ^ 31) (b % 2 ^ 31) (place a) (place b) (placed a (leb (2 ^ 31) a) A refl) (placed b (leb (2 ^ 31) b) B refl)
+pub place_rule : PlaceRule
+place_rule a b A B f g =
+    lt_bits (2 ^ 149) (pow_pos 149) (f32 a) (f32 b) (leb (2 ^ 31) a) (leb (2 ^ 31) b) (a % 2 ^ 31) (b % 2 ^ 31) (valued a A f) (valued b B g)
+    ∙ below_places (leb (2 ^ 31) a) (leb (2 ^ 31) b) (a % 2 ^ 31) (b % 2 ^ 31) (place a) (place b) (placed a (leb (2 ^ 31) a) A refl) (placed b (leb (2 ^ 31) b) B refl)

@@ -10,32 +10,32 @@ use native.Mathlib.Omega.{arith}
 use borrow.Author.Tests.{ltb-true, ltb-false, eqb-true, eqb-false, eq-eqb, ne_eqb}
 use lib.Dec.{ltb, eqb}
 use lib.ListN.{length, get_or}
-use Rattle.lists.proofs.Bools.{and_left, and-true, or_cases}
-use Rattle.lists.proofs.Naturals.{le-or-lt}
+use Rattle.lists.proofs.Bools.{and_left, and_true, or_cases}
+use Rattle.lists.proofs.Naturals.{le_or_lt}
 use Rattle.counts.specs.Counts.{counted, some}
-use Rattle.counts.proofs.Counts.{either, one, length-passed, counted_same, counted-sum, counted-split, counted_never, counted-mono, some_next, some-none, some-elim}
-use Rattle.thin_rule.specs.Rule.{pointsIn, inside, many, quarter, share, keeps, kept}
+use Rattle.counts.proofs.Counts.{either, one, length_passed, counted_same, counted_sum, counted_split, counted_never, counted_mono, some_next, some_none, some_elim}
+use Rattle.thin_rule.specs.Rule.{points_in, inside, many, quarter, share, keeps, kept}
 use Rattle.thin_rule.specs.Strength.{strong, Ordered, Sound}
 use Rattle.thin_rule.specs.declared.Region.{Region}
-use Rattle.thin_laws.proofs.Best.{strong-zero, best-cut}
-use Rattle.thin_laws.proofs.Quarters.{quarter-ordered, quarters-apart}
-use Rattle.thin_laws.proofs.Cases.{keeps-inside, keeps-all, keeps-best, keeps-quarters}
-use Rattle.thin_laws.proofs.Few.{total, total_mono, counted-some, share-some, shares-some, keeps-few}
+use Rattle.thin_laws.proofs.Best.{strong_zero, best_cut}
+use Rattle.thin_laws.proofs.Quarters.{quarter_ordered, quarters_apart}
+use Rattle.thin_laws.proofs.Cases.{keeps_inside, keeps_all, keeps_best, keeps_quarters}
+use Rattle.thin_laws.proofs.Few.{total, total_mono, counted_some, share_some, shares_some, keeps_few}
 use Rattle.thin_part.specs.Runs.{held, Beside}
-use Rattle.thin_source.specs.Sources.{candidate, found, Stands, Covers, boundOf, source_of, Split}
+use Rattle.thin_source.specs.Sources.{candidate, found, Stands, Covers, bound_of, source_of, Split}
 use Rattle.thin_source.specs.Adds.{Added}
 use Rattle.thin_source.specs.declared.Source.{Source}
 use Rattle.thin_source.specs.declared.Bounds.{Bounds}
-use Rattle.thin_source.proofs.Covering.{covers-any, covers-put, covers-strong, covers-many}
+use Rattle.thin_source.proofs.Covering.{covers_any, covers_put, covers_strong, covers_many}
 
 -- ---- what is added
 
 -- how many of those that pass f pass another test too
 abbrev pub those : List ℕ → (ℕ → Bool) → (ℕ → Bool) → ℕ
-those ws f g = counted 0 (pointsIn ws) (λ i. f i && g i)
+those ws f g = counted 0 (points_in ws) (λ i. f i && g i)
 
-pub added-same : (f g : (ℕ → Bool) → ℕ) (s t : List ℕ) (at end : ℕ) → ((h : ℕ → Bool) → f h ≡ g h) → Added f s t at end → Added g s t at end
-added-same f g s t at end p a =
+pub added_same : (f g : (ℕ → Bool) → ℕ) (s t : List ℕ) (at end : ℕ) → ((h : ℕ → Bool) → f h ≡ g h) → Added f s t at end → Added g s t at end
+added_same f g s t at end p a =
     record { count = a.count ∙ ap (λ (n : ℕ). at + n) (p (λ i. true)); beside = a.beside; each = λ l h. a.each l h ∙ p h }
 
 pub added_none : (ws : List ℕ) (f : ℕ → Bool) (s : List ℕ) (at : ℕ) → ((i : ℕ) → f i ≡ false) → Added (those ws f) s s at at
@@ -47,7 +47,7 @@ added_none ws f s at p =
     }
   where
     none : (g : ℕ → Bool) → those ws f g ≡ 0
-    none g = counted_never 0 (pointsIn ws) (λ i. f i && g i) (λ i a b. ap (λ (x : Bool). x && g i) (p i))
+    none g = counted_never 0 (points_in ws) (λ i. f i && g i) (λ i a b. ap (λ (x : Bool). x && g i) (p i))
 
 -- first those of one test, then those of another that no position passes beside it
 pub added_then : (ws : List ℕ) (f g : ℕ → Bool) (s t u : List ℕ) (at mid end : ℕ) → ((i : ℕ) → f i ≡ true → g i ≡ true → ⊥) → Added (those ws f) s t at mid → Added (those ws g) t u mid end → Added (those ws (λ i. f i || g i)) s u at end
@@ -62,7 +62,7 @@ added_then ws f g s t u at mid end p a b =
           let m : end ≤ length t = omega arith in
           let first = counted_same at mid (λ k. h (get_or u k 0)) (λ k. h (get_or t k 0)) (λ k v w. ap h (b.beside.outside k (inl w))) ∙ a.each n h in
           let second = b.each m h in
-          let c = counted-split at mid end (λ k. h (get_or u k 0)) (omega arith) (omega arith) in
+          let c = counted_split at mid end (λ k. h (get_or u k 0)) (omega arith) (omega arith) in
           let z = sum h in
           omega arith;
     }
@@ -79,32 +79,32 @@ added_then ws f g s t u at mid end p a b =
     two false y z q = omega arith
 
     sum : (h : ℕ → Bool) → those ws (λ i. f i || g i) h ≡ those ws f h + those ws g h
-    sum h = counted-sum 0 (pointsIn ws) (λ i. (f i || g i) && h i) (λ i. f i && h i) (λ i. g i && h i) (λ i v w. two (f i) (g i) (h i) (p i))
+    sum h = counted_sum 0 (points_in ws) (λ i. (f i || g i) && h i) (λ i. f i && h i) (λ i. g i && h i) (λ i v w. two (f i) (g i) (h i) (p i))
 
 -- ---- the three cases of a region
 
 module _ (ws : List ℕ) (d : ℕ) (r : Region) (q : ℕ) (s : List ℕ) (c : Source) (h : Covers ws r s c) where
-  put_keeps : (t : ℕ) → ((i : ℕ) → i < pointsIn ws → strong ws r t i ≡ keeps ws d r q i) → (o p : List ℕ) (at end : ℕ) → Added (λ g. found s c (λ i. strong ws r t i && g i)) o p at end → Added (those ws (keeps ws d r q)) o p at end
+  put_keeps : (t : ℕ) → ((i : ℕ) → i < points_in ws → strong ws r t i ≡ keeps ws d r q i) → (o p : List ℕ) (at end : ℕ) → Added (λ g. found s c (λ i. strong ws r t i && g i)) o p at end → Added (those ws (keeps ws d r q)) o p at end
   put_keeps t e o p at end a =
-      added-same (λ g. found s c (λ i. strong ws r t i && g i)) (those ws (keeps ws d r q)) o p at end
-      (λ g. covers-put ws r s c h t g ∙ counted_same 0 (pointsIn ws) (λ i. strong ws r t i && g i) (λ i. keeps ws d r q i && g i) (λ i v w. ap (λ (x : Bool). x && g i) (e i w))) a
+      added_same (λ g. found s c (λ i. strong ws r t i && g i)) (those ws (keeps ws d r q)) o p at end
+      (λ g. covers_put ws r s c h t g ∙ counted_same 0 (points_in ws) (λ i. strong ws r t i && g i) (λ i. keeps ws d r q i && g i) (λ i v w. ap (λ (x : Bool). x && g i) (e i w))) a
 
-  pub case-all : (m : ℕ) → m ≡ many ws r → m ≤ q → (o p : List ℕ) (at end : ℕ) → Added (λ g. found s c (λ i. strong ws r 0 i && g i)) o p at end → Added (those ws (keeps ws d r q)) o p at end
-  case-all m x l o p at end a = put_keeps 0 (λ i w. strong-zero ws r i ∙ sym (keeps-all ws d r q i (omega arith))) o p at end a
+  pub case_all : (m : ℕ) → m ≡ many ws r → m ≤ q → (o p : List ℕ) (at end : ℕ) → Added (λ g. found s c (λ i. strong ws r 0 i && g i)) o p at end → Added (those ws (keeps ws d r q)) o p at end
+  case_all m x l o p at end a = put_keeps 0 (λ i w. strong_zero ws r i ∙ sym (keeps_all ws d r q i (omega arith))) o p at end a
 
-  pub case-best : (m t : ℕ) → Sound ws → m ≡ many ws r → q < m → (ltb q 4 || eqb d 0) ≡ true → counted 0 (pointsIn ws) (strong ws r t) ≡ q → (o p : List ℕ) (at end : ℕ) → Added (λ g. found s c (λ i. strong ws r t i && g i)) o p at end → Added (those ws (keeps ws d r q)) o p at end
-  case-best m t u x l f e o p at end a =
-      put_keeps t (λ i w. sym (keeps-best ws d r q i (omega arith) last ∙ best-cut ws r u q t e i w)) o p at end a
+  pub case_best : (m t : ℕ) → Sound ws → m ≡ many ws r → q < m → (ltb q 4 || eqb d 0) ≡ true → counted 0 (points_in ws) (strong ws r t) ≡ q → (o p : List ℕ) (at end : ℕ) → Added (λ g. found s c (λ i. strong ws r t i && g i)) o p at end → Added (those ws (keeps ws d r q)) o p at end
+  case_best m t u x l f e o p at end a =
+      put_keeps t (λ i w. sym (keeps_best ws d r q i (omega arith) last ∙ best_cut ws r u q t e i w)) o p at end a
     where
       last : (q < 4) ⊎ (d ≡ 0)
       last = ⊎_elim (λ v. inl (ltb-true q 4 v)) (λ v. inr (eqb-true d 0 v)) (or_cases (ltb q 4) (eqb d 0) f)
 
   -- there is room for what is put: no more than the quota
-  pub room-all : (m at : ℕ) → m ≡ many ws r → m ≤ q → at + q < 2 ^ 64 → at + found s c (strong ws r 0) < 2 ^ 64
-  room-all m at x l k = let e = covers-many ws r s c h in omega arith
+  pub room_all : (m at : ℕ) → m ≡ many ws r → m ≤ q → at + q < 2 ^ 64 → at + found s c (strong ws r 0) < 2 ^ 64
+  room_all m at x l k = let e = covers_many ws r s c h in omega arith
 
-  pub room-best : (t at : ℕ) → counted 0 (pointsIn ws) (strong ws r t) ≡ q → at + q < 2 ^ 64 → at + found s c (strong ws r t) < 2 ^ 64
-  room-best t at e k = let f = covers-strong ws r s c h t in omega arith
+  pub room_best : (t at : ℕ) → counted 0 (points_in ws) (strong ws r t) ≡ q → at + q < 2 ^ 64 → at + found s c (strong ws r t) < 2 ^ 64
+  room_best t at e k = let f = covers_strong ws r s c h t in omega arith
 
 pub not_last : (q d : ℕ) → (ltb q 4 || eqb d 0) ≡ false → (4 ≤ q) × (0 < d)
 not_last q d h =
@@ -123,20 +123,20 @@ not_last q d h =
 
 -- ---- the quarters, one after the other
 
-bound-order : (b : Bounds) (k : ℕ) → k < 4 → (b.first ≤ b.second) × (b.second ≤ b.third) × (b.third ≤ b.fourth) × (b.fourth ≤ b.last) → (boundOf b 0 ≤ boundOf b k) × (boundOf b k ≤ boundOf b (k + 1))
-unfolding boundOf
-bound-order b zero l (e, f, g, h) = (omega arith, e)
-bound-order b (suc zero) l (e, f, g, h) = (omega arith, f)
-bound-order b (suc (suc zero)) l (e, f, g, h) = (omega arith, g)
-bound-order b (suc (suc (suc zero))) l (e, f, g, h) = (omega arith, h)
-bound-order b (suc (suc (suc (suc k)))) l e = absurd (omega arith)
+bound_order : (b : Bounds) (k : ℕ) → k < 4 → (b.first ≤ b.second) × (b.second ≤ b.third) × (b.third ≤ b.fourth) × (b.fourth ≤ b.last) → (bound_of b 0 ≤ bound_of b k) × (bound_of b k ≤ bound_of b (k + 1))
+unfolding bound_of
+bound_order b zero l (e, f, g, h) = (omega arith, e)
+bound_order b (suc zero) l (e, f, g, h) = (omega arith, f)
+bound_order b (suc (suc zero)) l (e, f, g, h) = (omega arith, g)
+bound_order b (suc (suc (suc zero))) l (e, f, g, h) = (omega arith, h)
+bound_order b (suc (suc (suc (suc k)))) l e = absurd (omega arith)
 
 -- a source stays where the list changed before it
-covers-beside : (ws : List ℕ) (r : Region) (s t : List ℕ) (c : Source) (x y : ℕ) → y ≤ c.from → Beside s t x y → Covers ws r s c → Covers ws r t c
+covers_beside : (ws : List ℕ) (r : Region) (s t : List ℕ) (c : Source) (x y : ℕ) → y ≤ c.from → Beside s t x y → Covers ws r s c → Covers ws r t c
 unfolding candidate
-covers-beside ws r s t c x y l d h =
+covers_beside ws r s t c x y l d h =
     record {
-      stands = record { order = h.stands.order; room = λ e. let a = h.stands.room e in let b = d.length in omega arith; each = λ k a b. subst (λ (v : ℕ). v < pointsIn ws) (sym (is k a)) (h.stands.each k a b) };
+      stands = record { order = h.stands.order; room = λ e. let a = h.stands.room e in let b = d.length in omega arith; each = λ k a b. subst (λ (v : ℕ). v < points_in ws) (sym (is k a)) (h.stands.each k a b) };
       each = λ g. counted_same c.from c.to (λ k. inside ws r (candidate c.all t k) && g (candidate c.all t k)) (λ k. inside ws r (candidate c.all s k) && g (candidate c.all s k)) (λ k a b. ap (λ (v : ℕ). inside ws r v && g v) (is k a)) ∙ h.each g;
     }
   where
@@ -148,64 +148,64 @@ pub record Rounds (ws : List ℕ) (d : ℕ) (r : Region) (q : ℕ) (c : Source) 
   pub few : k ≤ 4
   pub added : Added (those ws (λ i. some k (λ j. keeps ws d (quarter r j) (share q j) i))) o p at end
   pub same : length t ≡ length s
-  pub beside : c.all ≡ false → Beside s t (boundOf b 0) (boundOf b k)
+  pub beside : c.all ≡ false → Beside s t (bound_of b 0) (bound_of b k)
 
-pub rounds-start : (ws : List ℕ) (d : ℕ) (r : Region) (q : ℕ) (c : Source) (b : Bounds) (s o : List ℕ) (at : ℕ) → Rounds ws d r q c b s o at 0 s o at
-rounds-start ws d r q c b s o at =
+pub rounds_start : (ws : List ℕ) (d : ℕ) (r : Region) (q : ℕ) (c : Source) (b : Bounds) (s o : List ℕ) (at : ℕ) → Rounds ws d r q c b s o at 0 s o at
+rounds_start ws d r q c b s o at =
     record {
       few = omega arith;
-      added = added_none ws (λ i. some 0 (λ j. keeps ws d (quarter r j) (share q j) i)) o at (λ i. some-none (λ j. keeps ws d (quarter r j) (share q j) i));
+      added = added_none ws (λ i. some 0 (λ j. keeps ws d (quarter r j) (share q j) i)) o at (λ i. some_none (λ j. keeps ws d (quarter r j) (share q j) i));
       same = refl;
       beside = λ z. record { length = refl; outside = λ k w. refl };
     }
 
 module _ (ws : List ℕ) (d : ℕ) (r : Region) (q : ℕ) (c : Source) (b : Bounds) (s₀ s o : List ℕ) (at k : ℕ) (t p : List ℕ) (end : ℕ) (n : Split ws r s₀ s c b) (g : Rounds ws d r q c b s o at k t p end) (l : k < 4) where
-  from_is : c.all ≡ false → (source_of c b k).from ≡ boundOf b k
+  from_is : c.all ≡ false → (source_of c b k).from ≡ bound_of b k
   unfolding source_of
   from_is z = rw z
 
-  to_is : c.all ≡ false → (source_of c b k).to ≡ boundOf b (k + 1)
+  to_is : c.all ≡ false → (source_of c b k).to ≡ bound_of b (k + 1)
   unfolding source_of
   to_is z = rw (z, add-one)
 
-  all-is : (source_of c b k).all ≡ c.all
+  all_is : (source_of c b k).all ≡ c.all
   unfolding source_of
-  all-is = either_way c.all refl
+  all_is = either_way c.all refl
     where
-      either_way : (x : Bool) → c.all ≡ x → (cond c.all c (record { all = false; from = boundOf b k; to = boundOf b (suc k) })).all ≡ c.all
+      either_way : (x : Bool) → c.all ≡ x → (cond c.all c (record { all = false; from = bound_of b k; to = bound_of b (suc k) })).all ≡ c.all
       either_way true z = rw z
       either_way false z = rw z
 
-  pub rounds-covers : (x : Region) (e : Source) → x ≡ quarter r k → e ≡ source_of c b k → Covers ws x t e
-  rounds-covers x e u v =
+  pub rounds_covers : (x : Region) (e : Source) → x ≡ quarter r k → e ≡ source_of c b k → Covers ws x t e
+  rounds_covers x e u v =
       subst (λ (y : Region). Covers ws y t e) (sym u)
       (subst (Covers ws (quarter r k) t) (sym v)
       (⊎_elim
-      (λ z. covers-any ws (quarter r k) s t (source_of c b k) (all-is ∙ z) (n.covers k l))
-      (λ z. covers-beside ws (quarter r k) s t (source_of c b k) (boundOf b 0) (boundOf b k) (let w = from_is z in omega arith) (g.beside z) (n.covers k l))
+      (λ z. covers_any ws (quarter r k) s t (source_of c b k) (all_is ∙ z) (n.covers k l))
+      (λ z. covers_beside ws (quarter r k) s t (source_of c b k) (bound_of b 0) (bound_of b k) (let w = from_is z in omega arith) (g.beside z) (n.covers k l))
       (either c.all)))
 
-  pub rounds-room : Sound ws → Ordered r → (y : ℕ) → y ≡ share q k → at + q < 2 ^ 64 → end + y < 2 ^ 64
-  rounds-room u o' y v w =
+  pub rounds_room : Sound ws → Ordered r → (y : ℕ) → y ≡ share q k → at + q < 2 ^ 64 → end + y < 2 ^ 64
+  rounds_room u o' y v w =
       let a = g.added.count in
-      let m = counted_same 0 (pointsIn ws) (λ i. some k (λ j. keeps ws d (quarter r j) (share q j) i) && true) (λ i. some k (λ j. keeps ws d (quarter r j) (share q j) i)) (λ i x z. and-true (some k (λ j. keeps ws d (quarter r j) (share q j) i))) in
-      let e = counted-some k (λ j. keeps ws d (quarter r j) (share q j)) (pointsIn ws) in
-      let f = total_mono k (λ j. counted 0 (pointsIn ws) (keeps ws d (quarter r j) (share q j))) (share q) (λ j. keeps-few ws u d (quarter r j) (share q j) (quarter-ordered r j o')) in
-      let h = shares-some q k l in
+      let m = counted_same 0 (points_in ws) (λ i. some k (λ j. keeps ws d (quarter r j) (share q j) i) && true) (λ i. some k (λ j. keeps ws d (quarter r j) (share q j) i)) (λ i x z. and_true (some k (λ j. keeps ws d (quarter r j) (share q j) i))) in
+      let e = counted_some k (λ j. keeps ws d (quarter r j) (share q j)) (points_in ws) in
+      let f = total_mono k (λ j. counted 0 (points_in ws) (keeps ws d (quarter r j) (share q j))) (share q) (λ j. keeps_few ws u d (quarter r j) (share q j) (quarter_ordered r j o')) in
+      let h = shares_some q k l in
       omega arith
 
-  pub rounds-turn : (x : Region) (y : ℕ) (e : Source) (t' p' : List ℕ) (end' : ℕ) → x ≡ quarter r k → y ≡ share q k → e ≡ source_of c b k → length t' ≡ length t
+  pub rounds_turn : (x : Region) (y : ℕ) (e : Source) (t' p' : List ℕ) (end' : ℕ) → x ≡ quarter r k → y ≡ share q k → e ≡ source_of c b k → length t' ≡ length t
       → Added (those ws (keeps ws d x y)) p p' end end' → (e.all ≡ false → Beside t t' e.from e.to) → Rounds ws d r q c b s o at (k + 1) t' p' end'
-  rounds-turn x y e t' p' end' u v w m a z =
+  rounds_turn x y e t' p' end' u v w m a z =
       record {
         few = omega arith;
         added =
-            added-same (those ws (λ i. some k (λ j. keeps ws d (quarter r j) (share q j) i) || keeps ws d x y i)) (those ws (λ i. some (k + 1) (λ j. keeps ws d (quarter r j) (share q j) i))) o p' at end'
-            (λ h. counted_same 0 (pointsIn ws) (λ i. (some k (λ j. keeps ws d (quarter r j) (share q j) i) || keeps ws d x y i) && h i) (λ i. some (k + 1) (λ j. keeps ws d (quarter r j) (share q j) i) && h i)
+            added_same (those ws (λ i. some k (λ j. keeps ws d (quarter r j) (share q j) i) || keeps ws d x y i)) (those ws (λ i. some (k + 1) (λ j. keeps ws d (quarter r j) (share q j) i))) o p' at end'
+            (λ h. counted_same 0 (points_in ws) (λ i. (some k (λ j. keeps ws d (quarter r j) (share q j) i) || keeps ws d x y i) && h i) (λ i. some (k + 1) (λ j. keeps ws d (quarter r j) (share q j) i) && h i)
             (λ i f₁ f₂. ap (λ (z : Bool). z && h i) (one_more i)))
             (added_then ws (λ i. some k (λ j. keeps ws d (quarter r j) (share q j) i)) (keeps ws d x y) o p p' at end end' apart g.added a);
         same = m ∙ g.same;
-        beside = λ f. joined f (g.beside f) (z (ap (λ (i : Source). i.all) w ∙ all-is ∙ f)) (bound-order b k l (n.order f));
+        beside = λ f. joined f (g.beside f) (z (ap (λ (i : Source). i.all) w ∙ all_is ∙ f)) (bound_order b k l (n.order f));
       }
     where
       one_more : (i : ℕ) → (some k (λ j. keeps ws d (quarter r j) (share q j) i) || keeps ws d x y i) ≡ some (k + 1) (λ j. keeps ws d (quarter r j) (share q j) i)
@@ -213,36 +213,36 @@ module _ (ws : List ℕ) (d : ℕ) (r : Region) (q : ℕ) (c : Source) (b : Boun
 
       apart : (i : ℕ) → some k (λ j. keeps ws d (quarter r j) (share q j) i) ≡ true → keeps ws d x y i ≡ true → ⊥
       apart i f h =
-          some-elim (λ j. keeps ws d (quarter r j) (share q j) i) k
-          (λ j a₁ a₂. let e₁ = quarters-apart ws r j k i (omega arith) l (keeps-inside ws d (quarter r j) (share q j) i a₂) (subst (λ (z : Region). inside ws z i ≡ true) u (keeps-inside ws d x y i h)) in omega arith) f
+          some_elim (λ j. keeps ws d (quarter r j) (share q j) i) k
+          (λ j a₁ a₂. let e₁ = quarters_apart ws r j k i (omega arith) l (keeps_inside ws d (quarter r j) (share q j) i a₂) (subst (λ (z : Region). inside ws z i ≡ true) u (keeps_inside ws d x y i h)) in omega arith) f
 
-      joined : c.all ≡ false → Beside s t (boundOf b 0) (boundOf b k) → Beside t t' e.from e.to → (boundOf b 0 ≤ boundOf b k) × (boundOf b k ≤ boundOf b (k + 1)) → Beside s t' (boundOf b 0) (boundOf b (k + 1))
+      joined : c.all ≡ false → Beside s t (bound_of b 0) (bound_of b k) → Beside t t' e.from e.to → (bound_of b 0 ≤ bound_of b k) × (bound_of b k ≤ bound_of b (k + 1)) → Beside s t' (bound_of b 0) (bound_of b (k + 1))
       joined f x₁ x₂ x₃ =
-          let i : e.from ≡ boundOf b k = ap (λ (z : Source). z.from) w ∙ from_is f in
-          let j : e.to ≡ boundOf b (k + 1) = ap (λ (z : Source). z.to) w ∙ to_is f in
+          let i : e.from ≡ bound_of b k = ap (λ (z : Source). z.from) w ∙ from_is f in
+          let j : e.to ≡ bound_of b (k + 1) = ap (λ (z : Source). z.to) w ∙ to_is f in
           record {
             length = x₂.length ∙ x₁.length;
             outside = λ m v₁. x₂.outside m (⊎_elim (λ z. inl (omega (arith, x₃.0))) (λ z. inr (omega arith)) v₁) ∙ x₁.outside m (⊎_elim (λ z. inl z) (λ z. inr (omega (arith, x₃.1))) v₁);
           }
 
-pub rounds-end : (ws : List ℕ) (d e : ℕ) (r : Region) (q m : ℕ) (c : Source) (b : Bounds) (s o : List ℕ) (at k : ℕ) (t p : List ℕ) (end : ℕ) → Ordered r → m ≡ many ws r → q < m → 4 ≤ q → 0 < d → e ≡ d - 1 → k ≡ 4 → Rounds ws e r q c b s o at k t p end → Added (those ws (keeps ws d r q)) o p at end
-rounds-end ws zero e r q m c b s o at k t p end u x l i j f h g = absurd (let z = j in omega arith)
-rounds-end ws (suc d) e r q m c b s o at k t p end u x l i j f h g =
-    added-same (those ws (λ i. some k (λ j. keeps ws e (quarter r j) (share q j) i))) (those ws (keeps ws (suc d) r q)) o p at end
-    (λ v. counted_same 0 (pointsIn ws) (λ i. some k (λ j. keeps ws e (quarter r j) (share q j) i) && v i) (λ i. keeps ws (suc d) r q i && v i)
+pub rounds_end : (ws : List ℕ) (d e : ℕ) (r : Region) (q m : ℕ) (c : Source) (b : Bounds) (s o : List ℕ) (at k : ℕ) (t p : List ℕ) (end : ℕ) → Ordered r → m ≡ many ws r → q < m → 4 ≤ q → 0 < d → e ≡ d - 1 → k ≡ 4 → Rounds ws e r q c b s o at k t p end → Added (those ws (keeps ws d r q)) o p at end
+rounds_end ws zero e r q m c b s o at k t p end u x l i j f h g = absurd (let z = j in omega arith)
+rounds_end ws (suc d) e r q m c b s o at k t p end u x l i j f h g =
+    added_same (those ws (λ i. some k (λ j. keeps ws e (quarter r j) (share q j) i))) (those ws (keeps ws (suc d) r q)) o p at end
+    (λ v. counted_same 0 (points_in ws) (λ i. some k (λ j. keeps ws e (quarter r j) (share q j) i) && v i) (λ i. keeps ws (suc d) r q i && v i)
     (λ n y z. ap (λ (w : Bool). w && v n) (four n))) g.added
   where
     is : e ≡ d
     is = omega arith
 
     four : (n : ℕ) → some k (λ j. keeps ws e (quarter r j) (share q j) n) ≡ keeps ws (suc d) r q n
-    four n = rw (h, is) (sym (keeps-quarters ws d r q n u (omega arith) i))
+    four n = rw (h, is) (sym (keeps_quarters ws d r q n u (omega arith) i))
 
 -- the lent list, beside the run of the source
-pub rounds-beside : (ws : List ℕ) (d : ℕ) (r : Region) (q : ℕ) (c : Source) (b : Bounds) (s₀ s o : List ℕ) (at k : ℕ) (t p : List ℕ) (end : ℕ) → Split ws r s₀ s c b → Rounds ws d r q c b s o at k t p end → k ≡ 4 → c.all ≡ false → Beside s₀ t c.from c.to
-unfolding boundOf
-rounds-beside ws d r q c b s₀ s o at k t p end n g e z =
-    let x = subst (λ (j : ℕ). Beside s t (boundOf b 0) (boundOf b j)) e (g.beside z) in
+pub rounds_beside : (ws : List ℕ) (d : ℕ) (r : Region) (q : ℕ) (c : Source) (b : Bounds) (s₀ s o : List ℕ) (at k : ℕ) (t p : List ℕ) (end : ℕ) → Split ws r s₀ s c b → Rounds ws d r q c b s o at k t p end → k ≡ 4 → c.all ≡ false → Beside s₀ t c.from c.to
+unfolding bound_of
+rounds_beside ws d r q c b s₀ s o at k t p end n g e z =
+    let x = subst (λ (j : ℕ). Beside s t (bound_of b 0) (bound_of b j)) e (g.beside z) in
     let y = n.beside z in
     record { length = x.length ∙ y.length; outside = λ j w. x.outside j (⊎_elim (λ l. inl (let f = (n.ends z).0 in omega arith)) (λ l. inr (let f = (n.ends z).1 in omega arith)) w) ∙ y.outside j w }
 
@@ -251,25 +251,25 @@ rounds-beside ws d r q c b s₀ s o at k t p end n g e z =
 pub same_beside : (s t : List ℕ) (from to : ℕ) → t ≡ s → Beside s t from to
 same_beside s t from to e = record { length = ap length e; outside = λ k w. ap (λ (l : List ℕ). get_or l k 0) e }
 
-pub end-beside : (s₀ s t : List ℕ) (c e : Source) → (e ≡ c) × (s ≡ s₀) → (e.all ≡ false → Beside s t e.from e.to) → c.all ≡ false → Beside s₀ t c.from c.to
-end-beside s₀ s t c e (p, q) f z =
+pub end_beside : (s₀ s t : List ℕ) (c e : Source) → (e ≡ c) × (s ≡ s₀) → (e.all ≡ false → Beside s t e.from e.to) → c.all ≡ false → Beside s₀ t c.from c.to
+end_beside s₀ s t c e (p, q) f z =
     subst (λ (l : List ℕ). Beside l t c.from c.to) q (subst (λ (x : Source). Beside s t x.from x.to) p (f (subst (λ (x : Source). x.all ≡ false) (sym p) z)))
 
 pub depth_falls : (d t : ℕ) → 0 < d → d ≡ t → d - 1 < t
 depth_falls d t h e = omega arith
 
-pub next-ordered : (r x : Region) (k : ℕ) → x ≡ quarter r k → Ordered r → Ordered x
-next-ordered r x k e o = subst Ordered (sym e) (quarter-ordered r k o)
+pub next_ordered : (r x : Region) (k : ℕ) → x ≡ quarter r k → Ordered r → Ordered x
+next_ordered r x k e o = subst Ordered (sym e) (quarter_ordered r k o)
 
-pub next-some : (q k y : ℕ) → y ≡ share q k → 4 ≤ q → 1 ≤ y
-next-some q k y e h = let z = share-some q k h in omega arith
+pub next_some : (q k y : ℕ) → y ≡ share q k → 4 ≤ q → 1 ≤ y
+next_some q k y e h = let z = share_some q k h in omega arith
 
 -- ---- the frame
 
 -- all positions are a source of any region
-pub covers-whole : (ws : List ℕ) (r : Region) (s : List ℕ) (n : ℕ) → n ≡ pointsIn ws → Covers ws r s (record { all = true; from = 0; to = n })
+pub covers_whole : (ws : List ℕ) (r : Region) (s : List ℕ) (n : ℕ) → n ≡ points_in ws → Covers ws r s (record { all = true; from = 0; to = n })
 unfolding candidate
-covers-whole ws r s n e =
+covers_whole ws r s n e =
     record {
       stands = record { order = omega arith; room = λ z. absurd (true≢false z); each = λ k a b. omega arith };
       each = λ g. ap (λ (m : ℕ). counted 0 m (λ i. inside ws r i && g i)) e;
@@ -279,6 +279,6 @@ pub count_kept : (ws : List ℕ) (d : ℕ) (r : Region) (q : ℕ) (s t : List �
 unfolding kept
 count_kept ws d r q s t m a =
     let x = a.count in
-    let y = counted_same 0 (pointsIn ws) (λ i. keeps ws d r q i && true) (keeps ws d r q) (λ i v w. and-true (keeps ws d r q i)) in
-    let z = length-passed 0 (pointsIn ws) (keeps ws d r q) in
+    let y = counted_same 0 (points_in ws) (λ i. keeps ws d r q i && true) (keeps ws d r q) (λ i v w. and_true (keeps ws d r q i)) in
+    let z = length_passed 0 (points_in ws) (keeps ws d r q) in
     omega arith

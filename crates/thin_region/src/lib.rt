@@ -3,7 +3,7 @@
 
 ghost use Rattle.std.specs.Prelude.{◌≡◌, false, ◌&&◌, ◌+◌, ◌^◌, ◌≤◌, ◌<◌, length};
 ghost use Rattle.counts.specs.Counts.{counted};
-ghost use Rattle.thin_rule.specs.Rule.{pointsIn, keeps, kept};
+ghost use Rattle.thin_rule.specs.Rule.{points_in, keeps, kept};
 ghost use Rattle.thin_rule.specs.Strength.{Ordered, Sound};
 ghost use Rattle.thin_part.specs.Runs.{Beside};
 ghost use Rattle.thin_source.specs.Sources.{Covers, Reaches};
@@ -31,7 +31,7 @@ fn thin(
     requires ordered { Ordered r × Sound words.now }
     requires covers { Covers words.now r s.old c × Reaches words.now h }
     requires le_q { (1 ≤ q) × (at + q < 2 ^ 64) }
-    ensures added { Added (λ g. counted 0 (pointsIn words.now) (λ i. keeps words.now depth r q i && g i)) out.old out.new at result }
+    ensures added { Added (λ g. counted 0 (points_in words.now) (λ i. keeps words.now depth r q i && g i)) out.old out.new at result }
     ensures beside { c.all ≡ false → Beside s.old s.new c.from c.to }
 {
     let f = thin_source::hold(words, r, s, c);
@@ -67,7 +67,7 @@ fn thin(
 pub fn thin_all(words: &[u32], r: Region, q: usize, depth: u32, out: &mut [u32]) -> usize
     requires ordered { Ordered r × Sound words.now }
     requires le_q { 1 ≤ q }
-    ensures { Added (λ g. counted 0 (pointsIn words.now) (λ i. keeps words.now depth r q i && g i)) out.old out.new 0 result }
+    ensures { Added (λ g. counted 0 (points_in words.now) (λ i. keeps words.now depth r q i && g i)) out.old out.new 0 result }
 {
     let mut s = [0u32; HELD];
     let c = Source {

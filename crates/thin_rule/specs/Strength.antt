@@ -2,9 +2,9 @@
 use Rattle.std.specs.Prelude.{ℕ, ◌+◌, ◌-◌, ◌*◌, ◌^◌, ◌<◌, ◌≤◌, ◌≡◌, Bool, true, ◌&&◌, List, leb, ltb}
 use Rattle.std.specs.Float.Ieee.Scale.{finite}
 use Rattle.ieee.specs.F32.{float, bits_of}
-use Rattle.params.specs.Limits.{maxSide, maxKeypoints}
+use Rattle.params.specs.Limits.{max_side, max_keypoints}
 use Rattle.thin_order.specs.Place.{place, bare, Upward}
-use Rattle.thin_rule.specs.Rule.{pointsIn, word_at, responseOf, inside}
+use Rattle.thin_rule.specs.Rule.{points_in, word_at, response_of, inside}
 use Rattle.thin_rule.specs.declared.Region.{Region}
 use Rattle.thin_rule.specs.declared.Edges.{Edges}
 
@@ -20,8 +20,8 @@ strong ws r t i = inside ws r i && leb t (strength ws i)
 abbrev pub edge_at : ℕ → ℕ
 edge_at n = bare (bits_of (float n))
 
-abbrev pub edgesOf : Region → Edges
-edgesOf r = record { left = edge_at r.left; right = edge_at r.right; top = edge_at r.top; bottom = edge_at r.bottom }
+abbrev pub edges_of : Region → Edges
+edges_of r = record { left = edge_at r.left; right = edge_at r.right; top = edge_at r.top; bottom = edge_at r.bottom }
 
 -- the bits lie from one edge to below the other
 abbrev pub amid : ℕ → ℕ → ℕ → Bool
@@ -33,14 +33,14 @@ edged ws e i = amid e.left e.right (word_at ws i 0) && amid e.top e.bottom (word
 -- a region whose edges stand in their order, within the largest frame
 pub record Ordered (r : Region) : Type 0 where
   pub across : r.left ≤ r.right
-  pub right : r.right ≤ maxSide
+  pub right : r.right ≤ max_side
   pub down : r.top ≤ r.bottom
-  pub bottom : r.bottom ≤ maxSide
+  pub bottom : r.bottom ≤ max_side
 
 -- a list that has a number of 32 bits for each position, x and y not below zero, and finite responses
 pub record Sound (ws : List ℕ) : Type 0 where
-  pub few : pointsIn ws ≤ maxKeypoints
-  pub x : (i : ℕ) → i < pointsIn ws → Upward (word_at ws i 0)
-  pub y : (i : ℕ) → i < pointsIn ws → Upward (word_at ws i 1)
-  pub words : (i : ℕ) → i < pointsIn ws → word_at ws i 3 < 2 ^ 32
-  pub numbers : (i : ℕ) → i < pointsIn ws → finite (responseOf ws i) ≡ true
+  pub few : points_in ws ≤ max_keypoints
+  pub x : (i : ℕ) → i < points_in ws → Upward (word_at ws i 0)
+  pub y : (i : ℕ) → i < points_in ws → Upward (word_at ws i 1)
+  pub words : (i : ℕ) → i < points_in ws → word_at ws i 3 < 2 ^ 32
+  pub numbers : (i : ℕ) → i < points_in ws → finite (response_of ws i) ≡ true

@@ -3,10 +3,10 @@
 
 ghost use Rattle.std.specs.Prelude.{◌≡◌, cond, ◌^◌, ◌<◌, ◌≤◌, ltb};
 ghost use Rattle.ieee.specs.F32.{float};
-ghost use Rattle.params.specs.Limits.{maxSide, maxKeypoints};
+ghost use Rattle.params.specs.Limits.{max_side, max_keypoints};
 ghost use Rattle.thin_order.specs.Place.{place, bare};
-ghost use Rattle.thin_rule.specs.Rule.{pointsIn, quarter, share};
-ghost use Rattle.thin_rule.specs.Strength.{strength, edge_at, edgesOf, edged, Ordered};
+ghost use Rattle.thin_rule.specs.Rule.{points_in, quarter, share};
+ghost use Rattle.thin_rule.specs.Strength.{strength, edge_at, edges_of, edged, Ordered};
 
 use params::KEYPOINT_WORDS;
 
@@ -66,7 +66,7 @@ pub fn share_of(q: usize, k: usize) -> usize
 }
 
 pub fn whole(n: u32) -> f32
-    requires { n ≤ maxSide }
+    requires { n ≤ max_side }
     ensures { result ≡ float n }
 {
     n as f32
@@ -80,7 +80,7 @@ pub fn bare_of(w: u32) -> u32
 }
 
 pub fn edge_at(n: u32) -> u32
-    requires { n ≤ maxSide }
+    requires { n ≤ max_side }
     ensures { result ≡ edge_at n }
 {
     bare_of(ieee::bits_of(whole(n)))
@@ -88,7 +88,7 @@ pub fn edge_at(n: u32) -> u32
 
 pub fn edges_of(r: Region) -> Edges
     requires { Ordered r }
-    ensures { result ≡ edgesOf r }
+    ensures { result ≡ edges_of r }
 {
     Edges {
         left: edge_at(r.left),
@@ -100,7 +100,7 @@ pub fn edges_of(r: Region) -> Edges
 
 // x and y between the edges: compared by their bits, without a branch.
 pub fn in_region(words: &[u32], e: Edges, p: usize) -> bool
-    requires { p < pointsIn words.now }
+    requires { p < points_in words.now }
     ensures { result ≡ edged words.now e p }
 {
     let x = bare_of(words[KEYPOINT_WORDS * p]);
@@ -138,7 +138,7 @@ fn place_of(w: u32) -> u64
 }
 
 pub fn strength_of(words: &[u32], p: usize) -> u64
-    requires { (p < pointsIn words.now) × (pointsIn words.now ≤ maxKeypoints) }
+    requires { (p < points_in words.now) × (points_in words.now ≤ max_keypoints) }
     ensures { result ≡ strength words.now p }
 {
     place_of(words[KEYPOINT_WORDS * p + 3]) * 0x1_0000_0000 + (0xffff_ffff - (p as u64))

@@ -10,21 +10,21 @@ use borrow.Author.Tests.{ltb-true, lt-ltb, le-ltb, le-leb, lt-leb, not-false}
 use lib.Dec.{leb, ltb}
 use lib.ListN.{length, get_or, set, length-set}
 use lib.Seq.{get_or-set_same, get_or-set_other}
-use Rattle.lists.proofs.Naturals.{le-or-lt}
-use Rattle.lists.proofs.Bools.{and-true, and-false}
+use Rattle.lists.proofs.Naturals.{le_or_lt}
+use Rattle.lists.proofs.Bools.{and_true, and_false}
 use Rattle.counts.specs.Counts.{counted}
-use Rattle.counts.proofs.Counts.{one, counted_none, counted_next, counted-split, counted_same, counted_never, counted-zero}
-use Rattle.thin_rule.specs.Rule.{pointsIn, inside, many}
-use Rattle.thin_rule.specs.Strength.{strong, edgesOf, Ordered, Sound}
+use Rattle.counts.proofs.Counts.{one, counted_none, counted_next, counted_split, counted_same, counted_never, counted_zero}
+use Rattle.thin_rule.specs.Rule.{points_in, inside, many}
+use Rattle.thin_rule.specs.Strength.{strong, edges_of, Ordered, Sound}
 use Rattle.thin_rule.specs.declared.Edges.{Edges}
 use Rattle.thin_rule.specs.declared.Region.{Region}
 use Rattle.thin_part.specs.Runs.{held, Beside}
-use Rattle.thin_part.proofs.Parts.{none-listed}
+use Rattle.thin_part.proofs.Parts.{none_listed}
 use Rattle.thin_source.specs.Sources.{candidate, found, Stands, Covers}
 use Rattle.thin_source.specs.Adds.{Added}
 use Rattle.thin_source.specs.declared.Source.{Source}
-use Rattle.thin_source.proofs.Covering.{covers-any, covers-all, many-all}
-use Rattle.thin_source.proofs.Sources.{weighed, each-weighed}
+use Rattle.thin_source.proofs.Covering.{covers_any, covers_all, many_all}
+use Rattle.thin_source.proofs.Sources.{weighed, each_weighed}
 
 -- ---- the candidates from `from` to below k that pass the test are added at `at`, up to m
 
@@ -46,7 +46,7 @@ add_start test cand s at from to h =
     }
 
 pub add_turn : (test : ℕ → Bool) (cand : ℕ → ℕ) (s d d' : List ℕ) (at from to k m p o : ℕ) (y : Bool) → Adding test cand s d at from to k m → k < to → p ≡ cand k → y ≡ test p → d' ≡ cond (y && ltb m (length d)) (set d m p) d → o ≡ cond y 1 0 → Adding test cand s d' at from to (k + 1) (m + o)
-add_turn test cand s d d' at from to k m p o y i h z w u v = rw (u, v) (turn y (sym (w ∙ ap test z)) (le-or-lt (length d) m))
+add_turn test cand s d d' at from to k m p o y i h z w u v = rw (u, v) (turn y (sym (w ∙ ap test z)) (le_or_lt (length d) m))
   where
     low : from ≤ k + 1
     low = let l = i.low in omega arith
@@ -109,17 +109,17 @@ add_turn test cand s d d' at from to k m p o y i h z w u v = rw (u, v) (turn y (
         }
 
 -- m stays at or below where all of them end
-pub add-within : (test : ℕ → Bool) (cand : ℕ → ℕ) (s d : List ℕ) (at from to k m : ℕ) (f : ℕ → Bool) → Adding test cand s d at from to k m → ((j : ℕ) → from ≤ j → j < to → f (cand j) ≡ test (cand j)) → m ≤ at + counted from to (λ j. f (cand j))
-add-within test cand s d at from to k m f i e =
+pub add_within : (test : ℕ → Bool) (cand : ℕ → ℕ) (s d : List ℕ) (at from to k m : ℕ) (f : ℕ → Bool) → Adding test cand s d at from to k m → ((j : ℕ) → from ≤ j → j < to → f (cand j) ≡ test (cand j)) → m ≤ at + counted from to (λ j. f (cand j))
+add_within test cand s d at from to k m f i e =
     let c = i.count in
-    let n = counted-split from k to (λ j. test (cand j)) i.low i.high in
+    let n = counted_split from k to (λ j. test (cand j)) i.low i.high in
     let q = counted_same from to (λ j. f (cand j)) (λ j. test (cand j)) e in
     omega arith
 
-pub add-end : (test : ℕ → Bool) (cand : ℕ → ℕ) (s d : List ℕ) (at from to k m : ℕ) (f : ℕ → Bool) → Adding test cand s d at from to k m → to ≤ k → ((j : ℕ) → from ≤ j → j < to → f (cand j) ≡ test (cand j)) → Added (λ g. counted from to (λ j. f (cand j) && g (cand j))) s d at m
-add-end test cand s d at from to k m f i h e =
+pub add_end : (test : ℕ → Bool) (cand : ℕ → ℕ) (s d : List ℕ) (at from to k m : ℕ) (f : ℕ → Bool) → Adding test cand s d at from to k m → to ≤ k → ((j : ℕ) → from ≤ j → j < to → f (cand j) ≡ test (cand j)) → Added (λ g. counted from to (λ j. f (cand j) && g (cand j))) s d at m
+add_end test cand s d at from to k m f i h e =
     record {
-      count = i.count ∙ ap (λ n. at + n) (rw same (counted_same from k (λ j. test (cand j)) (λ j. f (cand j) && true) (λ j a b. sym (and-true (f (cand j)) ∙ e j a (omega arith)))));
+      count = i.count ∙ ap (λ n. at + n) (rw same (counted_same from k (λ j. test (cand j)) (λ j. f (cand j) && true) (λ j a b. sym (and_true (f (cand j)) ∙ e j a (omega arith)))));
       beside = i.beside;
       each = λ l g. i.each l g ∙ rw same (counted_same from k (λ j. test (cand j) && g (cand j)) (λ j. f (cand j) && g (cand j)) (λ j a b. rw (e j a (omega arith))));
     }
@@ -132,39 +132,39 @@ add-end test cand s d at from to k m f i h e =
 abbrev Put : List ℕ → Region → Source → List ℕ → List ℕ → ℕ → Type 0
 Put ws r c s d m = Added (λ g. found ws c (λ p. strong ws r 0 p && g p)) s d 0 m
 
-pub added-many : (ws : List ℕ) (r : Region) (c : Source) (s d : List ℕ) (m : ℕ) → Covers ws r ws c → Put ws r c s d m → m ≡ many ws r
-added-many ws r c s d m h a = a.count ∙ zero-add (found ws c (λ p. strong ws r 0 p && true)) ∙ covers-all ws r ws c h (λ i. true) ∙ many-all ws r
+pub added_many : (ws : List ℕ) (r : Region) (c : Source) (s d : List ℕ) (m : ℕ) → Covers ws r ws c → Put ws r c s d m → m ≡ many ws r
+added_many ws r c s d m h a = a.count ∙ zero-add (found ws c (λ p. strong ws r 0 p && true)) ∙ covers_all ws r ws c h (λ i. true) ∙ many_all ws r
 
-held-covers : (ws : List ℕ) (r : Region) (c : Source) (s d : List ℕ) (m : ℕ) → Covers ws r ws c → Put ws r c s d m → m ≤ length d → Covers ws r d (record { all = false; from = 0; to = m })
+held_covers : (ws : List ℕ) (r : Region) (c : Source) (s d : List ℕ) (m : ℕ) → Covers ws r ws c → Put ws r c s d m → m ≤ length d → Covers ws r d (record { all = false; from = 0; to = m })
 unfolding candidate
-held-covers ws r c s d m h a l =
+held_covers ws r c s d m h a l =
     record {
-      stands = record { order = omega arith; room = λ e. l; each = (none-listed (pointsIn ws) d 0 m none).each };
-      each = λ g. all (λ p. inside ws r p && g p) ∙ counted_same 0 (pointsIn ws) (λ i. inside ws r i && (inside ws r i && g i)) (λ i. inside ws r i && g i) (λ i x y. twice (inside ws r i) (g i));
+      stands = record { order = omega arith; room = λ e. l; each = (none_listed (points_in ws) d 0 m none).each };
+      each = λ g. all (λ p. inside ws r p && g p) ∙ counted_same 0 (points_in ws) (λ i. inside ws r i && (inside ws r i && g i)) (λ i. inside ws r i && g i) (λ i x y. twice (inside ws r i) (g i));
     }
   where
-    all : (g : ℕ → Bool) → held d 0 m g ≡ counted 0 (pointsIn ws) (λ i. inside ws r i && g i)
-    all g = a.each (let e = a.beside.length in omega arith) g ∙ covers-all ws r ws c h g
+    all : (g : ℕ → Bool) → held d 0 m g ≡ counted 0 (points_in ws) (λ i. inside ws r i && g i)
+    all g = a.each (let e = a.beside.length in omega arith) g ∙ covers_all ws r ws c h g
 
-    none : held d 0 m (λ p. not (ltb p (pointsIn ws))) ≡ 0
+    none : held d 0 m (λ p. not (ltb p (points_in ws))) ≡ 0
     none =
-        all (λ p. not (ltb p (pointsIn ws))) ∙ counted_never 0 (pointsIn ws) (λ i. inside ws r i && not (ltb i (pointsIn ws))) (λ i x y. rw (lt-ltb i (pointsIn ws) y) (and-false (inside ws r i)))
+        all (λ p. not (ltb p (points_in ws))) ∙ counted_never 0 (points_in ws) (λ i. inside ws r i && not (ltb i (points_in ws))) (λ i x y. rw (lt-ltb i (points_in ws) y) (and_false (inside ws r i)))
 
     twice : (x y : Bool) → (x && (x && y)) ≡ (x && y)
     twice true y = refl
     twice false y = refl
 
 -- where they do not fit, all positions stay the source
-pub added-covers : (ws : List ℕ) (r : Region) (c : Source) (s d : List ℕ) (m x y : ℕ) → c.all ≡ true → Covers ws r ws c → Put ws r c s d m → x ≡ cond (leb m (length d)) 0 c.from → y ≡ cond (leb m (length d)) m c.to → Covers ws r d (record { all = not (leb m (length d)); from = x; to = y })
-added-covers ws r c s d m x y t h a u v =
+pub added_covers : (ws : List ℕ) (r : Region) (c : Source) (s d : List ℕ) (m x y : ℕ) → c.all ≡ true → Covers ws r ws c → Put ws r c s d m → x ≡ cond (leb m (length d)) 0 c.from → y ≡ cond (leb m (length d)) m c.to → Covers ws r d (record { all = not (leb m (length d)); from = x; to = y })
+added_covers ws r c s d m x y t h a u v =
     rw (u, v)
-    (⊎_elim (λ l. rw (le-leb m (length d) l) (held-covers ws r c s d m h a l)) (λ l. rw (lt-leb m (length d) l, ← t) (covers-any ws r ws d c t h)) (le-or-lt m (length d)))
+    (⊎_elim (λ l. rw (le-leb m (length d) l) (held_covers ws r c s d m h a l)) (λ l. rw (lt-leb m (length d) l, ← t) (covers_any ws r ws d c t h)) (le_or_lt m (length d)))
 
 -- ---- those that are strong
 
-module _ (ws : List ℕ) (r : Region) (e : Edges) (t : ℕ) (s : List ℕ) (c : Source) (sd : Sound ws) (o : Ordered r) (h : Stands (pointsIn ws) s c) (z : e ≡ edgesOf r) where
-  pub add-strong-within : (u d : List ℕ) (at k m : ℕ) → Adding (weighed ws e t) (candidate c.all s) u d at c.from c.to k m → m ≤ at + found s c (strong ws r t)
-  add-strong-within u d at k m i = add-within (weighed ws e t) (candidate c.all s) u d at c.from c.to k m (strong ws r t) i (each-weighed ws r e t s c sd o h z)
+module _ (ws : List ℕ) (r : Region) (e : Edges) (t : ℕ) (s : List ℕ) (c : Source) (sd : Sound ws) (o : Ordered r) (h : Stands (points_in ws) s c) (z : e ≡ edges_of r) where
+  pub add_strong_within : (u d : List ℕ) (at k m : ℕ) → Adding (weighed ws e t) (candidate c.all s) u d at c.from c.to k m → m ≤ at + found s c (strong ws r t)
+  add_strong_within u d at k m i = add_within (weighed ws e t) (candidate c.all s) u d at c.from c.to k m (strong ws r t) i (each_weighed ws r e t s c sd o h z)
 
-  pub add-strong : (u d : List ℕ) (at k m : ℕ) → Adding (weighed ws e t) (candidate c.all s) u d at c.from c.to k m → c.to ≤ k → Added (λ g. found s c (λ p. strong ws r t p && g p)) u d at m
-  add-strong u d at k m i l = add-end (weighed ws e t) (candidate c.all s) u d at c.from c.to k m (strong ws r t) i l (each-weighed ws r e t s c sd o h z)
+  pub add_strong : (u d : List ℕ) (at k m : ℕ) → Adding (weighed ws e t) (candidate c.all s) u d at c.from c.to k m → c.to ≤ k → Added (λ g. found s c (λ p. strong ws r t p && g p)) u d at m
+  add_strong u d at k m i l = add_end (weighed ws e t) (candidate c.all s) u d at c.from c.to k m (strong ws r t) i l (each_weighed ws r e t s c sd o h z)

@@ -2,11 +2,11 @@
 #![tactic(auto)]
 
 ghost use Rattle.std.specs.Prelude.{◌≡◌, false, cond, ◌&&◌, ◌+◌, ◌^◌, ◌≤◌, ◌<◌, leb, ltb, length, set};
-ghost use Rattle.params.specs.Limits.{maxKeypoints};
+ghost use Rattle.params.specs.Limits.{max_keypoints};
 ghost use Rattle.counts.specs.Counts.{counted};
-ghost use Rattle.thin_rule.specs.Rule.{pointsIn, many};
+ghost use Rattle.thin_rule.specs.Rule.{points_in, many};
 ghost use Rattle.thin_rule.specs.Strength.{strength, strong, edged, Ordered, Sound};
-ghost use Rattle.thin_source.specs.Sources.{candidate, found, Stands, Covers, Reaches, boundOf, source_of, Split};
+ghost use Rattle.thin_source.specs.Sources.{candidate, found, Stands, Covers, Reaches, bound_of, source_of, Split};
 ghost use Rattle.thin_source.specs.Adds.{Added};
 
 use params::KEYPOINT_WORDS;
@@ -63,7 +63,7 @@ fn candidate_at(s: &[u32], all: bool, k: usize) -> usize
 
 // A keypoint between the edges that is at least so strong.
 fn is_strong(words: &[u32], e: Edges, t: u64, p: usize) -> bool
-    requires { (p < pointsIn words.now) × (pointsIn words.now ≤ maxKeypoints) }
+    requires { (p < points_in words.now) × (points_in words.now ≤ max_keypoints) }
     ensures { result ≡ (edged words.now e p && leb t (strength words.now p)) }
 {
     if thin_rule::in_region(words, e, p) {
@@ -76,7 +76,7 @@ fn is_strong(words: &[u32], e: Edges, t: u64, p: usize) -> bool
 // How many of the region's keypoints are at least so strong.
 fn tally(words: &[u32], r: Region, t: u64, s: &[u32], c: Source) -> usize
     requires ordered { Ordered r × Sound words.now }
-    requires stands { Stands (pointsIn words.now) s.now c }
+    requires stands { Stands (points_in words.now) s.now c }
     ensures { result ≡ found s.now c (strong words.now r t) }
 {
     let e = thin_rule::edges_of(r);
@@ -114,7 +114,7 @@ pub fn put(
     at: usize,
 ) -> usize
     requires ordered { Ordered r × Sound words.now }
-    requires stands { Stands (pointsIn words.now) s.now c }
+    requires stands { Stands (points_in words.now) s.now c }
     requires t_bound { at + found s.now c (strong words.now r t) < 2 ^ 64 }
     ensures { Added (λ g. found s.now c (λ p. strong words.now r t p && g p)) out.old out.new at result }
 {
@@ -135,7 +135,7 @@ pub fn put(
 
 // The larger of a strength so far and of a candidate's, if it is one of the region that is no stronger than u.
 fn stronger(words: &[u32], e: Edges, u: u64, b: u64, p: usize) -> u64
-    requires { (p < pointsIn words.now) × (pointsIn words.now ≤ maxKeypoints) }
+    requires { (p < points_in words.now) × (points_in words.now ≤ max_keypoints) }
     ensures { result ≡ cond ((edged words.now e p && leb (strength words.now p) u) && ltb b (strength words.now p)) (strength words.now p) b }
 {
     if thin_rule::in_region(words, e, p) {
@@ -150,8 +150,8 @@ fn stronger(words: &[u32], e: Edges, u: u64, b: u64, p: usize) -> u64
 fn next(words: &[u32], r: Region, u: u64, s: &[u32], c: Source) -> u64
     requires ordered { Ordered r × Sound words.now }
     requires covers { Covers words.now r s.now c }
-    requires u_bound { counted 0 (pointsIn words.now) (strong words.now r (u + 1)) < many words.now r }
-    ensures { counted 0 (pointsIn words.now) (strong words.now r result) ≡ counted 0 (pointsIn words.now) (strong words.now r (u + 1)) + 1 }
+    requires u_bound { counted 0 (points_in words.now) (strong words.now r (u + 1)) < many words.now r }
+    ensures { counted 0 (points_in words.now) (strong words.now r result) ≡ counted 0 (points_in words.now) (strong words.now r (u + 1)) + 1 }
 {
     let e = thin_rule::edges_of(r);
     let all = c.all;
@@ -171,7 +171,7 @@ fn top(words: &[u32], r: Region, q: usize, h: Reach, s: &[u32], c: Source) -> u6
     requires ordered { Ordered r × Sound words.now }
     requires covers { Covers words.now r s.now c × Reaches words.now h }
     requires le_q { (1 ≤ q) × (q < many words.now r) }
-    ensures { counted 0 (pointsIn words.now) (strong words.now r result) ≡ q }
+    ensures { counted 0 (points_in words.now) (strong words.now r result) ≡ q }
 {
     let mut t: u64 = next(words, r, h.high, s, c);
     let mut k: usize = 1;
@@ -187,7 +187,7 @@ fn halve(words: &[u32], r: Region, q: usize, h: Reach, s: &[u32], c: Source) -> 
     requires ordered { Ordered r × Sound words.now }
     requires covers { Covers words.now r s.now c × Reaches words.now h }
     requires le_q { (1 ≤ q) × (q < many words.now r) }
-    ensures { counted 0 (pointsIn words.now) (strong words.now r result) ≡ q }
+    ensures { counted 0 (points_in words.now) (strong words.now r result) ≡ q }
 {
     let mut lo: u64 = h.low;
     let mut hi: u64 = h.high;
@@ -211,7 +211,7 @@ pub fn cut(words: &[u32], r: Region, q: usize, h: Reach, s: &[u32], c: Source) -
     requires ordered { Ordered r × Sound words.now }
     requires covers { Covers words.now r s.now c × Reaches words.now h }
     requires le_q { (1 ≤ q) × (q < many words.now r) }
-    ensures { counted 0 (pointsIn words.now) (strong words.now r result) ≡ q }
+    ensures { counted 0 (points_in words.now) (strong words.now r result) ≡ q }
 {
     if q < FEW {
         top(words, r, q, h, s, c)
@@ -278,7 +278,7 @@ pub fn split(words: &[u32], r: Region, s: &mut [u32], c: Source) -> Bounds
 }
 
 fn bound_of(b: Bounds, k: usize) -> usize
-    ensures { result ≡ boundOf b k }
+    ensures { result ≡ bound_of b k }
 {
     if k == 0 {
         return b.first;
@@ -324,7 +324,7 @@ fn larger(x: u64, y: u64) -> u64
 
 // The reach of a list, in one run over it.
 pub fn reach_of(words: &[u32]) -> Reach
-    requires { pointsIn words.now ≤ maxKeypoints }
+    requires { points_in words.now ≤ max_keypoints }
     ensures { Reaches words.now result }
 {
     let n = words.len() / KEYPOINT_WORDS;

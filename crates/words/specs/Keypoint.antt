@@ -2,7 +2,7 @@
 use Rattle.std.specs.Prelude.{ℕ, cond, List, eqb, length, get_or}
 use Rattle.std.specs.Float.{nan}
 use Rattle.ieee.specs.F32.{f32}
-use Rattle.params.specs.Limits.{keypointWords}
+use Rattle.params.specs.Limits.{keypoint_words}
 use Rattle.detect_keypoint.specs.declared.RawKeypoint.{RawKeypoint}
 
 -- the keypoint of ten words
@@ -26,5 +26,5 @@ unfoldable pub broken : RawKeypoint
 broken = record { x = nan; y = nan; size = nan; response = nan; octave = 0; layer = 0; xi = nan; cc = 0; rr = 0; moves = 0 }
 
 -- any other number of words than ten is no keypoint, and stands for one that no entry takes
-unfoldable pub keypointIn : List ℕ → RawKeypoint
-keypointIn k = cond (eqb (length k) keypointWords) (words_in k) broken
+unfoldable pub keypoint_in : List ℕ → RawKeypoint
+keypoint_in k = cond (eqb (length k) keypoint_words) (words_in k) broken

@@ -2,12 +2,12 @@
 use Rattle.std.specs.Prelude.{ℕ, cond, List, eqb, length, get_or}
 use Rattle.std.specs.Float.{nan}
 use Rattle.ieee.specs.F32.{f32}
-use Rattle.orient_words.specs.Oriented.{orientedWords}
+use Rattle.orient_words.specs.Oriented.{oriented_words}
 use Rattle.orient_words.specs.declared.OrientedKeypoint.{OrientedKeypoint}
 
 -- the oriented keypoint of six words
-unfoldable pub sixIn : List ℕ → OrientedKeypoint
-sixIn o =
+unfoldable pub six_in : List ℕ → OrientedKeypoint
+six_in o =
     record {
       x = f32 (get_or o 0 0);
       y = f32 (get_or o 1 0);
@@ -22,5 +22,5 @@ unfoldable pub unoriented : OrientedKeypoint
 unoriented = record { x = nan; y = nan; size = nan; response = nan; octave = 0; angle = nan }
 
 -- any other number of words than six stands for one that no entry takes
-unfoldable pub orientedIn : List ℕ → OrientedKeypoint
-orientedIn o = cond (eqb (length o) orientedWords) (sixIn o) unoriented
+unfoldable pub oriented_in : List ℕ → OrientedKeypoint
+oriented_in o = cond (eqb (length o) oriented_words) (six_in o) unoriented

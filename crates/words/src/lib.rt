@@ -3,11 +3,11 @@
 
 ghost use Rattle.std.specs.Prelude.{◌≡◌, length};
 ghost use Rattle.std.specs.Float.{nan};
-ghost use Rattle.params.specs.Limits.{keypointWords};
-ghost use Rattle.orient_words.specs.Oriented.{orientedWords};
-ghost use Rattle.words.specs.Keypoint.{words_in, broken, keypointIn};
-ghost use Rattle.words.specs.Inputs.{inputWords, wordsOut, inputsNumber, inputsLeft};
-ghost use Rattle.words.specs.Oriented.{sixIn, unoriented, orientedIn};
+ghost use Rattle.params.specs.Limits.{keypoint_words};
+ghost use Rattle.orient_words.specs.Oriented.{oriented_words};
+ghost use Rattle.words.specs.Keypoint.{words_in, broken, keypoint_in};
+ghost use Rattle.words.specs.Inputs.{input_words, words_out, inputs_number, inputs_left};
+ghost use Rattle.words.specs.Oriented.{six_in, unoriented, oriented_in};
 
 use descriptor_inputs::Inputs;
 use detect_keypoint::RawKeypoint;
@@ -44,7 +44,7 @@ fn broken_keypoint() -> RawKeypoint
 
 // The keypoint of ten words.
 fn whole_keypoint(k: &[u32]) -> RawKeypoint
-    requires { length k.now ≡ keypointWords }
+    requires { length k.now ≡ keypoint_words }
     ensures { result ≡ words_in k.now }
 {
     RawKeypoint {
@@ -63,7 +63,7 @@ fn whole_keypoint(k: &[u32]) -> RawKeypoint
 
 // The keypoint of words, whole or not.
 pub fn keypoint_in(k: &[u32]) -> RawKeypoint
-    ensures { result ≡ keypointIn k.now }
+    ensures { result ≡ keypoint_in k.now }
 {
     if k.len() == KEYPOINT_WORDS {
         whole_keypoint(k)
@@ -89,8 +89,8 @@ fn unoriented_keypoint() -> OrientedKeypoint
 
 // The oriented keypoint of six words.
 fn whole_oriented(o: &[u32]) -> OrientedKeypoint
-    requires { length o.now ≡ orientedWords }
-    ensures { result ≡ sixIn o.now }
+    requires { length o.now ≡ oriented_words }
+    ensures { result ≡ six_in o.now }
 {
     OrientedKeypoint {
         x: ieee::of_bits(o[0]),
@@ -104,7 +104,7 @@ fn whole_oriented(o: &[u32]) -> OrientedKeypoint
 
 // The oriented keypoint of words, whole or not.
 pub fn oriented_in(o: &[u32]) -> OrientedKeypoint
-    ensures { result ≡ orientedIn o.now }
+    ensures { result ≡ oriented_in o.now }
 {
     if o.len() == ORIENTED_WORDS {
         whole_oriented(o)
@@ -117,8 +117,8 @@ pub fn oriented_in(o: &[u32]) -> OrientedKeypoint
 const INPUT_WORDS: usize = 4;
 
 fn put_inputs(i: Inputs, out: &mut [u32])
-    requires { length out.old ≡ inputWords }
-    ensures { out.new ≡ wordsOut i }
+    requires { length out.old ≡ input_words }
+    ensures { out.new ≡ words_out i }
 {
     out[0] = ieee::bits_of(i.x);
     out[1] = ieee::bits_of(i.y);
@@ -128,7 +128,7 @@ fn put_inputs(i: Inputs, out: &mut [u32])
 
 // The inputs as words: their number, then 7 where not so many words are lent.
 pub fn give_inputs(i: Inputs, out: &mut [u32]) -> u32
-    ensures { (result ≡ inputsNumber i (length out.old)) × (out.new ≡ inputsLeft i out.old) }
+    ensures { (result ≡ inputs_number i (length out.old)) × (out.new ≡ inputs_left i out.old) }
 {
     if i.number != 0 {
         return i.number;

@@ -3,10 +3,10 @@ use mathlib.Core.Bool.{true}
 use borrow.Author.Rules.{rules}
 use borrow.Author.Tests.{not-true, not-false}
 use lib.ListN.{length}
-use Rattle.params.specs.Table.{allGood}
+use Rattle.params.specs.Table.{all_good}
 use Rattle.audit_rule.specs.Fine.{Fine}
 use Rattle.audit_rule.proofs.Form.{fine}
-use Rattle.audit_rule.proofs.Checks.{form-refused, form-passed, stack-refused}
+use Rattle.audit_rule.proofs.Checks.{form_refused, form_passed, stack_refused}
 use Rattle.audit.proofs.check_sheet.Statement.{statement}
 use Rattle.audit.proofs.check_sheet.Tie as tie
 
@@ -16,7 +16,7 @@ form-fault-requires c κs = search rules
 returns : tie.Need-returns
 returns c =
     let a = c.before.before.before.before.before.args in
-    form-refused a.dog.now a.gauss.now a.t a.octave a.s a.base a.sheet.now c.before.form-fault.result c.before.form-fault.ensures c.if1.true
+    form_refused a.dog.now a.gauss.now a.t a.octave a.s a.base a.sheet.now c.before.form-fault.result c.before.form-fault.ensures c.if1.true
 
 all-good-requires : tie.Need-all-good-requires
 all-good-requires c κs = search rules
@@ -24,7 +24,7 @@ all-good-requires c κs = search rules
 returns-2 : tie.Need-returns-2
 returns-2 c =
     let a = c.before.before.before.before.before.before.before.args in
-    stack-refused a.dog.now a.gauss.now a.t a.octave a.s a.base a.sheet.now c.before.before.before.form-fault.result c.before.before.before.form-fault.ensures c.before.before.if1.false (sym c.before.all-good.ensures ∙ not-true _ c.if2.true)
+    stack_refused a.dog.now a.gauss.now a.t a.octave a.s a.base a.sheet.now c.before.before.before.form-fault.result c.before.before.before.form-fault.ensures c.before.before.if1.false (sym c.before.all-good.ensures ∙ not-true _ c.if2.true)
 
 sheet-sound-requires : tie.Need-sheet-sound-requires
 sheet-sound-requires c κs = search rules
@@ -33,7 +33,7 @@ sheet-sound-requires c κs = search rules
 formed : (c : tie.Else2) → let a = c.before.before.before.before.before.before.before.args in Fine (length a.dog.now) (length a.gauss.now) a.t a.octave a.s a.base
 formed c = fine _ _ _ _ _ _ (sym c.before.before.before.form-fault.ensures ∙ c.before.before.if1.false)
 
-good : (c : tie.Else2) → allGood c.before.before.before.before.before.before.before.args.dog.now ≡ true
+good : (c : tie.Else2) → all_good c.before.before.before.before.before.before.before.args.dog.now ≡ true
 good c = sym c.before.all-good.ensures ∙ not-false _ c.if2.false
 
 of-sheet-requires : tie.Need-of-sheet-requires
@@ -45,12 +45,12 @@ of-no-sheet-requires c κs = (formed c.before.before, (good c.before.before, sym
 returns-3 : tie.Need-returns-3
 returns-3 c =
     let a = c.before.before.before.before.before.before.before.before.before.before.args in
-    c.of-sheet.ensures ∙ form-passed a.dog.now a.gauss.now a.t a.octave a.s a.base a.sheet.now c.before.before.before.before.before.before.form-fault.result c.before.before.before.before.before.before.form-fault.ensures c.before.before.before.before.before.if1.false
+    c.of-sheet.ensures ∙ form_passed a.dog.now a.gauss.now a.t a.octave a.s a.base a.sheet.now c.before.before.before.before.before.before.form-fault.result c.before.before.before.before.before.before.form-fault.ensures c.before.before.before.before.before.if1.false
 
 returns-4 : tie.Need-returns-4
 returns-4 c =
     let a = c.before.before.before.before.before.before.before.before.before.before.args in
-    c.of-no-sheet.ensures ∙ form-passed a.dog.now a.gauss.now a.t a.octave a.s a.base a.sheet.now c.before.before.before.before.before.before.form-fault.result c.before.before.before.before.before.before.form-fault.ensures c.before.before.before.before.before.if1.false
+    c.of-no-sheet.ensures ∙ form_passed a.dog.now a.gauss.now a.t a.octave a.s a.base a.sheet.now c.before.before.before.before.before.before.form-fault.result c.before.before.before.before.before.before.form-fault.ensures c.before.before.before.before.before.if1.false
 
 pub check-sheet-spec : {M : Type 1} → statement M
 check-sheet-spec =

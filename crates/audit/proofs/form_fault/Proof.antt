@@ -2,8 +2,8 @@ use native.Mathlib.Omega.{arith}
 use mathlib.Core.Path.{◌≡◌, sym, ◌∙◌}
 use mathlib.Core.Bool.{false}
 use borrow.Author.Rules.{rules}
-use Rattle.params.specs.Table.{layersWrong}
-use Rattle.audit_rule.proofs.Form.{fault-sides, fault-layers, fits, fault-lengths, fault-settings, fault-none}
+use Rattle.params.specs.Table.{layers_wrong}
+use Rattle.audit_rule.proofs.Form.{fault_sides, fault_layers, fits, fault_lengths, fault_settings, fault_none}
 use Rattle.audit.proofs.form_fault.Statement.{statement}
 use Rattle.audit.proofs.form_fault.Tie as tie
 
@@ -22,15 +22,15 @@ settings-wrong-requires c κs = search rules
 returns : tie.Need-returns
 returns c =
     let a = c.before.before.before.args in
-    fault-sides a.dogs a.gausses a.t a.octave a.s a.base c.before.before.shape-wrong.result c.before.shape-wrong2.result c.before.before.shape-wrong.ensures c.before.shape-wrong2.ensures c.if1.true
+    fault_sides a.dogs a.gausses a.t a.octave a.s a.base c.before.before.shape-wrong.result c.before.shape-wrong2.result c.before.before.shape-wrong.ensures c.before.shape-wrong2.ensures c.if1.true
 
 returns-2 : tie.Need-returns-2
 returns-2 c =
     let a = c.before.before.before.before.before.args in
-    fault-layers a.dogs a.gausses a.t a.octave a.s a.base c.before.before.before.before.shape-wrong.result c.before.before.before.shape-wrong2.result c.before.before.before.before.shape-wrong.ensures c.before.before.before.shape-wrong2.ensures c.before.before.if1.false (sym c.before.layers-wrong.ensures ∙ c.if2.true)
+    fault_layers a.dogs a.gausses a.t a.octave a.s a.base c.before.before.before.before.shape-wrong.result c.before.before.before.shape-wrong2.result c.before.before.before.before.shape-wrong.ensures c.before.before.before.shape-wrong2.ensures c.before.before.if1.false (sym c.before.layers-wrong.ensures ∙ c.if2.true)
 
 -- the layers are right
-layers : (c : tie.Else2) → let a = c.before.before.before.before.before.args in layersWrong a.t.planes 1 a.s.layers ≡ false
+layers : (c : tie.Else2) → let a = c.before.before.before.before.before.args in layers_wrong a.t.planes 1 a.s.layers ≡ false
 layers c = sym c.before.layers-wrong.ensures ∙ c.if2.false
 
 mul-if3 : tie.Need-overflow-mul-if3
@@ -61,17 +61,17 @@ mul-if3-4 c =
 returns-3 : tie.Need-returns-3
 returns-3 c =
     let a = c.before.before.before.before.before.before.before.before.before.before.args in
-    fault-lengths a.dogs a.gausses a.t a.octave a.s a.base c.before.before.before.before.before.before.before.before.before.shape-wrong.result c.before.before.before.before.before.before.before.before.shape-wrong2.result c.before.before.before.before.before.before.before.before.before.shape-wrong.ensures c.before.before.before.before.before.before.before.before.shape-wrong2.ensures c.before.before.before.before.before.before.before.if1.false (layers c.before.before.before.before.before) c.if3.true
+    fault_lengths a.dogs a.gausses a.t a.octave a.s a.base c.before.before.before.before.before.before.before.before.before.shape-wrong.result c.before.before.before.before.before.before.before.before.shape-wrong2.result c.before.before.before.before.before.before.before.before.before.shape-wrong.ensures c.before.before.before.before.before.before.before.before.shape-wrong2.ensures c.before.before.before.before.before.before.before.if1.false (layers c.before.before.before.before.before) c.if3.true
 
 returns-4 : tie.Need-returns-4
 returns-4 c =
     let a = c.before.before.before.before.before.before.before.before.before.before.before.before.args in
-    fault-settings a.dogs a.gausses a.t a.octave a.s a.base c.before.before.before.before.before.before.before.before.before.before.before.shape-wrong.result c.before.before.before.before.before.before.before.before.before.before.shape-wrong2.result c.before.before.before.before.before.before.before.before.before.before.before.shape-wrong.ensures c.before.before.before.before.before.before.before.before.before.before.shape-wrong2.ensures c.before.before.before.before.before.before.before.before.before.if1.false (layers c.before.before.before.before.before.before.before) c.before.before.if3.false (sym c.before.settings-wrong.ensures ∙ c.if4.true)
+    fault_settings a.dogs a.gausses a.t a.octave a.s a.base c.before.before.before.before.before.before.before.before.before.before.before.shape-wrong.result c.before.before.before.before.before.before.before.before.before.before.shape-wrong2.result c.before.before.before.before.before.before.before.before.before.before.before.shape-wrong.ensures c.before.before.before.before.before.before.before.before.before.before.shape-wrong2.ensures c.before.before.before.before.before.before.before.before.before.if1.false (layers c.before.before.before.before.before.before.before) c.before.before.if3.false (sym c.before.settings-wrong.ensures ∙ c.if4.true)
 
 returns-5 : tie.Need-returns-5
 returns-5 c =
     let a = c.before.before.before.before.before.before.before.before.before.before.before.before.args in
-    fault-none a.dogs a.gausses a.t a.octave a.s a.base c.before.before.before.before.before.before.before.before.before.before.before.shape-wrong.result c.before.before.before.before.before.before.before.before.before.before.shape-wrong2.result c.before.before.before.before.before.before.before.before.before.before.before.shape-wrong.ensures c.before.before.before.before.before.before.before.before.before.before.shape-wrong2.ensures c.before.before.before.before.before.before.before.before.before.if1.false (layers c.before.before.before.before.before.before.before) c.before.before.if3.false (sym c.before.settings-wrong.ensures ∙ c.if4.false)
+    fault_none a.dogs a.gausses a.t a.octave a.s a.base c.before.before.before.before.before.before.before.before.before.before.before.shape-wrong.result c.before.before.before.before.before.before.before.before.before.before.shape-wrong2.result c.before.before.before.before.before.before.before.before.before.before.before.shape-wrong.ensures c.before.before.before.before.before.before.before.before.before.before.shape-wrong2.ensures c.before.before.before.before.before.before.before.before.before.if1.false (layers c.before.before.before.before.before.before.before) c.before.before.if3.false (sym c.before.settings-wrong.ensures ∙ c.if4.false)
 
 pub form-fault-spec : {M : Type 1} → statement M
 form-fault-spec =

@@ -2,8 +2,8 @@ use mathlib.Core.Path.{◌≡◌, refl, sym, ◌∙◌}
 use native.Mathlib.Omega.{arith}
 use borrow.Author.Rules.{rules}
 use borrow.Author.Tests.{not-true, not-false}
-use Rattle.audit_rule.proofs.Form.{stated-in, pictured}
-use Rattle.audit_rule.proofs.Sheets.{long, header-right, records-in, says-6, says-5, says-header, says-told}
+use Rattle.audit_rule.proofs.Form.{stated_in_lem, pictured}
+use Rattle.audit_rule.proofs.Sheets.{long, header_right, records_in_lem, says_6, says_5, says_header, says_told}
 use Rattle.audit.proofs.of_sheet.Statement.{statement}
 use Rattle.audit.proofs.of_sheet.Tie as tie
 
@@ -26,32 +26,32 @@ walk-requires : tie.Need-walk-requires
 walk-requires c κs =
     let s = c.before.before.before.before.before.before in
     let f = s.requires.0 in
-    (f.searchable, (stated-in _ _ _ _ _ _ f c.before.before.edition-in.result c.before.header-in.result.count _ c.before.before.edition-in.ensures.1 (records-in s.args.sheet.now s.requires.1.1 c.before.before.edition-in.result c.before.before.edition-in.ensures.0 c.before.header-in.result c.before.header-in.ensures.0), pictured _ _ _ _ _ _ f c.before.before.edition-in.result c.before.header-in.result.count))
+    (f.searchable, (stated_in_lem _ _ _ _ _ _ f c.before.before.edition-in.result c.before.header-in.result.count _ c.before.before.edition-in.ensures.1 (records_in_lem s.args.sheet.now s.requires.1.1 c.before.before.edition-in.result c.before.before.edition-in.ensures.0 c.before.header-in.result c.before.header-in.ensures.0), pictured _ _ _ _ _ _ f c.before.before.edition-in.result c.before.header-in.result.count))
 
 returns : tie.Need-returns
 returns c =
     let s = c.before.before.before.before.before.before.before.before.before in
-    says-6 s.args.sheet.now s.requires.1.1 c.before.before.before.before.before.edition-in.result c.before.before.before.before.before.edition-in.ensures.0 c.before.before.before.before.header-in.result c.before.before.before.before.header-in.ensures.0 s.args.dog.now s.args.gauss.now s.args.t s.args.octave s.args.s s.args.base s.requires.0 s.requires.1.0 c.before.before.walk.result c.before.before.walk.ensures (not-true _ c.if1.true)
+    says_6 s.args.sheet.now s.requires.1.1 c.before.before.before.before.before.edition-in.result c.before.before.before.before.before.edition-in.ensures.0 c.before.before.before.before.header-in.result c.before.before.before.before.header-in.ensures.0 s.args.dog.now s.args.gauss.now s.args.t s.args.octave s.args.s s.args.base s.requires.0 s.requires.1.0 c.before.before.walk.result c.before.before.walk.ensures (not-true _ c.if1.true)
 
 octaves-right-requires : tie.Need-octaves-right-requires
 octaves-right-requires c κs =
     let s = c.before.before.before.before.before.before.before.before.before in
-    (c.before.before.before.before.before.edition-in.ensures.1, records-in s.args.sheet.now s.requires.1.1 c.before.before.before.before.before.edition-in.result c.before.before.before.before.before.edition-in.ensures.0 c.before.before.before.before.header-in.result c.before.before.before.before.header-in.ensures.0)
+    (c.before.before.before.before.before.edition-in.ensures.1, records_in_lem s.args.sheet.now s.requires.1.1 c.before.before.before.before.before.edition-in.result c.before.before.before.before.before.edition-in.ensures.0 c.before.before.before.before.header-in.result c.before.before.before.before.header-in.ensures.0)
 
 returns-2 : tie.Need-returns-2
 returns-2 c =
     let s = c.before.before.before.before.before.before.before.before.before.before.before in
-    says-5 s.args.sheet.now s.requires.1.1 c.before.before.before.before.before.before.before.edition-in.result c.before.before.before.before.before.before.before.edition-in.ensures.0 c.before.before.before.before.before.before.header-in.result c.before.before.before.before.before.before.header-in.ensures.0 s.args.dog.now s.args.gauss.now s.args.t s.args.octave s.args.s s.args.base s.requires.0 s.requires.1.0 c.before.before.before.before.walk.result c.before.before.before.before.walk.ensures (not-false _ c.before.before.if1.false) (sym c.before.octaves-right.ensures ∙ not-true _ c.if2.true)
+    says_5 s.args.sheet.now s.requires.1.1 c.before.before.before.before.before.before.before.edition-in.result c.before.before.before.before.before.before.before.edition-in.ensures.0 c.before.before.before.before.before.before.header-in.result c.before.before.before.before.before.before.header-in.ensures.0 s.args.dog.now s.args.gauss.now s.args.t s.args.octave s.args.s s.args.base s.requires.0 s.requires.1.0 c.before.before.before.before.walk.result c.before.before.before.before.walk.ensures (not-false _ c.before.before.if1.false) (sym c.before.octaves-right.ensures ∙ not-true _ c.if2.true)
 
 header-difference-requires : tie.Need-header-difference-requires
 header-difference-requires c κs =
     let s = c.before.before.before.before.before.before.before.before.before.before.before in
-    (c.before.before.before.before.before.before.before.edition-in.ensures.1, (header-right s.args.sheet.now s.requires.1.1 c.before.before.before.before.before.before.before.edition-in.result c.before.before.before.before.before.before.before.edition-in.ensures.0 c.before.before.before.before.before.before.header-in.result c.before.before.before.before.before.before.header-in.ensures.0, (s.requires.0.across.0, s.requires.0.down.0)))
+    (c.before.before.before.before.before.before.before.edition-in.ensures.1, (header_right s.args.sheet.now s.requires.1.1 c.before.before.before.before.before.before.before.edition-in.result c.before.before.before.before.before.before.before.edition-in.ensures.0 c.before.before.before.before.before.before.header-in.result c.before.before.before.before.before.before.header-in.ensures.0, (s.requires.0.across.0, s.requires.0.down.0)))
 
 returns-3 : tie.Need-returns-3
 returns-3 c =
     let s = c.before.before.before.before.before.before.before.before.before.before.before.before.before in
-    says-header s.args.sheet.now s.requires.1.1 c.before.before.before.before.before.before.before.before.before.edition-in.result c.before.before.before.before.before.before.before.before.before.edition-in.ensures.0 c.before.before.before.before.before.before.before.before.header-in.result c.before.before.before.before.before.before.before.before.header-in.ensures.0 s.args.dog.now s.args.gauss.now s.args.t s.args.octave s.args.s s.args.base s.requires.0 s.requires.1.0 c.before.before.before.before.before.before.walk.result c.before.before.before.before.before.before.walk.ensures (not-false _ c.before.before.before.before.if1.false) (sym c.before.before.before.octaves-right.ensures ∙ not-false _ c.before.before.if2.false) c.before.header-difference.result c.before.header-difference.ensures c.if3.true
+    says_header s.args.sheet.now s.requires.1.1 c.before.before.before.before.before.before.before.before.before.edition-in.result c.before.before.before.before.before.before.before.before.before.edition-in.ensures.0 c.before.before.before.before.before.before.before.before.header-in.result c.before.before.before.before.before.before.before.before.header-in.ensures.0 s.args.dog.now s.args.gauss.now s.args.t s.args.octave s.args.s s.args.base s.requires.0 s.requires.1.0 c.before.before.before.before.before.before.walk.result c.before.before.before.before.before.before.walk.ensures (not-false _ c.before.before.before.before.if1.false) (sym c.before.before.before.octaves-right.ensures ∙ not-false _ c.before.before.if2.false) c.before.header-difference.result c.before.header-difference.ensures c.if3.true
 
 told-requires : tie.Need-told-requires
 told-requires c κs = search rules
@@ -60,7 +60,7 @@ returns-4 : tie.Need-returns-4
 returns-4 c =
     let s = c.before.before.before.before.before.before.before.before.before.before.before.before.before.before in
     c.told.ensures
-    ∙ says-told s.args.sheet.now s.requires.1.1 c.before.before.before.before.before.before.before.before.before.before.edition-in.result c.before.before.before.before.before.before.before.before.before.before.edition-in.ensures.0 c.before.before.before.before.before.before.before.before.before.header-in.result c.before.before.before.before.before.before.before.before.before.header-in.ensures.0 s.args.dog.now s.args.gauss.now s.args.t s.args.octave s.args.s s.args.base s.requires.0 s.requires.1.0 c.before.before.before.before.before.before.before.walk.result c.before.before.before.before.before.before.before.walk.ensures (not-false _ c.before.before.before.before.before.if1.false) (sym c.before.before.before.before.octaves-right.ensures ∙ not-false _ c.before.before.before.if2.false) c.before.before.header-difference.result c.before.before.header-difference.ensures c.before.if3.false
+    ∙ says_told s.args.sheet.now s.requires.1.1 c.before.before.before.before.before.before.before.before.before.before.edition-in.result c.before.before.before.before.before.before.before.before.before.before.edition-in.ensures.0 c.before.before.before.before.before.before.before.before.before.header-in.result c.before.before.before.before.before.before.before.before.before.header-in.ensures.0 s.args.dog.now s.args.gauss.now s.args.t s.args.octave s.args.s s.args.base s.requires.0 s.requires.1.0 c.before.before.before.before.before.before.before.walk.result c.before.before.before.before.before.before.before.walk.ensures (not-false _ c.before.before.before.before.before.if1.false) (sym c.before.before.before.before.octaves-right.ensures ∙ not-false _ c.before.before.before.if2.false) c.before.before.header-difference.result c.before.before.header-difference.ensures c.before.if3.false
 
 pub of-sheet-spec : {M : Type 1} → statement M
 of-sheet-spec =

@@ -3,11 +3,11 @@ use Prim.Native.Nat.{◌+◌, ◌*◌, ◌≤◌}
 use native.Mathlib.Omega.{arith}
 use borrow.Author.Rules.{rules}
 use lib.ListN.{length, replicate, length-take, length-drop}
-use Rattle.sheet.specs.Words.{readWords}
-use Rattle.sheet_edition.specs.Edition.{layoutFor}
-use Rattle.sheet_edition.proofs.Layouts.{bytes-are}
-use Rattle.sheet_fields.specs.Fields.{bytesWords}
-use Rattle.audit_compare.proofs.Stated.{words-length, record-inside, record-at, pasted-all}
+use Rattle.sheet.specs.Words.{read_words}
+use Rattle.sheet_edition.specs.Edition.{layout_for}
+use Rattle.sheet_edition.proofs.Layouts.{bytes_are}
+use Rattle.sheet_fields.specs.Fields.{bytes_words}
+use Rattle.audit_compare.proofs.Stated.{words_length, record_inside, record_at, pasted_all}
 use Rattle.audit_compare.proofs.words_at.Statement.{statement}
 use Rattle.audit_compare.proofs.words_at.Tie as tie
 
@@ -16,7 +16,7 @@ inside : (c : tie.After-shared-slice-known) →
     s.args.e.bytes * s.args.i + s.args.e.bytes ≤ length s.args.body.now
 inside c =
     let s = c.before in
-    record-inside s.args.e s.requires.0 s.args.n s.args.i (length s.args.body.now) s.requires.1.0 s.requires.1.1
+    record_inside s.args.e s.requires.0 s.args.n s.args.i (length s.args.body.now) s.requires.1.0 s.requires.1.1
 
 mul-from : tie.Need-overflow-mul-from
 mul-from c = omega (arith, inside c.before)
@@ -39,15 +39,15 @@ slice-aggregate-take-record c = search rules
 take-record-requires : tie.Need-take-record-requires
 take-record-requires c κs =
     let s = c.before.before.before.before.before in
-    (s.requires.0, (rw (length-take, length-drop) (omega (arith, inside c.before.before.before.before, bytes-are s.args.e s.requires.0)), omega arith))
+    (s.requires.0, (rw (length-take, length-drop) (omega (arith, inside c.before.before.before.before, bytes_are s.args.e s.requires.0)), omega arith))
 
 returns : tie.Need-returns
 returns c =
     let s = c.before.before.before.before.before.before.before in
-    let l = layoutFor s.args.e in
+    let l = layout_for s.args.e in
     c.before.take-record.ensures
-    ∙ pasted-all (bytesWords l _) (replicate readWords 0) (words-length l _)
-    ∙ ap (bytesWords l) (record-at s.args.e s.requires.0 s.args.body.now s.args.i)
+    ∙ pasted_all (bytes_words l _) (replicate read_words 0) (words_length l _)
+    ∙ ap (bytes_words l) (record_at s.args.e s.requires.0 s.args.body.now s.args.i)
 
 pub words-at-spec : {M : Type 1} → statement M
 words-at-spec =

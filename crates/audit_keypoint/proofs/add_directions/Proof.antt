@@ -4,12 +4,12 @@ use Prim.Native.Nat.{◌-◌, ◌≤◌}
 use native.Mathlib.Omega.{arith}
 use borrow.Author.Rules.{rules}
 use Rattle.audit_keypoint.specs.Steps.{given_of}
-use Rattle.audit_keypoint.proofs.Directions.{stepsTo, steps-none, steps_next}
+use Rattle.audit_keypoint.proofs.Directions.{steps_to, steps_none, steps_next}
 use Rattle.audit_keypoint.proofs.add_directions.Statement.{statement}
 use Rattle.audit_keypoint.proofs.add_directions.Tie as tie
 
 abbrev invariant-loop : tie.invariant-loop
-invariant-loop img body k keypoint oriented n now₀ j₀ now j = (j ≤ n) × (now ≡ stepsTo (given_of body k) img keypoint oriented now₀ j)
+invariant-loop img body k keypoint oriented n now₀ j₀ now j = (j ≤ n) × (now ≡ steps_to (given_of body k) img keypoint oriented now₀ j)
 
 abbrev decreases-loop : tie.decreases-loop
 decreases-loop img body k keypoint oriented n now₀ j₀ now j = n - j
@@ -17,7 +17,7 @@ decreases-loop img body k keypoint oriented n now₀ j₀ now j = n - j
 loop-holds : tie.Need-loop-init invariant-loop decreases-loop
 loop-holds c =
     let a = c.before.before.before.before.args in
-    (search rules, steps-none (given_of a.body.now a.k) a.img.now a.keypoint.now a.oriented.now a.st)
+    (search rules, steps_none (given_of a.body.now a.k) a.img.now a.keypoint.now a.oriented.now a.st)
 
 mul-from : tie.Need-overflow-mul-from invariant-loop decreases-loop
 mul-from c = omega arith
@@ -55,7 +55,7 @@ returns : tie.Need-returns invariant-loop decreases-loop
 returns c =
     let a = c.before.before.before.before.before.before.args in
     let e : c.before.loop.j ≡ a.n = omega arith in
-    c.before.loop.invariant.1 ∙ ap (stepsTo (given_of a.body.now a.k) a.img.now a.keypoint.now a.oriented.now a.st) e
+    c.before.loop.invariant.1 ∙ ap (steps_to (given_of a.body.now a.k) a.img.now a.keypoint.now a.oriented.now a.st) e
 
 pub add-directions-spec : {M : Type 1} → statement M
 add-directions-spec =

@@ -2,9 +2,9 @@
 use Prim.Native.Nat.{◌+◌, ◌*◌, ◌≤◌}
 use native.Mathlib.Omega.{arith}
 use lib.ListN.{length}
-use Rattle.audit_keypoint.specs.Pictures.{planeSize}
+use Rattle.audit_keypoint.specs.Pictures.{plane_size}
 use Rattle.audit_keypoint.specs.Steps.{given_of}
-use Rattle.audit_keypoint.proofs.Keypoint.{plane-inside, keypoint-over, keypoint-above, keypoint-turned}
+use Rattle.audit_keypoint.proofs.Keypoint.{plane_inside, keypoint_over, keypoint_above, keypoint_turned}
 use borrow.Author.Rules.{rules}
 use Rattle.audit_keypoint.proofs.add_keypoint.Statement.{statement}
 use Rattle.audit_keypoint.proofs.add_keypoint.Tie as tie
@@ -12,7 +12,7 @@ use Rattle.audit_keypoint.proofs.add_keypoint.Tie as tie
 returns : tie.Need-returns
 returns c =
     let a = c.before.before.before.before.before.args in
-    keypoint-over a.gauss.now (given_of a.body.now a.k) a.st a.keypoint.now c.if1.true
+    keypoint_over a.gauss.now (given_of a.body.now a.k) a.st a.keypoint.now c.if1.true
 
 keypoint-in-requires : tie.Need-keypoint-in-requires
 keypoint-in-requires c κs = search rules
@@ -26,15 +26,15 @@ stopped-requires c κs = search rules
 returns-2 : tie.Need-returns-2
 returns-2 c =
     let a = c.before.before.before.before.before.before.before.before.before.before.before.args in
-    keypoint-above a.gauss.now (given_of a.body.now a.k) a.st a.keypoint.now c.before.before.before.before.before.before.if1.false _ c.before.before.before.before.before.keypoint-in.ensures c.before.if2.true _ c.stopped.ensures
+    keypoint_above a.gauss.now (given_of a.body.now a.k) a.st a.keypoint.now c.before.before.before.before.before.before.if1.false _ c.before.before.before.before.before.keypoint-in.ensures c.before.if2.true _ c.stopped.ensures
 
 inside : (c : tie.After-struct-known4) →
     let a = c.before.before.before.before.before.before.before.before.before.before.before.args in
     let layer = c.before.before.before.before.before.keypoint-in.result.layer in
-    layer * planeSize a.k.shape + planeSize a.k.shape ≤ length a.gauss.now
+    layer * plane_size a.k.shape + plane_size a.k.shape ≤ length a.gauss.now
 inside c =
     let a = c.before.before.before.before.before.before.before.before.before.before.before.args in
-    plane-inside c.before.before.before.before.before.keypoint-in.result.layer a.k.shape.planes (planeSize a.k.shape) (length a.gauss.now) c.before.if2.false c.before.before.before.before.before.before.before.before.before.before.before.requires.1.whole
+    plane_inside c.before.before.before.before.before.keypoint-in.result.layer a.k.shape.planes (plane_size a.k.shape) (length a.gauss.now) c.before.if2.false c.before.before.before.before.before.before.before.before.before.before.before.requires.1.whole
 
 mul-size : tie.Need-overflow-mul-size
 mul-size c = search rules
@@ -63,7 +63,7 @@ add-turned-requires c κs = search rules
 returns-3 : tie.Need-returns-3
 returns-3 c =
     let a = c.before.before.before.before.before.before.before.before.before.before.before.before.before.args in
-    keypoint-turned a.gauss.now (given_of a.body.now a.k) a.st a.keypoint.now c.before.before.before.before.before.before.before.before.if1.false _ c.before.before.before.before.before.before.before.keypoint-in.ensures c.before.before.before.if2.false _ c.add_turned.ensures
+    keypoint_turned a.gauss.now (given_of a.body.now a.k) a.st a.keypoint.now c.before.before.before.before.before.before.before.before.if1.false _ c.before.before.before.before.before.before.before.keypoint-in.ensures c.before.before.before.if2.false _ c.add_turned.ensures
 
 pub add-keypoint-spec : {M : Type 1} → statement M
 add-keypoint-spec =

@@ -3,7 +3,7 @@ use mathlib.Core.Path.{refl}
 use native.Mathlib.Omega.{arith}
 use lib.ListN.{replicate}
 use Rattle.audit_keypoint.specs.Steps.{given_of}
-use Rattle.audit_keypoint.proofs.Turned.{turn-refused, turn-room, turn-made}
+use Rattle.audit_keypoint.proofs.Turned.{turn_refused, turn_room, turn_made}
 use borrow.Author.Rules.{rules}
 use Rattle.audit_keypoint.proofs.add_turned.Statement.{statement}
 use Rattle.audit_keypoint.proofs.add_turned.Tie as tie
@@ -26,7 +26,7 @@ stopped-requires c κs = search rules
 returns : tie.Need-returns
 returns c =
     let a = c.before.before.before.before.before.before.before.before.before.before.args in
-    turn-refused (given_of a.body.now a.k) a.img.now a.keypoint.now _ c.before.before.before.before.before.keypoint-in.ensures (replicate 108 0) refl _ c.before.before.before.assign-orientations.ensures.0 c.before.match.keys2 a.st _ c.stopped.ensures
+    turn_refused (given_of a.body.now a.k) a.img.now a.keypoint.now _ c.before.before.before.before.before.keypoint-in.ensures (replicate 108 0) refl _ c.before.before.before.assign-orientations.ensures.0 c.before.match.keys2 a.st _ c.stopped.ensures
 
 slice-aggregate-add-directions : tie.Need-slice-aggregate-add-directions
 slice-aggregate-add-directions c = search rules
@@ -34,13 +34,13 @@ slice-aggregate-add-directions c = search rules
 add-directions-requires : tie.Need-add-directions-requires
 add-directions-requires c κs =
     let a = c.before.before.before.before.before.before.before.before.before.before.before.before.args in
-    let r = turn-room (given_of a.body.now a.k) a.img.now a.keypoint.now _ c.before.before.before.before.before.before.before.keypoint-in.ensures (replicate 108 0) refl _ c.before.before.before.before.before.assign-orientations.ensures.0 _ c.before.before.a.given.1 _ c.before.before.before.before.before.assign-orientations.ensures.1 in
+    let r = turn_room (given_of a.body.now a.k) a.img.now a.keypoint.now _ c.before.before.before.before.before.before.before.keypoint-in.ensures (replicate 108 0) refl _ c.before.before.before.before.before.assign-orientations.ensures.0 _ c.before.before.a.given.1 _ c.before.before.before.before.before.assign-orientations.ensures.1 in
     (c.before.before.before.before.before.before.before.before.before.before.before.before.requires, omega (arith, r))
 
 returns-2 : tie.Need-returns-2
 returns-2 c =
     let a = c.before.before.before.before.before.before.before.before.before.before.before.before.before.args in
-    turn-made (given_of a.body.now a.k) a.img.now a.keypoint.now _ c.before.before.before.before.before.before.before.before.keypoint-in.ensures (replicate 108 0) refl _ c.before.before.before.before.before.before.assign-orientations.ensures.0 _ c.before.before.before.a.given.1 _ c.before.before.before.before.before.before.assign-orientations.ensures.1 a.st _ c.add-directions.ensures
+    turn_made (given_of a.body.now a.k) a.img.now a.keypoint.now _ c.before.before.before.before.before.before.before.before.keypoint-in.ensures (replicate 108 0) refl _ c.before.before.before.before.before.before.assign-orientations.ensures.0 _ c.before.before.before.a.given.1 _ c.before.before.before.before.before.before.assign-orientations.ensures.1 a.st _ c.add-directions.ensures
 
 pub add-turned-spec : {M : Type 1} → statement M
 add-turned-spec =

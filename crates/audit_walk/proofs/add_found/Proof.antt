@@ -3,23 +3,23 @@ use mathlib.Core.Path.{◌≡◌, sym}
 use mathlib.Core.List.{foldl}
 use native.Mathlib.Omega.{arith}
 use borrow.Author.Rules.{rules}
-use Rattle.params.specs.Limits.{keypointWords}
+use Rattle.params.specs.Limits.{keypoint_words}
 use Rattle.sheet.specs.Sheet.{parts}
-use Rattle.audit_keypoint.specs.Steps.{given_of, keypointStep}
-use Rattle.audit_keypoint.proofs.Cut.{fold-none}
-use Rattle.audit_walk.proofs.Parts.{part-next}
+use Rattle.audit_keypoint.specs.Steps.{given_of, keypoint_step}
+use Rattle.audit_keypoint.proofs.Cut.{fold_none}
+use Rattle.audit_walk.proofs.Parts.{part_next}
 use Rattle.audit_walk.proofs.add_found.Statement.{statement}
 use Rattle.audit_walk.proofs.add_found.Tie as tie
 
 abbrev invariant-loop : tie.invariant-loop
 invariant-loop gauss body k found n now₀ i₀ (λ x. x.now) i =
-    (i ≤ n) × ((λ x. x.now) ≡ foldl (keypointStep gauss (given_of body k)) now₀ (parts keypointWords i found))
+    (i ≤ n) × ((λ x. x.now) ≡ foldl (keypoint_step gauss (given_of body k)) now₀ (parts keypoint_words i found))
 
 abbrev decreases-loop : tie.decreases-loop
 decreases-loop gauss body k found n now₀ i₀ now i = n - i
 
 loop-holds : tie.Need-loop-init invariant-loop decreases-loop
-loop-holds c = (omega arith, sym (fold-none _ _ keypointWords _))
+loop-holds c = (omega arith, sym (fold_none _ _ keypoint_words _))
 
 mul-from : tie.Need-overflow-mul-from invariant-loop decreases-loop
 mul-from c = search rules
@@ -54,7 +54,7 @@ loop-again : tie.Need-loop-preserved invariant-loop decreases-loop
 loop-again c =
     let l = c.before.before.before.loop in
     let a = c.before.before.before.before.before.before.before.args in
-    (omega arith, part-next a.found.now l.i (keypointStep a.gauss.now (given_of a.body.now a.k)) a.st l.now _ l.invariant.1 c.add-keypoint.ensures)
+    (omega arith, part_next a.found.now l.i (keypoint_step a.gauss.now (given_of a.body.now a.k)) a.st l.now _ l.invariant.1 c.add-keypoint.ensures)
 
 returns : tie.Need-returns invariant-loop decreases-loop
 returns c =

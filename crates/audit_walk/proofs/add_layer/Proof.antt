@@ -8,17 +8,17 @@ use Rattle.detect_extrema.specs.Scan.{row_of, keypoints}
 use Rattle.detect_rows.proofs.Forms.{rows_of}
 use Rattle.audit_keypoint.specs.Steps.{given_of}
 use Rattle.audit_walk.specs.Walk.{passed}
-use Rattle.audit_walk.proofs.Passed.{passed_none, passed-more}
+use Rattle.audit_walk.proofs.Passed.{passed_none, passed_more}
 use Rattle.audit_walk.proofs.Borders.{bare, inner}
 use Rattle.audit_walk.proofs.add_layer.Statement.{statement}
 use Rattle.audit_walk.proofs.add_layer.Tie as tie
 
 abbrev invariant-loop : tie.invariant-loop
-invariant-loop dog gauss body k s now₀ r₀ r-end (λ x. x.now) r =
-    (border ≤ r) × (r ≤ r-end) × ((λ x. x.now) ≡ passed gauss (given_of body k) now₀ (rows_of dog k.shape s border r))
+invariant-loop dog gauss body k s now₀ r₀ r_end (λ x. x.now) r =
+    (border ≤ r) × (r ≤ r_end) × ((λ x. x.now) ≡ passed gauss (given_of body k) now₀ (rows_of dog k.shape s border r))
 
 abbrev decreases-loop : tie.decreases-loop
-decreases-loop dog gauss body k s now₀ r₀ r-end now r = r-end - r
+decreases-loop dog gauss body k s now₀ r₀ r_end now r = r_end - r
 
 mul-if1 : tie.Need-overflow-mul-if1 invariant-loop decreases-loop
 mul-if1 c = search rules
@@ -59,7 +59,7 @@ loop-again : tie.Need-loop-preserved invariant-loop decreases-loop
 loop-again c =
     let l = c.before.before.loop in
     let a = c.before.before.before.before.before.before.before.before.before.before.before.args in
-    (omega arith, omega arith, passed-more a.gauss.now (given_of a.body.now a.k) a.st border (λ r. row_of tied a.dog.now a.k.shape a.s r) l.r l.now _ l.invariant.0 l.invariant.2 c.add_row.ensures)
+    (omega arith, omega arith, passed_more a.gauss.now (given_of a.body.now a.k) a.st border (λ r. row_of tied a.dog.now a.k.shape a.s r) l.r l.now _ l.invariant.0 l.invariant.2 c.add_row.ensures)
 
 returns-2 : tie.Need-returns-2 invariant-loop decreases-loop
 unfolding keypoints

@@ -4,13 +4,13 @@ use native.Mathlib.Omega.{arith}
 use borrow.Author.Rules.{rules}
 use lib.ListN.{length}
 use lib.Seq.{length-sets}
-use Rattle.params.specs.Limits.{border, keypointWords}
+use Rattle.params.specs.Limits.{border, keypoint_words}
 use Rattle.detect_extrema.specs.Neighbours.{tied}
 use Rattle.detect_extrema.specs.Scan.{found, cells_of, row_of}
 use Rattle.audit_keypoint.specs.Steps.{given_of}
 use Rattle.audit_walk.specs.Walk.{passed}
-use Rattle.audit_walk.proofs.Passed.{passed_none, passed-parts}
-use Rattle.audit_walk.proofs.Blocks.{block-count, block-passed}
+use Rattle.audit_walk.proofs.Passed.{passed_none, passed_parts}
+use Rattle.audit_walk.proofs.Blocks.{block_count, block_passed}
 use Rattle.audit_walk.proofs.add_row.Statement.{statement}
 use Rattle.audit_walk.proofs.add_row.Tie as tie
 
@@ -42,11 +42,11 @@ counted : (c : tie.After-block-words invariant-loop decreases-loop) →
     let a = c.before.before.before.before.before.before.before.before.before.before.args in
     let to = c.before.before.run_end.result in
     let n = length (cells_of tied a.dog.now a.k.shape a.s a.r l.c to) in
-    (c.Block-words.result ≡ keypointWords * n) × (n ≤ to - l.c)
+    (c.Block-words.result ≡ keypoint_words * n) × (n ≤ to - l.c)
 counted c =
     let l = c.before.before.before.before.loop in
     let a = c.before.before.before.before.before.before.before.before.before.before.args in
-    block-count a.dog.now a.k.shape a.s a.r l.c c.before.before.run_end.result _ c.Block-words.ensures.0
+    block_count a.dog.now a.k.shape a.s a.r l.c c.before.before.run_end.result _ c.Block-words.ensures.0
 
 -- their room stays
 still : (c : tie.After-block-words invariant-loop decreases-loop) → length c.Block-words.new.1.1.1.1.1.0 ≡ 640
@@ -71,8 +71,8 @@ loop-again c =
     let a = b.before.before.before.before.before.before.before.before.before.before.args in
     let to = b.before.before.run_end.result in
     let g = given_of a.body.now a.k in
-    let p = block-passed a.dog.now a.k.shape a.s a.r l.c to l.found _ (omega (arith, l.invariant.2)) b.Block-words.ensures.1 a.gauss.now g l.now _ _ (omega (arith, counted b)) c.add-found.ensures in
-    (omega arith, omega arith, still b, passed-parts a.gauss.now g a.st border (λ i. found tied a.dog.now a.k.shape a.s a.r i) l.c l.now _ l.invariant.0 l.invariant.3 to (omega arith) p)
+    let p = block_passed a.dog.now a.k.shape a.s a.r l.c to l.found _ (omega (arith, l.invariant.2)) b.Block-words.ensures.1 a.gauss.now g l.now _ _ (omega (arith, counted b)) c.add-found.ensures in
+    (omega arith, omega arith, still b, passed_parts a.gauss.now g a.st border (λ i. found tied a.dog.now a.k.shape a.s a.r i) l.c l.now _ l.invariant.0 l.invariant.3 to (omega arith) p)
 
 returns : tie.Need-returns invariant-loop decreases-loop
 unfolding row_of

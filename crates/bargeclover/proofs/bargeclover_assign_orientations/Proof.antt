@@ -1,9 +1,9 @@
 use mathlib.Core.Path.{◌∙◌, ap}
 use lib.ListN.{length}
-use Rattle.params.specs.Answers.{number_of, countOf}
+use Rattle.params.specs.Answers.{number_of, count_of}
 use Rattle.detect_keypoint.specs.declared.RawKeypoint.{RawKeypoint}
 use Rattle.orient_words.specs.declared.OrientAnswer.{OrientAnswer}
-use Rattle.orient.specs.Entry.{orientAnswer, orientOut}
+use Rattle.orient.specs.Entry.{orient_answer, orient_out}
 use borrow.Author.Rules.{rules}
 use Rattle.bargeclover.specs.Given.{size_of}
 use Rattle.bargeclover.proofs.bargeclover_assign_orientations.Statement.{statement}
@@ -29,14 +29,14 @@ returns c =
     let a = c.before.before.before.before.before.before.before.before.before.before.args in
     let given = c.before.before.before.before.before.before.keypoint-in.ensures in
     let told = c.before.before.before.before.assign-orientations.ensures in
-    let at : RawKeypoint → OrientAnswer = λ k. orientAnswer a.img.now (size_of a.width a.height) k (length a.out.now) in
+    let at : RawKeypoint → OrientAnswer = λ k. orient_answer a.img.now (size_of a.width a.height) k (length a.out.now) in
     let answer = told.0 ∙ ap at given in (
       c.number_of_lem.ensures ∙ ap (λ (r : OrientAnswer). number_of r.answer) answer,
       (
-        c.before.count_of.ensures ∙ ap (λ (r : OrientAnswer). countOf r.answer) answer,
+        c.before.count_of.ensures ∙ ap (λ (r : OrientAnswer). count_of r.answer) answer,
         (
           ap (λ (r : OrientAnswer). r.samples) answer,
-          told.1 ∙ ap (λ (k : RawKeypoint). orientOut a.img.now (size_of a.width a.height) k a.out.now) given,
+          told.1 ∙ ap (λ (k : RawKeypoint). orient_out a.img.now (size_of a.width a.height) k a.out.now) given,
         ),
       ),
     )

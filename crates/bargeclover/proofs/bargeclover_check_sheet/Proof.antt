@@ -1,5 +1,5 @@
 use mathlib.Core.Path.{◌∙◌, ap}
-use Rattle.audit_verdict.specs.Verdict.{number_of, verdictOf, placeOf, fieldOf}
+use Rattle.audit_verdict.specs.Verdict.{number_of, verdict_of, place_of, field_of}
 use borrow.Author.Rules.{rules}
 use Rattle.bargeclover.proofs.bargeclover_check_sheet.Statement.{statement}
 use Rattle.bargeclover.proofs.bargeclover_check_sheet.Tie as tie
@@ -24,8 +24,8 @@ returns c =
     let told = c.before.before.before.before.check-sheet.ensures in (
       c.number_of_lem.ensures ∙ ap number_of told,
       (
-        c.before.before.before.verdict-of.ensures ∙ ap verdictOf told,
-        (c.before.before.place_of.ensures ∙ ap placeOf told, c.before.field_of.ensures ∙ ap fieldOf told),
+        c.before.before.before.verdict-of.ensures ∙ ap verdict_of told,
+        (c.before.before.place_of.ensures ∙ ap place_of told, c.before.field_of.ensures ∙ ap field_of told),
       ),
     )
 

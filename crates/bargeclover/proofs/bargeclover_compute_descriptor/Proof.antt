@@ -1,5 +1,5 @@
 use mathlib.Core.Path.{◌∙◌, ap}
-use Rattle.descriptor.specs.Entry.{number_of, countOf, usedOf}
+use Rattle.descriptor.specs.Entry.{number_of, count_of, used_of}
 use borrow.Author.Rules.{rules}
 use Rattle.bargeclover.proofs.bargeclover_compute_descriptor.Statement.{statement}
 use Rattle.bargeclover.proofs.bargeclover_compute_descriptor.Tie as tie
@@ -24,8 +24,8 @@ returns c =
     let d = c.before.before.before.before.before.compute-descriptor.ensures in (
       c.number_of_lem.ensures ∙ ap number_of d.0,
       (
-        c.before.before.count_of.ensures ∙ ap countOf d.0,
-        (c.before.used-of.ensures ∙ ap usedOf d.0, d.1),
+        c.before.before.count_of.ensures ∙ ap count_of d.0,
+        (c.before.used-of.ensures ∙ ap used_of d.0, d.1),
       ),
     )
 

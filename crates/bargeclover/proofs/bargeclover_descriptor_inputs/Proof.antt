@@ -2,7 +2,7 @@ use mathlib.Core.Path.{◌∙◌, ap}
 use lib.ListN.{length}
 use borrow.Author.Rules.{rules}
 use Rattle.descriptor_inputs.specs.declared.Inputs.{Inputs}
-use Rattle.words.specs.Inputs.{inputsNumber, inputsLeft}
+use Rattle.words.specs.Inputs.{inputs_number, inputs_left}
 use Rattle.bargeclover.proofs.Inputs.{told}
 use Rattle.bargeclover.proofs.bargeclover_descriptor_inputs.Statement.{statement}
 use Rattle.bargeclover.proofs.bargeclover_descriptor_inputs.Tie as tie
@@ -25,7 +25,7 @@ returns c =
     let d = c.before.before.before.before.descriptor-inputs in
     let g = c.before.before.give-inputs.ensures in
     let e = told d.result _ _ a.args.octave a.ranges.octave c.before.before.before.before.before.oriented-in.ensures d.ensures in
-    (g.0 ∙ ap (λ (i : Inputs). inputsNumber i (length a.args.out.now)) e, g.1 ∙ ap (λ (i : Inputs). inputsLeft i a.args.out.now) e)
+    (g.0 ∙ ap (λ (i : Inputs). inputs_number i (length a.args.out.now)) e, g.1 ∙ ap (λ (i : Inputs). inputs_left i a.args.out.now) e)
 
 pub bargeclover-descriptor-inputs-spec : {M : Type 1} → statement M
 bargeclover-descriptor-inputs-spec =

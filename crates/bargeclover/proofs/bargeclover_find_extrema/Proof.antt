@@ -1,5 +1,5 @@
 use mathlib.Core.Path.{◌∙◌, ap}
-use Rattle.params.specs.Answers.{number_of, countOf}
+use Rattle.params.specs.Answers.{number_of, count_of}
 use borrow.Author.Rules.{rules}
 use Rattle.bargeclover.proofs.bargeclover_find_extrema.Statement.{statement}
 use Rattle.bargeclover.proofs.bargeclover_find_extrema.Tie as tie
@@ -19,7 +19,7 @@ same_length c = search rules
 returns : tie.Need-returns
 returns c =
     let found = c.before.before.before.before.find-extrema.ensures in
-    (c.number_of_lem.ensures ∙ ap number_of found.0, (c.before.count_of.ensures ∙ ap countOf found.0, found.1))
+    (c.number_of_lem.ensures ∙ ap number_of found.0, (c.before.count_of.ensures ∙ ap count_of found.0, found.1))
 
 pub bargeclover-find-extrema-spec : {M : Type 1} → statement M
 bargeclover-find-extrema-spec =

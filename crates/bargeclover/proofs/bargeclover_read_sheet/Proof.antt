@@ -1,5 +1,5 @@
 use mathlib.Core.Path.{◌∙◌, ap}
-use Rattle.params.specs.Answers.{number_of, countOf}
+use Rattle.params.specs.Answers.{number_of, count_of}
 use Rattle.sheet.specs.declared.Read.{Read}
 use borrow.Author.Rules.{rules}
 use Rattle.bargeclover.proofs.bargeclover_read_sheet.Statement.{statement}
@@ -22,7 +22,7 @@ returns c =
     let told = c.before.before.before.before.read-sheet.ensures in (
       c.number_of_lem.ensures ∙ ap (λ (r : Read). number_of r.answer) told.0,
       (
-        c.before.count_of.ensures ∙ ap (λ (r : Read). countOf r.answer) told.0,
+        c.before.count_of.ensures ∙ ap (λ (r : Read). count_of r.answer) told.0,
         (
           ap (λ (r : Read). r.edition) told.0,
           (ap (λ (r : Read). r.width) told.0, (ap (λ (r : Read). r.height) told.0, (ap (λ (r : Read). r.layers) told.0, told.1))),

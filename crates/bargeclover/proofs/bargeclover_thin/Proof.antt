@@ -1,5 +1,5 @@
 use mathlib.Core.Path.{◌∙◌, ap}
-use Rattle.params.specs.Answers.{number_of, countOf}
+use Rattle.params.specs.Answers.{number_of, count_of}
 use borrow.Author.Rules.{rules}
 use Rattle.bargeclover.proofs.bargeclover_thin.Statement.{statement}
 use Rattle.bargeclover.proofs.bargeclover_thin.Tie as tie
@@ -19,7 +19,7 @@ same_length c = search rules
 returns : tie.Need-returns
 returns c =
     let thinned = c.before.before.before.before.thin-frame.ensures in
-    (c.number_of_lem.ensures ∙ ap number_of thinned.0, (c.before.count_of.ensures ∙ ap countOf thinned.0, thinned.1))
+    (c.number_of_lem.ensures ∙ ap number_of thinned.0, (c.before.count_of.ensures ∙ ap count_of thinned.0, thinned.1))
 
 pub bargeclover-thin-spec : {M : Type 1} → statement M
 bargeclover-thin-spec =

@@ -1,6 +1,6 @@
 use mathlib.Core.Path.{◌∙◌, ap}
 use Rattle.ieee.specs.F32.{bits_of}
-use Rattle.detect_threshold.specs.Threshold.{thresholdNumber, thresholdValue}
+use Rattle.detect_threshold.specs.Threshold.{threshold_number, threshold_value}
 use borrow.Author.Rules.{rules}
 use Rattle.bargeclover.proofs.bargeclover_threshold.Statement.{statement}
 use Rattle.bargeclover.proofs.bargeclover_threshold.Tie as tie
@@ -20,8 +20,8 @@ threshold-number-requires c κs = search rules
 returns : tie.Need-returns
 returns c =
     let answer = c.before.before.before.extrema-threshold.ensures in (
-      c.threshold-number.ensures ∙ ap thresholdNumber answer,
-      c.before.bits-of.ensures ∙ ap bits_of (c.before.before.threshold-value.ensures ∙ ap thresholdValue answer),
+      c.threshold-number.ensures ∙ ap threshold_number answer,
+      c.before.bits-of.ensures ∙ ap bits_of (c.before.before.threshold-value.ensures ∙ ap threshold_value answer),
     )
 
 pub bargeclover-threshold-spec : {M : Type 1} → statement M

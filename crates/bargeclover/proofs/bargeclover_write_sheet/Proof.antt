@@ -1,5 +1,5 @@
 use mathlib.Core.Path.{◌∙◌, ap}
-use Rattle.params.specs.Answers.{number_of, countOf}
+use Rattle.params.specs.Answers.{number_of, count_of}
 use borrow.Author.Rules.{rules}
 use Rattle.bargeclover.proofs.bargeclover_write_sheet.Statement.{statement}
 use Rattle.bargeclover.proofs.bargeclover_write_sheet.Tie as tie
@@ -19,7 +19,7 @@ same_length c = search rules
 returns : tie.Need-returns
 returns c =
     let written = c.before.before.before.before.write-sheet.ensures in
-    (c.number_of_lem.ensures ∙ ap number_of written.0, (c.before.count_of.ensures ∙ ap countOf written.0, written.1))
+    (c.number_of_lem.ensures ∙ ap number_of written.0, (c.before.count_of.ensures ∙ ap count_of written.0, written.1))
 
 pub bargeclover-write-sheet-spec : {M : Type 1} → statement M
 bargeclover-write-sheet-spec =

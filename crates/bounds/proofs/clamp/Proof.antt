@@ -1,17 +1,17 @@
-use Rattle.bounds.specs.Bounds.{clampOf}
+use Rattle.bounds.specs.Bounds.{clamp_of}
 use Rattle.bounds.proofs.clamp.Statement.{statement}
 use Rattle.bounds.proofs.clamp.Tie as tie
 
 returns : tie.Need-returns
-unfolding clampOf
+unfolding clamp_of
 returns c = simp c.if1.true
 
 returns-2 : tie.Need-returns-2
-unfolding clampOf
+unfolding clamp_of
 returns-2 c = simp (c.before.if1.false, c.if2.true)
 
 returns-3 : tie.Need-returns-3
-unfolding clampOf
+unfolding clamp_of
 returns-3 c = simp (c.before.if1.false, c.if2.false)
 
 pub clamp_spec : {M : Type 1} → statement M

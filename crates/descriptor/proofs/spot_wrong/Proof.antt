@@ -1,5 +1,5 @@
-use Rattle.descriptor.specs.Place.{spotWrong}
-use Rattle.descriptor.proofs.Cells.{side-told}
+use Rattle.descriptor.specs.Place.{spot_wrong}
+use Rattle.descriptor.proofs.Cells.{side_told}
 use borrow.Author.Rules.{rules}
 use Rattle.descriptor.proofs.spot_wrong.Statement.{statement}
 use Rattle.descriptor.proofs.spot_wrong.Tie as tie
@@ -28,11 +28,11 @@ on-side-requires-2 : tie.Need-on-side-requires-2
 on-side-requires-2 c κs = search rules
 
 returns : tie.Need-returns
-unfolding spotWrong
+unfolding spot_wrong
 returns c =
     let r = c.before.round-to-i322 in
     let q = c.before.before.before.round-to-i32 in
-    rw (side-told _ _ _ _ (record { sfits = r.type-inv }) r.ensures c.on-side2.ensures, side-told _ _ _ _ (record { sfits = q.type-inv }) q.ensures c.before.before.on-side.ensures, c.before.before.before.before.is-finite2.ensures, c.before.before.before.before.before.is_finite.ensures)
+    rw (side_told _ _ _ _ (record { sfits = r.type-inv }) r.ensures c.on-side2.ensures, side_told _ _ _ _ (record { sfits = q.type-inv }) q.ensures c.before.before.on-side.ensures, c.before.before.before.before.is-finite2.ensures, c.before.before.before.before.before.is_finite.ensures)
 
 pub spot-wrong-spec : {M : Type 1} → statement M
 spot-wrong-spec =

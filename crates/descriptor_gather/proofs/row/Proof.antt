@@ -5,13 +5,13 @@ use mathlib.Core.List.{[]}
 use native.Mathlib.Omega.{arith}
 use lib.ListN.{length}
 use Rattle.lists.specs.Ranges.{joined}
-use Rattle.descriptor_patch.specs.Patch.{gridAt, sampleAt}
-use Rattle.descriptor_run.specs.Run.{overRun}
-use Rattle.descriptor_run.proofs.Runs.{joined-done, fewer, further}
-use Rattle.descriptor_run.proofs.Rules.{good-part}
-use Rattle.descriptor_grid.specs.Grid.{gatheredIn}
-use Rattle.descriptor_gather.specs.Gather.{sampleIn}
-use Rattle.descriptor_gather.proofs.Adds.{Holds, holds-none, holds_more, one-most}
+use Rattle.descriptor_patch.specs.Patch.{grid_at, sample_at}
+use Rattle.descriptor_run.specs.Run.{over_run}
+use Rattle.descriptor_run.proofs.Runs.{joined_done, fewer, further}
+use Rattle.descriptor_run.proofs.Rules.{good_part}
+use Rattle.descriptor_grid.specs.Grid.{gathered_in}
+use Rattle.descriptor_gather.specs.Gather.{sample_in}
+use Rattle.descriptor_gather.proofs.Adds.{Holds, holds_none, holds_more, one_most}
 use Rattle.descriptor_gather.proofs.row.Statement.{statement}
 use Rattle.descriptor_gather.proofs.row.Tie as tie
 use Rattle.descriptor_gather.proofs.row.Reads as reads
@@ -19,16 +19,16 @@ use Rattle.descriptor_gather.proofs.row.Lts as lts
 use Rattle.descriptor_gather.proofs.cell.Reads as cell-reads
 
 abbrev invariant-loop : tie.invariant-loop
-invariant-loop img pairs cubics turns hist₀ t r end n₀ c₀ hist n c = (c₀ ≤ c) × ((c ≤ max c₀ end) × ((n ≤ c) × Holds t.angle hist₀ (joined c₀ c (λ k. cond (gridAt t r k) (sampleIn img t r k) [])) hist n))
+invariant-loop img pairs cubics turns hist₀ t r end n₀ c₀ hist n c = (c₀ ≤ c) × ((c ≤ max c₀ end) × ((n ≤ c) × Holds t.angle hist₀ (joined c₀ c (λ k. cond (grid_at t r k) (sample_in img t r k) [])) hist n))
 
 abbrev decreases-loop : tie.decreases-loop
 decreases-loop img pairs cubics turns hist₀ t r end n₀ c₀ hist n c = end - c
 
 loop-holds : tie.Need-loop-init invariant-loop decreases-loop
-loop-holds c = (omega arith, (omega arith, (omega arith, holds-none _ _ _ _)))
+loop-holds c = (omega arith, (omega arith, (omega arith, holds_none _ _ _ _)))
 
 cell-requires : tie.Need-cell-requires invariant-loop decreases-loop
-unfolding overRun
+unfolding over_run
 cell-requires c κs =
     let p = c.before.before.before.before.before.before.requires in
     let i = p.1.1.0 in
@@ -38,7 +38,7 @@ cell-requires c κs =
         p.1.0,
         (
           record { whole = p.1.0.whole; up = i.up; down = i.down; left = omega (arith, i.left); right = omega (arith, i.right) },
-          good-part _ _ l.c _ p.1.1.1 l.invariant.0 c.before.loop-test.true,
+          good_part _ _ l.c _ p.1.1.1 l.invariant.0 c.before.loop-test.true,
         ),
       ),
     )
@@ -47,7 +47,7 @@ small : (c : tie.After-cell invariant-loop decreases-loop) → c.cell.result ≤
 small c =
     let x = c.before.before.before.before.before.before.before.args in
     let k = c.before.before.before.loop.c in
-    rw c.cell.ensures.1 (one-most (gridAt x.l.patch x.l.row k) (sampleAt x.img.now x.l.patch x.l.row k))
+    rw c.cell.ensures.1 (one_most (grid_at x.l.patch x.l.row k) (sample_at x.img.now x.l.patch x.l.row k))
 
 both : {n k c : ℕ} → n ≤ c → k ≤ 1 → n + k ≤ c + 1
 both h l = omega arith
@@ -81,11 +81,11 @@ loop-again c =
     )
 
 returns : tie.Need-returns invariant-loop decreases-loop
-unfolding overRun
+unfolding over_run
 returns c =
     let l = c.before.loop in
-    let k = joined-done _ _ l.c _ l.invariant.1.0 c.loop-test.false in
-    (l.invariant.1.1.1.held ∙ ap (gatheredIn _ _) k, l.invariant.1.1.1.count ∙ ap length k)
+    let k = joined_done _ _ l.c _ l.invariant.1.0 c.loop-test.false in
+    (l.invariant.1.1.1.held ∙ ap (gathered_in _ _) k, l.invariant.1.1.1.count ∙ ap length k)
 
 pub row-spec : {M : Type 1} → statement M
 row-spec =

@@ -4,13 +4,13 @@ use native.Mathlib.Omega.{arith}
 use borrow.Author.Rules.{rules}
 use lib.ListN.{length}
 use Rattle.lists.specs.Ranges.{joined}
-use Rattle.params.specs.Limits.{maxSide}
-use Rattle.descriptor_run.specs.Cells.{samplesOf}
-use Rattle.descriptor_run.specs.Run.{runOf, row_of}
-use Rattle.descriptor_run.proofs.Runs.{joined-done, over-cells, run-within, inner, fewer, further}
-use Rattle.descriptor_grid.specs.Grid.{gatheredIn}
-use Rattle.descriptor_gather.specs.Gather.{sampleIn}
-use Rattle.descriptor_gather.proofs.Adds.{Holds, holds-none, holds_more, run-most, more_rows, below-side, row-good}
+use Rattle.params.specs.Limits.{max_side}
+use Rattle.descriptor_run.specs.Cells.{samples_of}
+use Rattle.descriptor_run.specs.Run.{run_of, row_of}
+use Rattle.descriptor_run.proofs.Runs.{joined_done, over_cells_lem, run_within, inner, fewer, further}
+use Rattle.descriptor_grid.specs.Grid.{gathered_in}
+use Rattle.descriptor_gather.specs.Gather.{sample_in}
+use Rattle.descriptor_gather.proofs.Adds.{Holds, holds_none, holds_more, run_most, more_rows, below_side, row_good_lem}
 use Rattle.descriptor_gather.proofs.rows.Statement.{statement}
 use Rattle.descriptor_gather.proofs.rows.Tie as tie
 use Rattle.descriptor_gather.proofs.rows.Reads as reads
@@ -21,7 +21,7 @@ use Rattle.picture.proofs.past_in.Reads as past-in-reads
 use Rattle.descriptor_run.proofs.run_of.Reads as run-of-reads
 
 abbrev invariant-loop : tie.invariant-loop
-invariant-loop img pairs cubics turns hist₀ t end n₀ r₀ hist n r = (r₀ ≤ r) × ((r ≤ max r₀ end) × ((n ≤ maxSide * r) × Holds t.angle hist₀ (joined r₀ r (row_of t (sampleIn img t))) hist n))
+invariant-loop img pairs cubics turns hist₀ t end n₀ r₀ hist n r = (r₀ ≤ r) × ((r ≤ max r₀ end) × ((n ≤ max_side * r) × Holds t.angle hist₀ (joined r₀ r (row_of t (sample_in img t))) hist n))
 
 abbrev decreases-loop : tie.decreases-loop
 decreases-loop img pairs cubics turns hist₀ t end n₀ r₀ hist n r = end - r
@@ -33,7 +33,7 @@ first-in-requires : tie.Need-first-in-requires invariant-loop decreases-loop
 first-in-requires c κs = search rules
 
 loop-holds : tie.Need-loop-init invariant-loop decreases-loop
-loop-holds c = (omega arith, (omega arith, (omega arith, holds-none _ _ _ _)))
+loop-holds c = (omega arith, (omega arith, (omega arith, holds_none _ _ _ _)))
 
 run-of-requires : tie.Need-run-of-requires invariant-loop decreases-loop
 run-of-requires c κs = search rules
@@ -46,26 +46,26 @@ row-requires c κs =
     let a = rw c.before.before.before.before.first-in.ensures at l.invariant.0 in
     let b = rw c.before.before.before.before.before.past-in.ensures at c.before.before.loop-test.true in
     rw c.before.run_of.ensures
-    (p.0, (p.1.0, (inner x.t l.r p.1.0.lies a b, row-good x.img.now x.t l.r p.1.1 a b)))
+    (p.0, (p.1.0, (inner x.t l.r p.1.0.lies a b, row_good_lem x.img.now x.t l.r p.1.1 a b)))
 
 small : (c : tie.After-row invariant-loop decreases-loop) → c.row.result ≤ c.before.before.before.before.before.before.before.before.args.t.size.width
 small c =
     let x = c.before.before.before.before.before.before.before.before.args in
     let r = c.before.before.before.before.loop.r in
     let e = rw c.before.before.run_of.ensures at c.row.ensures.1 in
-    let q = (run-within x.t r c.before.before.before.before.before.before.before.before.requires.1.0.lies).1 in
-    let k = run-most x.img.now x.t r (runOf x.t r) in
+    let q = (run_within x.t r c.before.before.before.before.before.before.before.before.requires.1.0.lies).1 in
+    let k = run_most x.img.now x.t r (run_of x.t r) in
     omega (arith, e)
 
-near : (c : tie.After-row invariant-loop decreases-loop) → c.before.before.before.before.loop.r < maxSide
+near : (c : tie.After-row invariant-loop decreases-loop) → c.before.before.before.before.loop.r < max_side
 near c =
     let x = c.before.before.before.before.before.before.before.before.args in
-    below-side x.t.py x.t.radius x.t.size.height c.before.before.before.before.loop.r (rw c.before.before.before.before.before.before.past-in.ensures at c.before.before.before.loop-test.true) c.before.before.before.before.before.before.before.before.requires.1.0.lies.high
+    below_side x.t.py x.t.radius x.t.size.height c.before.before.before.before.loop.r (rw c.before.before.before.before.before.before.past-in.ensures at c.before.before.before.loop-test.true) c.before.before.before.before.before.before.before.before.requires.1.0.lies.high
 
-room : {m r : ℕ} → m ≤ maxSide * (r + 1) → r < maxSide → m < 2 ^ 64
+room : {m r : ℕ} → m ≤ max_side * (r + 1) → r < max_side → m < 2 ^ 64
 room h k = omega arith
 
-one_more : {r : ℕ} → r < maxSide → r + 1 < 2 ^ 64
+one_more : {r : ℕ} → r < max_side → r + 1 < 2 ^ 64
 one_more h = omega arith
 
 add-n : tie.Need-overflow-add-n invariant-loop decreases-loop
@@ -98,15 +98,15 @@ loop-again c =
     )
 
 returns : tie.Need-returns invariant-loop decreases-loop
-unfolding samplesOf
+unfolding samples_of
 returns c =
     let l = c.before.loop in
     let x = c.before.before.before.before.before.args in
-    let f = row_of x.t (sampleIn x.img.now x.t) in
-    let d : joined c.before.before.first-in.result c.before.before.before.past-in.result f ≡ samplesOf x.img.now x.t =
-    rw (c.before.before.first-in.ensures, c.before.before.before.past-in.ensures) (over-cells x.t (sampleIn x.img.now x.t)) in
-    let k = joined-done _ _ l.r _ l.invariant.1.0 c.loop-test.false ∙ d in
-    (l.invariant.1.1.1.held ∙ ap (gatheredIn _ _) k, l.invariant.1.1.1.count ∙ ap length k)
+    let f = row_of x.t (sample_in x.img.now x.t) in
+    let d : joined c.before.before.first-in.result c.before.before.before.past-in.result f ≡ samples_of x.img.now x.t =
+    rw (c.before.before.first-in.ensures, c.before.before.before.past-in.ensures) (over_cells_lem x.t (sample_in x.img.now x.t)) in
+    let k = joined_done _ _ l.r _ l.invariant.1.0 c.loop-test.false ∙ d in
+    (l.invariant.1.1.1.held ∙ ap (gathered_in _ _) k, l.invariant.1.1.1.count ∙ ap length k)
 
 pub rows-spec : {M : Type 1} → statement M
 rows-spec =

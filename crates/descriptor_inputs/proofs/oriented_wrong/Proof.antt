@@ -1,4 +1,4 @@
-use Rattle.descriptor_inputs.specs.Inputs.{orientedWrong}
+use Rattle.descriptor_inputs.specs.Inputs.{oriented_wrong}
 use Rattle.descriptor_inputs.proofs.Checks.{eq_self}
 use borrow.Author.Rules.{rules}
 use Rattle.descriptor_inputs.proofs.oriented_wrong.Statement.{statement}
@@ -17,7 +17,7 @@ is-finite-requires-3 : tie.Need-is-finite-requires-3
 is-finite-requires-3 c κs = search rules
 
 returns : tie.Need-returns
-unfolding orientedWrong
+unfolding oriented_wrong
 returns c = let b = c.before.before.before.before in rw (eq_self _, b.is-finite3.ensures, b.before.is-finite2.ensures, b.before.before.is_finite.ensures)
 
 pub oriented-wrong-spec : {M : Type 1} → statement M

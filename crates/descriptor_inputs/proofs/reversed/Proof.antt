@@ -1,4 +1,4 @@
-use Rattle.descriptor_inputs.specs.Inputs.{reversedOf}
+use Rattle.descriptor_inputs.specs.Inputs.{reversed_of}
 use borrow.Author.Rules.{rules}
 use Rattle.descriptor_inputs.proofs.reversed.Statement.{statement}
 use Rattle.descriptor_inputs.proofs.reversed.Tie as tie
@@ -10,11 +10,11 @@ abs-requires : tie.Need-abs-requires
 abs-requires c κs = search rules
 
 returns : tie.Need-returns
-unfolding reversedOf
+unfolding reversed_of
 returns c = rw (← c.before.abs.ensures, c.if1.true)
 
 returns-2 : tie.Need-returns-2
-unfolding reversedOf
+unfolding reversed_of
 returns-2 c = rw (← c.before.abs.ensures, c.if1.false)
 
 pub reversed-spec : {M : Type 1} → statement M

@@ -3,7 +3,7 @@ use lib.Dec.{lit≤}
 use lib.Pow.{pow_mono}
 use Rattle.ieee_laws.proofs.Wholes.{held}
 use Rattle.detect_keypoint.proofs.Counts.{one_shift}
-use Rattle.descriptor_inputs.specs.Inputs.{shrinkOf}
+use Rattle.descriptor_inputs.specs.Inputs.{shrink_of}
 use borrow.Author.Rules.{rules}
 use Rattle.descriptor_inputs.proofs.shrink.Statement.{statement}
 use Rattle.descriptor_inputs.proofs.shrink.Tie as tie
@@ -17,7 +17,7 @@ int-to-float-result : tie.Need-int-to-float-result
 int-to-float-result c = let p = c.before.requires in rw (one_shift c.before.args.octave p) (held _ (le_trans (pow_mono p) (lit≤ tt)))
 
 returns : tie.Need-returns
-unfolding shrinkOf
+unfolding shrink_of
 returns c = rw (one_shift c.before.args.octave c.before.requires)
 
 pub shrink_spec : {M : Type 1} → statement M

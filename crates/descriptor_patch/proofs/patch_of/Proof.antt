@@ -1,4 +1,4 @@
-use Rattle.descriptor_patch.specs.Patch.{histWidth, cosT, sinT, patch_of}
+use Rattle.descriptor_patch.specs.Patch.{hist_width, cos_t, sin_t, patch_of}
 use Rattle.std.proofs.Common.{rules}
 use Rattle.descriptor_patch.proofs.patch_of.Statement.{statement}
 use Rattle.descriptor_patch.proofs.patch_of.Tie as tie
@@ -18,7 +18,7 @@ radius-of-requires : tie.Need-radius-of-requires
 radius-of-requires c κs = search rules
 
 returns : tie.Need-returns
-unfolding patch_of cosT sinT histWidth
+unfolding patch_of cos_t sin_t hist_width
 returns c = (
   rw (c.before.before.cos.ensures, c.before.sin.ensures, c.radius-of.ensures.0),
   record { wide = search rules; high = search rules; col = search rules; row = search rules; reach = c.radius-of.ensures.1 },

@@ -1,5 +1,5 @@
 use Rattle.std.proofs.Common.{arith, rules}
-use Rattle.descriptor_patch.proofs.Reach.{diagonal-is, diagonal-cuts, radius-cut, radius-reach, radius-far}
+use Rattle.descriptor_patch.proofs.Reach.{diagonal_is, diagonal_cuts, radius_cut, radius_reach, radius_far}
 use Rattle.descriptor_patch.proofs.radius_of.Statement.{statement}
 use Rattle.descriptor_patch.proofs.radius_of.Tie as tie
 use Rattle.descriptor_patch.proofs.radius_of.Reads as reads
@@ -25,30 +25,30 @@ truncating-f32-to-u64-requires : tie.Need-truncating-f32-to-u64-requires
 truncating-f32-to-u64-requires c κs =
     let b = c.before.before.before in
     let s = b.before.before.args.s in
-    let e = diagonal-is s _ _ _ b.float.ensures c.before.before.float2.ensures c.before.sqrt.ensures.0 in
-    let k = diagonal-cuts s b.before.before.requires.0 (rw e at c.if1.true) in
+    let e = diagonal_is s _ _ _ b.float.ensures c.before.before.float2.ensures c.before.sqrt.ensures.0 in
+    let k = diagonal_cuts s b.before.before.requires.0 (rw e at c.if1.true) in
     rw e (k.above, k.below)
 
 returns : tie.Need-returns
 returns c =
     let b = c.before.before.before.before.before in
     let a = b.before.before.args in
-    let e = diagonal-is a.s _ _ _ b.float.ensures c.before.before.before.before.float2.ensures c.before.before.before.sqrt.ensures.0 in
-    radius-cut a.s a.scale _ _ _ c.before.truncating-f32-to-u64.ensures e b.before.reach_of.ensures (omega (arith, c.if2.true))
+    let e = diagonal_is a.s _ _ _ b.float.ensures c.before.before.before.before.float2.ensures c.before.before.before.sqrt.ensures.0 in
+    radius_cut a.s a.scale _ _ _ c.before.truncating-f32-to-u64.ensures e b.before.reach_of.ensures (omega (arith, c.if2.true))
 
 returns-2 : tie.Need-returns-2
 returns-2 c =
     let b = c.before.before.before.before.before in
     let a = b.before.before.args in
-    let e = diagonal-is a.s _ _ _ b.float.ensures c.before.before.before.before.float2.ensures c.before.before.before.sqrt.ensures.0 in
-    radius-reach a.s a.scale _ _ _ c.before.truncating-f32-to-u64.ensures e b.before.reach_of.ensures (omega (arith, c.if2.false))
+    let e = diagonal_is a.s _ _ _ b.float.ensures c.before.before.before.before.float2.ensures c.before.before.before.sqrt.ensures.0 in
+    radius_reach a.s a.scale _ _ _ c.before.truncating-f32-to-u64.ensures e b.before.reach_of.ensures (omega (arith, c.if2.false))
 
 returns-3 : tie.Need-returns-3
 returns-3 c =
     let b = c.before.before.before in
     let a = b.before.before.args in
-    let e = diagonal-is a.s _ _ _ b.float.ensures c.before.before.float2.ensures c.before.sqrt.ensures.0 in
-    radius-far a.s a.scale _ _ b.before.before.requires.0 c.if1.false e b.before.reach_of.ensures
+    let e = diagonal_is a.s _ _ _ b.float.ensures c.before.before.float2.ensures c.before.sqrt.ensures.0 in
+    radius_far a.s a.scale _ _ b.before.before.requires.0 c.if1.false e b.before.reach_of.ensures
 
 pub radius-of-spec : {M : Type 1} → statement M
 radius-of-spec =

@@ -1,6 +1,6 @@
 use Rattle.std.proofs.Common.{◌≡◌, rules}
-use Rattle.descriptor_patch.specs.Patch.{histWidth, reachOf}
-use Rattle.descriptor_patch.proofs.Reach.{reach-cuts, reach-small}
+use Rattle.descriptor_patch.specs.Patch.{hist_width, reach_of}
+use Rattle.descriptor_patch.proofs.Reach.{reach_cuts, reach_small}
 use Rattle.descriptor_patch.proofs.reach_of.Statement.{statement}
 use Rattle.descriptor_patch.proofs.reach_of.Tie as tie
 use Rattle.descriptor_patch.proofs.reach_of.Reads as reads
@@ -12,13 +12,13 @@ round-ties-even-requires : tie.Need-round-ties-even-requires
 round-ties-even-requires c κs = search rules
 
 truncating-f32-to-u64-requires : tie.Need-truncating-f32-to-u64-requires
-truncating-f32-to-u64-requires c κs = let r = reach-cuts c.before.args.scale c.before.requires in rw c.round_ties_even.ensures (r.above, r.below)
+truncating-f32-to-u64-requires c κs = let r = reach_cuts c.before.args.scale c.before.requires in rw c.round_ties_even.ensures (r.above, r.below)
 
 returns : tie.Need-returns
-unfolding reachOf histWidth
+unfolding reach_of hist_width
 returns c =
-    let e : c.truncating-f32-to-u64.result ≡ reachOf c.before.before.args.scale = cc in
-    (e, rw e (reach-small c.before.before.args.scale c.before.before.requires))
+    let e : c.truncating-f32-to-u64.result ≡ reach_of c.before.before.args.scale = cc in
+    (e, rw e (reach_small c.before.before.args.scale c.before.before.requires))
 
 pub reach-of-spec : {M : Type 1} → statement M
 reach-of-spec =

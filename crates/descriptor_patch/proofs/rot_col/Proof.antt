@@ -1,4 +1,4 @@
-use Rattle.descriptor_patch.specs.Patch.{rotsOf}
+use Rattle.descriptor_patch.specs.Patch.{rots_of}
 use Rattle.std.proofs.Common.{rules}
 use Rattle.descriptor_patch.proofs.rot_col.Statement.{statement}
 use Rattle.descriptor_patch.proofs.rot_col.Tie as tie
@@ -13,7 +13,7 @@ apart-requires-2 : tie.Need-apart-requires-2
 apart-requires-2 c κs = search rules
 
 returns : tie.Need-returns
-unfolding rotsOf
+unfolding rots_of
 returns c = rw (c.before.apart2.ensures, c.before.before.before.apart.ensures)
 
 pub rot-col-spec : {M : Type 1} → statement M

@@ -1,4 +1,4 @@
-use Rattle.descriptor_patch.specs.Patch.{sampleAt}
+use Rattle.descriptor_patch.specs.Patch.{sample_at}
 use Rattle.std.proofs.Common.{rules}
 use Rattle.descriptor_patch.proofs.sample_at.Statement.{statement}
 use Rattle.descriptor_patch.proofs.sample_at.Tie as tie
@@ -17,7 +17,7 @@ bin-of-requires-2 : tie.Need-bin-of-requires-2
 bin-of-requires-2 c κs = search rules
 
 returns : tie.Need-returns
-unfolding sampleAt
+unfolding sample_at
 returns c =
     let x = c.before.before in
     rw (x.bin-of2.ensures, x.before.bin-of.ensures, x.before.before.slope-at.ensures, x.before.before.before.before.requires.1.1)

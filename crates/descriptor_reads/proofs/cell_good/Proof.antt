@@ -1,6 +1,6 @@
-use Rattle.picture.specs.Picture.{fourAt}
-use Rattle.descriptor_patch.specs.Patch.{gridAt}
-use Rattle.descriptor_reads.proofs.Good.{good-where}
+use Rattle.picture.specs.Picture.{four_at}
+use Rattle.descriptor_patch.specs.Patch.{grid_at}
+use Rattle.descriptor_reads.proofs.Good.{good_where}
 use borrow.Author.Rules.{rules}
 use Rattle.descriptor_reads.proofs.cell_good.Statement.{statement}
 use Rattle.descriptor_reads.proofs.cell_good.Tie as tie
@@ -16,7 +16,7 @@ four-good-requires : tie.Need-four-good-requires
 four-good-requires c κs = search rules
 
 returns : tie.Need-returns
-returns c = let a = c.before.before.before.args in rw (c.before.grid-at.ensures, c.four-good.ensures) (good-where (gridAt a.t a.r a.c) (fourAt a.img.now a.t.size.width a.r a.c))
+returns c = let a = c.before.before.before.args in rw (c.before.grid-at.ensures, c.four-good.ensures) (good_where (grid_at a.t a.r a.c) (four_at a.img.now a.t.size.width a.r a.c))
 
 pub cell-good-spec : {M : Type 1} → statement M
 cell-good-spec = tie.close (tie.spec grid-at-requires four-good-requires returns)

@@ -1,4 +1,4 @@
-use Rattle.descriptor_reads.proofs.Steps.{grid-is}
+use Rattle.descriptor_reads.proofs.Steps.{grid_is}
 use borrow.Author.Rules.{rules}
 use Rattle.descriptor_reads.proofs.grid_at.Statement.{statement}
 use Rattle.descriptor_reads.proofs.grid_at.Tie as tie
@@ -35,7 +35,7 @@ returns c =
     let p = a.before in
     let y = p.before in
     let s = y.before.args in
-    grid-is s.t s.r s.c _ _ _ _ _ _ y.rot-row.ensures p.bin-of.ensures a.in-grid.ensures x.rot-col.ensures q.bin-of2.ensures c.in-grid2.ensures
+    grid_is s.t s.r s.c _ _ _ _ _ _ y.rot-row.ensures p.bin-of.ensures a.in-grid.ensures x.rot-col.ensures q.bin-of2.ensures c.in-grid2.ensures
 
 pub grid-at-spec : {M : Type 1} → statement M
 grid-at-spec =

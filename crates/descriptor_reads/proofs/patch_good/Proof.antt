@@ -1,4 +1,4 @@
-use Rattle.descriptor_reads.proofs.Window.{window-in, window-yes}
+use Rattle.descriptor_reads.proofs.Window.{window_in, window_yes}
 use borrow.Author.Rules.{rules}
 use Rattle.descriptor_reads.proofs.patch_good.Statement.{statement}
 use Rattle.descriptor_reads.proofs.patch_good.Tie as tie
@@ -24,7 +24,7 @@ past-in-requires-2 c κs = search rules
 area-good-requires : tie.Need-area-good-requires
 area-good-requires c κs =
     let b = c.before.before.before.before.before in
-    window-in b.args.t _ _ _ _ b.requires.0 b.requires.1 c.before.before.before.first-in.ensures c.before.before.past-in.ensures c.before.first-in2.ensures c.past-in2.ensures
+    window_in b.args.t _ _ _ _ b.requires.0 b.requires.1 c.before.before.before.first-in.ensures c.before.before.past-in.ensures c.before.first-in2.ensures c.past-in2.ensures
 
 reads-good-requires : tie.Need-reads-good-requires
 reads-good-requires c κs = search rules
@@ -33,7 +33,7 @@ returns : tie.Need-returns
 returns c =
     let d = c.before.before in
     let b = d.before.before.before.before.before in
-    window-yes b.args.img.now b.args.t b.requires.0 b.requires.1 d.before.before.before.first-in.ensures d.before.before.past-in.ensures d.before.first-in2.ensures d.past-in2.ensures c.before.area-good.ensures c.if1.true
+    window_yes b.args.img.now b.args.t b.requires.0 b.requires.1 d.before.before.before.first-in.ensures d.before.before.past-in.ensures d.before.first-in2.ensures d.past-in2.ensures c.before.area-good.ensures c.if1.true
 
 returns-2 : tie.Need-returns-2
 returns-2 c = search rules

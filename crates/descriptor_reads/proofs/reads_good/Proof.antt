@@ -4,11 +4,11 @@ use mathlib.Core.Path.{◌≡◌, sym, ap, ◌∙◌}
 use native.Mathlib.Omega.{arith}
 use borrow.Author.Rules.{rules}
 use Rattle.lists.specs.Ranges.{joined}
-use Rattle.params.specs.Table.{allGood}
-use Rattle.picture.specs.Picture.{fourAt}
+use Rattle.params.specs.Table.{all_good}
+use Rattle.picture.specs.Picture.{four_at}
 use Rattle.descriptor_run.specs.Cells.{reads_of}
 use Rattle.descriptor_run.specs.Run.{row_of}
-use Rattle.descriptor_run.proofs.Runs.{joined-done, over-cells, inner}
+use Rattle.descriptor_run.proofs.Runs.{joined_done, over_cells_lem, inner}
 use Rattle.descriptor_reads.proofs.Good.{good_none, good_more}
 use Rattle.descriptor_reads.proofs.reads_good.Statement.{statement}
 use Rattle.descriptor_reads.proofs.reads_good.Tie as tie
@@ -20,7 +20,7 @@ use Rattle.descriptor_reads.proofs.row_good.Reads as row-good-reads
 use Rattle.descriptor_run.proofs.run_of.Reads as run-of-reads
 
 abbrev invariant-loop : tie.invariant-loop
-invariant-loop img t end ok₀ r₀ ok r = (r₀ ≤ r) × ((r ≤ max r₀ end) × (ok ≡ allGood (joined r₀ r (row_of t (fourAt img t.size.width)))))
+invariant-loop img t end ok₀ r₀ ok r = (r₀ ≤ r) × ((r ≤ max r₀ end) × (ok ≡ all_good (joined r₀ r (row_of t (four_at img t.size.width)))))
 
 abbrev decreases-loop : tie.decreases-loop
 decreases-loop img t end ok₀ r₀ ok r = end - r
@@ -64,8 +64,8 @@ returns c =
     let l = c.before.loop in
     let a = c.before.before.before.before.before.args in
     l.invariant.1.1
-    ∙ ap allGood (joined-done _ _ l.r _ l.invariant.1.0 c.loop-test.false
-    ∙ rw (c.before.before.first-in.ensures, c.before.before.before.past-in.ensures) (over-cells a.t (fourAt a.img.now a.t.size.width)))
+    ∙ ap all_good (joined_done _ _ l.r _ l.invariant.1.0 c.loop-test.false
+    ∙ rw (c.before.before.first-in.ensures, c.before.before.before.past-in.ensures) (over_cells_lem a.t (four_at a.img.now a.t.size.width)))
 
 pub reads-good-spec : {M : Type 1} → statement M
 reads-good-spec =

@@ -4,11 +4,11 @@ use mathlib.Core.Bool.{cond}
 use mathlib.Core.List.{[]}
 use native.Mathlib.Omega.{arith}
 use Rattle.lists.specs.Ranges.{joined}
-use Rattle.params.specs.Table.{allGood}
-use Rattle.picture.specs.Picture.{fourAt}
-use Rattle.descriptor_patch.specs.Patch.{gridAt}
-use Rattle.descriptor_run.specs.Run.{overRun}
-use Rattle.descriptor_run.proofs.Runs.{joined-done}
+use Rattle.params.specs.Table.{all_good}
+use Rattle.picture.specs.Picture.{four_at}
+use Rattle.descriptor_patch.specs.Patch.{grid_at}
+use Rattle.descriptor_run.specs.Run.{over_run}
+use Rattle.descriptor_run.proofs.Runs.{joined_done}
 use Rattle.descriptor_reads.proofs.Good.{good_none, good_more}
 use Rattle.descriptor_reads.proofs.row_good.Statement.{statement}
 use Rattle.descriptor_reads.proofs.row_good.Tie as tie
@@ -17,7 +17,7 @@ use Rattle.descriptor_reads.proofs.row_good.Lts as lts
 use Rattle.descriptor_reads.proofs.cell_good.Reads as cell-good-reads
 
 abbrev invariant-loop : tie.invariant-loop
-invariant-loop img t r end ok₀ c₀ ok c = (c₀ ≤ c) × ((c ≤ max c₀ end) × (ok ≡ allGood (joined c₀ c (λ k. cond (gridAt t r k) (fourAt img t.size.width r k) []))))
+invariant-loop img t r end ok₀ c₀ ok c = (c₀ ≤ c) × ((c ≤ max c₀ end) × (ok ≡ all_good (joined c₀ c (λ k. cond (grid_at t r k) (four_at img t.size.width r k) []))))
 
 abbrev decreases-loop : tie.decreases-loop
 decreases-loop img t r end ok₀ c₀ ok c = end - c
@@ -38,8 +38,8 @@ loop-again : tie.Need-loop-preserved invariant-loop decreases-loop
 loop-again c = let l = c.before.before.loop in (omega arith, (omega arith, good_more _ l.c _ l.ok _ l.invariant.0 l.invariant.1.1 c.cell-good.ensures))
 
 returns : tie.Need-returns invariant-loop decreases-loop
-unfolding overRun
-returns c = let l = c.before.loop in l.invariant.1.1 ∙ ap allGood (joined-done _ _ l.c _ l.invariant.1.0 c.loop-test.false)
+unfolding over_run
+returns c = let l = c.before.loop in l.invariant.1.1 ∙ ap all_good (joined_done _ _ l.c _ l.invariant.1.0 c.loop-test.false)
 
 pub row-good-spec : {M : Type 1} → statement M
 row-good-spec =

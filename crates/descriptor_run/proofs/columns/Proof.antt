@@ -2,7 +2,7 @@ use mathlib.Core.Path.{◌≡◌}
 use mir.Syntax.{w32}
 use mir.Val.{to_z, of_z}
 use mir.ValLaws.{to_z-of_z}
-use Rattle.descriptor_run.proofs.Runs.{columns-long}
+use Rattle.descriptor_run.proofs.Runs.{columns_long}
 use Rattle.descriptor_run.specs.Run.{columns}
 use borrow.Author.Rules.{rules}
 use Rattle.descriptor_run.proofs.columns.Statement.{statement}
@@ -55,7 +55,7 @@ returns-2 c =
     let d' = c.before.before.before.before.to-i32.result in
     let e : to_z w32 (of_z w32 d) ≡ d = to_z-of_z w32 d (record { sfits = c.before.before.before.before.before.before.before.before.floor-to-i32.type-inv }) in
     let e' : to_z w32 (of_z w32 d') ≡ d' = to_z-of_z w32 d' (record { sfits = c.before.before.before.before.to-i32.type-inv }) in
-    columns-long x.a x.b x.px x.e _ _ _ _ _ d d' _ c.before.before.before.before.before.before.before.before.before.if1.false
+    columns_long x.a x.b x.px x.e _ _ _ _ _ d d' _ c.before.before.before.before.before.before.before.before.before.if1.false
     c.before.before.before.before.before.before.before.before.floor-to-i32.ensures
     (rw e at c.before.before.before.before.before.before.before.shifted.ensures)
     c.before.before.before.before.before.floor.ensures

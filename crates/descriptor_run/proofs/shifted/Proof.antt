@@ -6,7 +6,7 @@ use lib.Signed.{mag, nat_abs-le}
 use mir.Syntax.{w32, w64}
 use mir.Val.{SFits, to_z, of_z}
 use mir.ValLaws.{to_z_pos, to_z-of_z}
-use Rattle.descriptor_run.proofs.Whole.{mag_sum, shifted-out, shifted_in}
+use Rattle.descriptor_run.proofs.Whole.{mag_sum, shifted_out, shifted_in}
 use borrow.Author.Rules.{rules}
 use Rattle.descriptor_run.proofs.shifted.Statement.{statement}
 use Rattle.descriptor_run.proofs.shifted.Tie as tie
@@ -45,7 +45,7 @@ cast-result c =
     (rw e s.0, rw e (record { fits = omega (arith, nat_abs-le (pos a +ℤ z) (mag_sum a z c.before.requires c.before.ranges.z.sfits)) }))
 
 returns : tie.Need-returns
-returns c = shifted-out c.before.args.at c.before.args.z (rw (is c.before.args.at c.before.args.z c.before.requires c.before.ranges.z) at c.if1.true)
+returns c = shifted_out c.before.args.at c.before.args.z (rw (is c.before.args.at c.before.args.z c.before.requires c.before.ranges.z) at c.if1.true)
 
 returns-2 : tie.Need-returns-2
 returns-2 c =

@@ -1,6 +1,6 @@
 use mathlib.Core.Path.{sym, ◌∙◌, subst}
 use Rattle.descriptor_shares.specs.Reach.{Inside}
-use Rattle.descriptor_shares.proofs.Spreads.{turn_near, row_fits, col-fits, spread-split, spread-inside}
+use Rattle.descriptor_shares.proofs.Spreads.{turn_near, row_fits, col_fits, spread_split, spread_inside}
 use borrow.Author.Rules.{rules}
 use Rattle.descriptor_shares.proofs.spread_of.Statement.{statement}
 use Rattle.descriptor_shares.proofs.spread_of.Tie as tie
@@ -39,7 +39,7 @@ cast-t16 c = search rules
 add-t17 : tie.Need-overflow-add-t17
 add-t17 c =
     let b = c.before.before.before.before.before.before.before.before.before in
-    record { fits = col-fits b.args.angle b.args.l b.requires.1 }
+    record { fits = col_fits b.args.angle b.args.l b.requires.1 }
 
 cast-t19 : tie.Need-overflow-cast-t19
 cast-t19 c = search rules
@@ -59,9 +59,9 @@ returns c =
     let b = m.before.before.before.before in
     let h = b.requires.1 in
     let k =
-    spread-split b.args.angle b.args.l h o.split-of.result c.shares_of.result (o.split-of.ensures ∙ rw a.angle-in.ensures)
+    spread_split b.args.angle b.args.l h o.split-of.result c.shares_of.result (o.split-of.ensures ∙ rw a.angle-in.ensures)
     (c.shares_of.ensures ∙ rw (m.magnitude-in.ensures, e.exp_in.ensures)) in
-    (k, subst Inside (sym k) (spread-inside b.args.angle b.args.l.sample h.lands))
+    (k, subst Inside (sym k) (spread_inside b.args.angle b.args.l.sample h.lands))
 
 pub spread-of-spec : {M : Type 1} → statement M
 spread-of-spec =

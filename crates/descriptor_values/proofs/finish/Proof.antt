@@ -7,27 +7,27 @@ use borrow.Author.Rules.{rules}
 use lib.Ieee.{Float}
 use lib.ListN.{length, take, length-set}
 use Rattle.ieee.specs.F32.{◌⊗◌, rounded}
-use Rattle.ieee.specs.Numbers.{nought, topByte}
-use Rattle.bounds.specs.Bounds.{clampOf}
+use Rattle.ieee.specs.Numbers.{nought, top_byte}
+use Rattle.bounds.specs.Bounds.{clamp_of}
 use Rattle.descriptor_values.specs.Values.{at, finished}
-use Rattle.descriptor_values.proofs.Listed.{up_to, start, listed_more, listed-all}
+use Rattle.descriptor_values.proofs.Listed.{up_to, start, listed_more, listed_all}
 use Rattle.descriptor_values.proofs.finish.Statement.{statement}
 use Rattle.descriptor_values.proofs.finish.Tie as tie
 use Rattle.descriptor_values.proofs.finish.Reads as reads
 use Rattle.descriptor_values.proofs.finish.Lts as lts
 use Rattle.bounds.proofs.clamp.Reads as clamp-reads
 use Rattle.ieee_whole.proofs.round_ties_even.Reads as round-ties-even-reads
-use Rattle.params.specs.Limits.{valueCount}
+use Rattle.params.specs.Limits.{value_count}
 use Rattle.descriptor_values.proofs.scale.Reads as scale-reads
 
 abbrev value : List Float → Float → ℕ → Float
-value v by m = clampOf (rounded (at v m ⊗ by)) nought topByte
+value v by m = clamp_of (rounded (at v m ⊗ by)) nought top_byte
 
 abbrev invariant-loop : tie.invariant-loop
-invariant-loop v by u₀ n₀ u n = (n ≤ valueCount) × ((length u ≡ valueCount) × (take n u ≡ up_to (value v by) n))
+invariant-loop v by u₀ n₀ u n = (n ≤ value_count) × ((length u ≡ value_count) × (take n u ≡ up_to (value v by) n))
 
 abbrev decreases-loop : tie.decreases-loop
-decreases-loop v by u₀ n₀ u n = valueCount - n
+decreases-loop v by u₀ n₀ u n = value_count - n
 
 -- src/lib.rt:92:9
 scale-requires : tie.Need-scale-requires invariant-loop decreases-loop
@@ -79,7 +79,7 @@ loop-again c =
         listed_more
             (value c.before.before.before.before.before.before.args.v.now c.before.before.before.before.before.scale.result)
             c.before.before.before.before.loop.u c.before.before.before.before.loop.n c.clamp.result (omega arith)
-            (c.clamp.ensures ∙ ap (λ (x : Float). clampOf x nought topByte) c.before.round_ties_even.ensures) inv.1.1,
+            (c.clamp.ensures ∙ ap (λ (x : Float). clamp_of x nought top_byte) c.before.round_ties_even.ensures) inv.1.1,
       ),
     )
 
@@ -89,8 +89,8 @@ unfolding finished
 returns c =
     let v = c.before.before.before.args.v.now in
     let inv = c.before.loop.invariant in
-    listed-all (value v c.before.before.scale.result) c.before.loop.u c.before.loop.n valueCount inv.1.0 (omega arith) (omega arith) inv.1.1
-    ∙ ap (λ (x : Float). up_to (value v x) valueCount) c.before.before.scale.ensures
+    listed_all (value v c.before.before.scale.result) c.before.loop.u c.before.loop.n value_count inv.1.0 (omega arith) (omega arith) inv.1.1
+    ∙ ap (λ (x : Float). up_to (value v x) value_count) c.before.before.scale.ensures
 
 pub finish_spec : {M : Type 1} → statement M
 finish_spec =

@@ -1,7 +1,7 @@
 use Prim.Native.Nat.{◌%◌}
 use borrow.Author.Tests.{ne_eqb}
 use native.Mathlib.Nat.{add-zero}
-use Rattle.descriptor_values.specs.Values.{foldedAt}
+use Rattle.descriptor_values.specs.Values.{folded_at}
 use borrow.Author.Rules.{rules}
 use Rattle.descriptor_values.proofs.folded.Statement.{statement}
 use Rattle.descriptor_values.proofs.folded.Tie as tie
@@ -62,12 +62,12 @@ element-copy-out-result-3 c = search rules
 
 -- src/lib.rt:7:1
 returns : tie.Need-returns
-unfolding foldedAt
+unfolding folded_at
 returns c = simp (add-zero, c.before.before.if1.true)
 
 -- src/lib.rt:7:1
 returns-2 : tie.Need-returns-2
-unfolding foldedAt
+unfolding folded_at
 returns-2 c = simp (add-zero, ne_eqb (c.before.before.args.n % 8) 0 c.before.if1.false)
 
 pub folded-spec : {M : Type 1} → statement M

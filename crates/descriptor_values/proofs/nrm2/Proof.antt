@@ -5,7 +5,7 @@ use native.Mathlib.Omega.{arith}
 use borrow.Author.Rules.{rules}
 use lib.Ieee.{of_bits}
 use Rattle.descriptor_values.specs.Values.{lane}
-use Rattle.descriptor_values.proofs.Listed.{lane-on, norm-of}
+use Rattle.descriptor_values.proofs.Listed.{lane_on, norm_of}
 use Rattle.descriptor_values.proofs.nrm2.Statement.{statement}
 use Rattle.descriptor_values.proofs.nrm2.Tie as tie
 use Rattle.descriptor_values.proofs.nrm2.Reads as reads
@@ -68,10 +68,10 @@ loop-again c =
     let i = c.before.before.before.before.before.loop.invariant.1 in (
       omega arith,
       (
-        lane-on v 0 n (4 * n) (omega arith) i.0 c.before.before.before.with-square.ensures,
+        lane_on v 0 n (4 * n) (omega arith) i.0 c.before.before.before.with-square.ensures,
         (
-          lane-on v 1 n (4 * n + 1) refl i.1.0 c.before.before.with-square2.ensures,
-          (lane-on v 2 n (4 * n + 2) refl i.1.1.0 c.before.with-square3.ensures, lane-on v 3 n (4 * n + 3) refl i.1.1.1 c.with-square4.ensures),
+          lane_on v 1 n (4 * n + 1) refl i.1.0 c.before.before.with-square2.ensures,
+          (lane_on v 2 n (4 * n + 2) refl i.1.1.0 c.before.with-square3.ensures, lane_on v 3 n (4 * n + 3) refl i.1.1.1 c.with-square4.ensures),
         ),
       ),
     )
@@ -79,7 +79,7 @@ loop-again c =
 returns : tie.Need-returns invariant-loop decreases-loop
 returns c =
     let i = c.before.loop.invariant.1 in
-    norm-of c.before.before.args.v.now c.before.loop.n (omega arith) i.0 i.1.0 i.1.1.0 i.1.1.1
+    norm_of c.before.before.args.v.now c.before.loop.n (omega arith) i.0 i.1.0 i.1.1.0 i.1.1.1
 
 pub nrm2-spec : {M : Type 1} → statement M
 nrm2-spec =

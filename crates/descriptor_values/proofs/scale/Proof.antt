@@ -1,4 +1,4 @@
-use Rattle.descriptor_values.proofs.Listed.{scale-is}
+use Rattle.descriptor_values.proofs.Listed.{scale_is}
 use borrow.Author.Rules.{rules}
 use Rattle.descriptor_values.proofs.scale.Statement.{statement}
 use Rattle.descriptor_values.proofs.scale.Tie as tie
@@ -24,7 +24,7 @@ max-requires c κs = search rules
 returns : tie.Need-returns
 returns c =
     let s = c.before.before in
-    scale-is s.before.args.v.now _ _ _ s.plain-sum.ensures c.before.sqrt.ensures.0 c.max.ensures
+    scale_is s.before.args.v.now _ _ _ s.plain-sum.ensures c.before.sqrt.ensures.0 c.max.ensures
 
 pub scale-spec : {M : Type 1} → statement M
 scale-spec = tie.close (tie.spec plain-sum-requires sqrt-requires max-requires returns)

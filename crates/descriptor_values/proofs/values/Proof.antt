@@ -1,4 +1,4 @@
-use Rattle.descriptor_values.proofs.Listed.{values-is}
+use Rattle.descriptor_values.proofs.Listed.{values_is}
 use borrow.Author.Rules.{rules}
 use Rattle.descriptor_values.proofs.values.Statement.{statement}
 use Rattle.descriptor_values.proofs.values.Tie as tie
@@ -25,7 +25,7 @@ returns : tie.Need-returns
 returns c =
     let u = c.before.before in
     let v = u.before.before in
-    values-is v.before.args.hist.now v.raw.result u.clamp-all.result c.finish.result v.raw.ensures u.clamp-all.ensures c.finish.ensures
+    values_is v.before.args.hist.now v.raw.result u.clamp-all.result c.finish.result v.raw.ensures u.clamp-all.ensures c.finish.ensures
 
 pub values-spec : {M : Type 1} → statement M
 values-spec = tie.close (tie.spec raw-requires clamp-all-requires finish-requires returns)

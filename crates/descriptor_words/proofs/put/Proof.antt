@@ -5,18 +5,18 @@ use native.Mathlib.Omega.{arith}
 use borrow.Author.Rules.{rules}
 use lib.ListN.{length, take, length-set}
 use Rattle.ieee.specs.F32.{bits_of}
-use Rattle.params.specs.Limits.{valueCount}
-use Rattle.descriptor_words.proofs.Filled.{put-more, put_all}
+use Rattle.params.specs.Limits.{value_count}
+use Rattle.descriptor_words.proofs.Filled.{put_more, put_all}
 use Rattle.descriptor_words.proofs.put.Statement.{statement}
 use Rattle.descriptor_words.proofs.put.Tie as tie
 use Rattle.descriptor_words.proofs.put.Reads as reads
 use Rattle.descriptor_words.proofs.put.Lts as lts
 
 abbrev invariant-loop : tie.invariant-loop
-invariant-loop v out₀ n₀ out n = (n ≤ valueCount) × ((length out ≡ valueCount) × (take n out ≡ take n (map bits_of v)))
+invariant-loop v out₀ n₀ out n = (n ≤ value_count) × ((length out ≡ value_count) × (take n out ≡ take n (map bits_of v)))
 
 abbrev decreases-loop : tie.decreases-loop
-decreases-loop v out₀ n₀ out n = valueCount - n
+decreases-loop v out₀ n₀ out n = value_count - n
 
 loop-holds : tie.Need-loop-init invariant-loop decreases-loop
 loop-holds c = (omega arith, (c.before.requires.1, refl))
@@ -46,7 +46,7 @@ loop-again : tie.Need-loop-preserved invariant-loop decreases-loop
 loop-again c =
     let l = c.before.before.before.loop in
     let v = c.before.before.before.before.before.args.v.now in
-    (omega arith, (simp length-set l.invariant.1.0, put-more v l.out l.n _ (omega arith) (omega arith) c.bits-of.ensures l.invariant.1.1))
+    (omega arith, (simp length-set l.invariant.1.0, put_more v l.out l.n _ (omega arith) (omega arith) c.bits-of.ensures l.invariant.1.1))
 
 same_length : tie.Need-same-length invariant-loop decreases-loop
 same_length c = omega arith

@@ -1,7 +1,7 @@
 use mathlib.Core.Path.{◌≡◌}
 use Rattle.descriptor_patch.specs.Patch.{cell_of}
 use Rattle.descriptor_words.specs.Words.{cell_at}
-use Rattle.descriptor_words.proofs.Cells.{cell-told}
+use Rattle.descriptor_words.proofs.Cells.{cell_told}
 use Rattle.descriptor_words.proofs.Filled.{asked, turn_is}
 use borrow.Author.Rules.{rules}
 use Rattle.descriptor_words.proofs.turn_at.Statement.{statement}
@@ -30,8 +30,8 @@ patch-of-requires c κs =
     let a = b.before.before.before.before in
     let r = b.before.round-to-i322 in
     let q = b.before.before.before.round-to-i32 in
-    let p : b.before.before.cell-at.result ≡ cell_at (cell_of a.args.p.x) = cell-told _ _ _ (record { sfits = q.type-inv }) q.ensures b.before.before.cell-at.ensures in
-    let o : b.cell-at2.result ≡ cell_at (cell_of a.args.p.y) = cell-told _ _ _ (record { sfits = r.type-inv }) r.ensures b.cell-at2.ensures in
+    let p : b.before.before.cell-at.result ≡ cell_at (cell_of a.args.p.x) = cell_told _ _ _ (record { sfits = q.type-inv }) q.ensures b.before.before.cell-at.ensures in
+    let o : b.cell-at2.result ≡ cell_at (cell_of a.args.p.y) = cell_told _ _ _ (record { sfits = r.type-inv }) r.ensures b.cell-at2.ensures in
     asked _ _ _ _ p o a.requires
 
 returns : tie.Need-returns
@@ -40,8 +40,8 @@ returns c =
     let a = b.before.before.before.before in
     let r = b.before.round-to-i322 in
     let q = b.before.before.before.round-to-i32 in
-    let p : b.before.before.cell-at.result ≡ cell_at (cell_of a.args.p.x) = cell-told _ _ _ (record { sfits = q.type-inv }) q.ensures b.before.before.cell-at.ensures in
-    let o : b.cell-at2.result ≡ cell_at (cell_of a.args.p.y) = cell-told _ _ _ (record { sfits = r.type-inv }) r.ensures b.cell-at2.ensures in
+    let p : b.before.before.cell-at.result ≡ cell_at (cell_of a.args.p.x) = cell_told _ _ _ (record { sfits = q.type-inv }) q.ensures b.before.before.cell-at.ensures in
+    let o : b.cell-at2.result ≡ cell_at (cell_of a.args.p.y) = cell_told _ _ _ (record { sfits = r.type-inv }) r.ensures b.cell-at2.ensures in
     (turn_is _ _ _ _ _ p o c.patch-of.ensures.0, c.patch-of.ensures.1)
 
 pub turn-at-spec : {M : Type 1} → statement M

@@ -2,32 +2,32 @@ use mathlib.Core.Path.{◌≡◌, sym, ◌∙◌}
 use mathlib.Core.Bool.{false}
 use native.Mathlib.Omega.{arith}
 use borrow.Author.Rules.{rules}
-use Rattle.params.specs.Table.{shapeWrong, layersWrong, settingsWrong}
-use Rattle.detect.proofs.Faults.{fault-shape, fault-layers, fault-length, fault-settings, fault-none, fits, searched, contrast-right}
+use Rattle.params.specs.Table.{shape_wrong, layers_wrong, settings_wrong}
+use Rattle.detect.proofs.Faults.{fault_shape, fault_layers, fault_length, fault_settings, fault_none, fits, searched, contrast_right}
 use Rattle.detect.proofs.fault.Statement.{statement}
 use Rattle.detect.proofs.fault.Tie as tie
 
 -- what is known where the first check passes, the second, the fourth
-shape : (c : tie.Else1) → let a = c.before.before.args in shapeWrong a.t.width a.t.height ≡ false
+shape : (c : tie.Else1) → let a = c.before.before.args in shape_wrong a.t.width a.t.height ≡ false
 shape c = sym c.before.shape-wrong.ensures ∙ c.if1.false
 
-layers : (c : tie.Else2) → let a = c.before.before.before.before.args in layersWrong a.t.planes a.layer a.s.layers ≡ false
+layers : (c : tie.Else2) → let a = c.before.before.before.before.args in layers_wrong a.t.planes a.layer a.s.layers ≡ false
 layers c = sym c.before.layers-wrong.ensures ∙ c.if2.false
 
-settings : (c : tie.Else4) → let a = c.before.before.before.before.before.before.before.before.before.args in settingsWrong a.s a.octave ≡ false
+settings : (c : tie.Else4) → let a = c.before.before.before.before.before.before.before.before.before.args in settings_wrong a.s a.octave ≡ false
 settings c = sym c.before.settings-wrong.ensures ∙ c.if4.false
 
 shape-wrong-requires : tie.Need-shape-wrong-requires
 shape-wrong-requires c κs = search rules
 
 returns : tie.Need-returns
-returns c = (fault-shape _ _ _ _ _ (sym c.before.shape-wrong.ensures ∙ c.if1.true), (λ e. absurd (omega arith), λ e. absurd (omega arith)))
+returns c = (fault_shape _ _ _ _ _ (sym c.before.shape-wrong.ensures ∙ c.if1.true), (λ e. absurd (omega arith), λ e. absurd (omega arith)))
 
 layers-wrong-requires : tie.Need-layers-wrong-requires
 layers-wrong-requires c κs = search rules
 
 returns-2 : tie.Need-returns-2
-returns-2 c = (fault-layers _ _ _ _ _ (shape c.before.before) (sym c.before.layers-wrong.ensures ∙ c.if2.true), (λ e. absurd (omega arith), λ e. absurd (omega arith)))
+returns-2 c = (fault_layers _ _ _ _ _ (shape c.before.before) (sym c.before.layers-wrong.ensures ∙ c.if2.true), (λ e. absurd (omega arith), λ e. absurd (omega arith)))
 
 mul-if3 : tie.Need-overflow-mul-if3
 mul-if3 c =
@@ -40,13 +40,13 @@ mul-if3-2 c =
     omega (arith, fits a.len a.t a.layer a.octave a.s (shape c.before.before.before.before) (layers c.before.before))
 
 returns-3 : tie.Need-returns-3
-returns-3 c = (fault-length _ _ _ _ _ (shape c.before.before.before.before.before) (layers c.before.before.before) c.if3.true, (λ e. absurd (omega arith), λ e. absurd (omega arith)))
+returns-3 c = (fault_length _ _ _ _ _ (shape c.before.before.before.before.before) (layers c.before.before.before) c.if3.true, (λ e. absurd (omega arith), λ e. absurd (omega arith)))
 
 settings-wrong-requires : tie.Need-settings-wrong-requires
 settings-wrong-requires c κs = search rules
 
 returns-4 : tie.Need-returns-4
-returns-4 c = (fault-settings _ _ _ _ _ (shape c.before.before.before.before.before.before.before) (layers c.before.before.before.before.before) c.before.before.if3.false (sym c.before.settings-wrong.ensures ∙ c.if4.true), (λ e. absurd (omega arith), λ e. absurd (omega arith)))
+returns-4 c = (fault_settings _ _ _ _ _ (shape c.before.before.before.before.before.before.before) (layers c.before.before.before.before.before) c.before.before.if3.false (sym c.before.settings-wrong.ensures ∙ c.if4.true), (λ e. absurd (omega arith), λ e. absurd (omega arith)))
 
 returns-5 : tie.Need-returns-5
 returns-5 c =
@@ -55,7 +55,7 @@ returns-5 c =
     let b = layers c.before.before.before.before.before in
     let g = c.before.before.if3.false in
     let e = settings c in
-    (fault-none x.len x.t x.layer x.octave x.s a b g e, (λ _. searched x.len x.t x.layer x.octave x.s a b g e, λ _. contrast-right x.len x.t x.layer x.octave x.s a b g e))
+    (fault_none x.len x.t x.layer x.octave x.s a b g e, (λ _. searched x.len x.t x.layer x.octave x.s a b g e, λ _. contrast_right x.len x.t x.layer x.octave x.s a b g e))
 
 pub fault-spec : {M : Type 1} → statement M
 fault-spec =

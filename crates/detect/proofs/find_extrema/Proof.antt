@@ -1,6 +1,6 @@
 use native.Mathlib.Omega.{arith}
 use borrow.Author.Rules.{rules}
-use Rattle.detect_extrema.proofs.Rows.{few-rows, few-columns}
+use Rattle.detect_extrema.proofs.Rows.{few_rows, few_columns}
 use Rattle.detect_room.proofs.Room.{none}
 use Rattle.detect.proofs.Answers.{refused, accepted}
 use Rattle.detect.proofs.find_extrema.Statement.{statement}
@@ -16,13 +16,13 @@ nothing-requires : tie.Need-nothing-requires
 nothing-requires c κs = search rules
 
 returns-2 : tie.Need-returns-2
-returns-2 c = accepted _ _ _ _ _ _ _ c.before.before.before.before.fault.ensures.0 c.before.before.before.if1.false _ _ (none _ _ _ (few-columns _ _ _ _ c.before.if2.true) _ c.nothing.ensures)
+returns-2 c = accepted _ _ _ _ _ _ _ c.before.before.before.before.fault.ensures.0 c.before.before.before.if1.false _ _ (none _ _ _ (few_columns _ _ _ _ c.before.if2.true) _ c.nothing.ensures)
 
 nothing-requires-2 : tie.Need-nothing-requires-2
 nothing-requires-2 c κs = search rules
 
 returns-3 : tie.Need-returns-3
-returns-3 c = accepted _ _ _ _ _ _ _ c.before.before.before.before.before.before.fault.ensures.0 c.before.before.before.before.before.if1.false _ _ (none _ _ _ (few-rows _ _ _ _ c.before.if3.true) _ c.nothing2.ensures)
+returns-3 c = accepted _ _ _ _ _ _ _ c.before.before.before.before.before.before.fault.ensures.0 c.before.before.before.before.before.if1.false _ _ (none _ _ _ (few_rows _ _ _ _ c.before.if3.true) _ c.nothing2.ensures)
 
 search-of-requires : tie.Need-search-of-requires
 search-of-requires c κs =

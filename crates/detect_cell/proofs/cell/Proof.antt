@@ -4,7 +4,7 @@ use borrow.Author.Tests.{not-true, not-false}
 use lib.Ieee.{Float}
 use Rattle.detect_extrema.specs.Neighbours.{loud}
 use Rattle.detect_extrema.specs.Scan.{kept}
-use Rattle.detect_extrema.proofs.Cells.{found-quiet, found-yes, found-no}
+use Rattle.detect_extrema.proofs.Cells.{found_quiet, found_yes, found_no}
 use borrow.Author.Rules.{rules}
 use Rattle.detect_cell.proofs.cell.Statement.{statement}
 use Rattle.detect_cell.proofs.cell.Tie as tie
@@ -20,7 +20,7 @@ is-loud-requires : tie.Need-is-loud-requires
 is-loud-requires c κs = search rules
 
 returns : tie.Need-returns
-returns c = sym (found-quiet _ _ _ _ _ (quiet _ _ _ _ c.before.is-loud.ensures c.before.before.at.ensures ∙ not-true _ c.if1.true))
+returns c = sym (found_quiet _ _ _ _ _ (quiet _ _ _ _ c.before.is-loud.ensures c.before.before.at.ensures ∙ not-true _ c.if1.true))
 
 is-extremum-requires : tie.Need-is-extremum-requires
 is-extremum-requires c κs = search rules
@@ -31,12 +31,12 @@ refine-requires c κs = search rules
 returns-2 : tie.Need-returns-2
 returns-2 c =
     let l = quiet _ _ _ _ c.before.before.before.before.is-loud.ensures c.before.before.before.before.before.at.ensures ∙ not-false _ c.before.before.before.if1.false in
-    ap kept c.refine.ensures ∙ sym (found-yes _ _ _ _ _ l (sym c.before.before.is-extremum.ensures ∙ c.before.if2.true))
+    ap kept c.refine.ensures ∙ sym (found_yes _ _ _ _ _ l (sym c.before.before.is-extremum.ensures ∙ c.before.if2.true))
 
 returns-3 : tie.Need-returns-3
 returns-3 c =
     let l = quiet _ _ _ _ c.before.before.before.is-loud.ensures c.before.before.before.before.at.ensures ∙ not-false _ c.before.before.if1.false in
-    sym (found-no _ _ _ _ _ l (sym c.before.is-extremum.ensures ∙ c.if2.false))
+    sym (found_no _ _ _ _ _ l (sym c.before.is-extremum.ensures ∙ c.if2.false))
 
 pub cell-spec : {M : Type 1} → statement M
 cell-spec =

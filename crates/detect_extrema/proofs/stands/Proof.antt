@@ -5,16 +5,16 @@ use native.Mathlib.Omega.{arith}
 use borrow.Author.Rules.{rules}
 use borrow.Author.Tests.{not-true, not-false}
 use Rattle.lists.specs.Ranges.{every}
-use Rattle.lists.proofs.Every.{every-none, every_more, every-stop}
+use Rattle.lists.proofs.Every.{every_none, every_more, every_stop}
 use Rattle.picture.specs.Stack.{sample}
-use Rattle.detect_extrema.specs.Neighbours.{tied, keepsOver, passes, isExtremum}
+use Rattle.detect_extrema.specs.Neighbours.{tied, keeps_over, passes, is_extremum}
 use lib.ListN.{length}
 use lib.Ieee.{Float}
 use Rattle.ieee.specs.F32.{◌<ᶠ◌}
 use Rattle.ieee.specs.Numbers.{nought}
 use Rattle.picture.proofs.Index.{Index}
-use Rattle.detect_extrema.proofs.Near.{along, corner-index, plane-below, near-below, near-sample}
-use Rattle.detect_extrema.proofs.Cells.{pass-centre, pass_kept, pass-none, kept-as}
+use Rattle.detect_extrema.proofs.Near.{along, corner_index, plane_below, near_below, near_sample}
+use Rattle.detect_extrema.proofs.Cells.{pass_centre, pass_kept, pass_none, kept_as}
 use Rattle.detect_extrema.proofs.stands.Statement.{statement}
 use Rattle.detect_extrema.proofs.stands.Tie as tie
 
@@ -47,16 +47,16 @@ abbrev Start : Type 0
 Start = tie.Start invariant-loop2 decreases-loop2 invariant-loop decreases-loop invariant-nb decreases-nb
 
 edge : (c : Start) → let a = c.args in Index (length a.dog.now) a.t.width a.t.height (a.p - 1) (a.r - 1) (a.c - 1)
-edge c = corner-index c.requires.0
+edge c = corner_index c.requires.0
 
 -- the neighbour that is read lies in the list
 reach : (c : Else1) →
     let a = c.before.before.before.before.before.before.before.before.before.before.before.before.before.args in
     along a.t.width a.t.height (a.p - 1) (a.r - 1) (a.c - 1) c.before.before.before.before.before.before.before.nb.i c.before.before.before.before.before.loop.j c.before.before.before.loop2.k < length a.dog.now
-reach c = near-below c.before.before.before.before.before.before.before.before.before.before.before.before.before.requires.0 _ _ _ c.before.before.before.before.before.before.nb-test.true c.before.before.before.before.loop-test.true c.before.before.loop2-test.true
+reach c = near_below c.before.before.before.before.before.before.before.before.before.before.before.before.before.requires.0 _ _ _ c.before.before.before.before.before.before.nb-test.true c.before.before.before.before.loop-test.true c.before.before.loop2-test.true
 
 mul-plane : tie.Need-overflow-mul-plane invariant-loop2 decreases-loop2 invariant-loop decreases-loop invariant-nb decreases-nb
-mul-plane c = omega (arith, plane-below c.before.before.requires.0)
+mul-plane c = omega (arith, plane_below c.before.before.requires.0)
 
 sub-first : tie.Need-overflow-sub-first invariant-loop2 decreases-loop2 invariant-loop decreases-loop invariant-nb decreases-nb
 sub-first c = search rules
@@ -83,13 +83,13 @@ at-requires : tie.Need-at-requires invariant-loop2 decreases-loop2 invariant-loo
 at-requires c κs = search rules
 
 nb-holds : tie.Need-nb-init invariant-loop2 decreases-loop2 invariant-loop decreases-loop invariant-nb decreases-nb
-nb-holds c = (omega arith, refl, every-none _)
+nb-holds c = (omega arith, refl, every_none _)
 
 loop-holds : tie.Need-loop-init invariant-loop2 decreases-loop2 invariant-loop decreases-loop invariant-nb decreases-nb
-loop-holds c = (omega arith, c.before.nb.invariant.1, every-none _)
+loop-holds c = (omega arith, c.before.nb.invariant.1, every_none _)
 
 loop2-holds : tie.Need-loop2-init invariant-loop2 decreases-loop2 invariant-loop decreases-loop invariant-nb decreases-nb
-loop2-holds c = (omega arith, c.before.loop.invariant.1, every-none _)
+loop2-holds c = (omega arith, c.before.loop.invariant.1, every_none _)
 
 is-centre-requires : tie.Need-is-centre-requires invariant-loop2 decreases-loop2 invariant-loop decreases-loop invariant-nb decreases-nb
 is-centre-requires c κs = search rules
@@ -104,7 +104,7 @@ loop2-again : tie.Need-loop2-preserved invariant-loop2 decreases-loop2 invariant
 loop2-again c =
     let l = c.before.before.before.loop2 in
     let e = sym c.before.is-centre.ensures ∙ c.if1.true in
-    (omega arith, l.invariant.1, every_more _ _ l.invariant.2 (pass-centre _ _ _ _ _ _ _ _ e))
+    (omega arith, l.invariant.1, every_more _ _ l.invariant.2 (pass_centre _ _ _ _ _ _ _ _ e))
 
 mul-other : tie.Need-overflow-mul-other invariant-loop2 decreases-loop2 invariant-loop decreases-loop invariant-nb decreases-nb
 mul-other c = omega (arith, reach c)
@@ -124,9 +124,9 @@ add-other-3 c = omega (arith, reach c.before)
 mul-other-3 : tie.Need-overflow-mul-other-3 invariant-loop2 decreases-loop2 invariant-loop decreases-loop invariant-nb decreases-nb
 mul-other-3 c = omega (arith, reach c.before, c.before.before.before.before.before.before.before.before.before.before.before.before.before.before.well-formed)
 
-shared-slice-read-other :
+shared_slice_read_other :
     tie.Need-shared-slice-read-other invariant-loop2 decreases-loop2 invariant-loop decreases-loop invariant-nb decreases-nb
-shared-slice-read-other c = reach c.before.before
+shared_slice_read_other c = reach c.before.before
 
 keeps-requires : tie.Need-keeps-requires invariant-loop2 decreases-loop2 invariant-loop decreases-loop invariant-nb decreases-nb
 keeps-requires c κs = search rules
@@ -140,13 +140,13 @@ loop2-less-2 c = search rules
 -- what the code found of the neighbour is what the definition compares
 compared : (c : tie.After-keeps invariant-loop2 decreases-loop2 invariant-loop decreases-loop invariant-nb decreases-nb) →
     let a = c.before.before.before.before.before.before.before.before.before.before.before.before.before.before.before.before.args in
-    keepsOver tied (sample a.dog.now a.t a.p a.r a.c)
+    keeps_over tied (sample a.dog.now a.t a.p a.r a.c)
     (sample a.dog.now a.t (a.p + c.before.before.before.before.before.before.before.before.before.before.nb.i - 1) (a.r + c.before.before.before.before.before.before.before.before.loop.j - 1) (a.c + c.before.before.before.before.before.before.loop2.k - 1)) ≡ c.keeps.result
 compared c =
     let q = c.before.before.before.before.before.before.before.before.before.before.before.before.before.before.before.before.requires in
     let v = c.before.before.before.before.before.before.before.before.before.before.before.at.ensures in
-    kept-as _ _ _ _ _ _ c.keeps.ensures
-    (near-sample _ _ _ _ _ _ _ _ q.0 c.before.before.before.before.before.before.before.before.before.nb-test.true c.before.before.before.before.before.before.before.loop-test.true c.before.before.before.before.before.loop2-test.true)
+    kept_as _ _ _ _ _ _ c.keeps.ensures
+    (near_sample _ _ _ _ _ _ _ _ q.0 c.before.before.before.before.before.before.before.before.before.nb-test.true c.before.before.before.before.before.before.before.loop-test.true c.before.before.before.before.before.loop2-test.true)
     v (q.1 ∙ ap (λ (x : Float). nought <ᶠ x) (sym v))
 
 loop2-again-2 : tie.Need-loop2-preserved-2 invariant-loop2 decreases-loop2 invariant-loop decreases-loop invariant-nb decreases-nb
@@ -179,19 +179,19 @@ nb-again c =
     (omega arith, c.before.loop.invariant.1, every_more _ _ l.invariant.2 (rw e at c.before.loop.invariant.2))
 
 returns : tie.Need-returns invariant-loop2 decreases-loop2 invariant-loop decreases-loop invariant-nb decreases-nb
-unfolding isExtremum
+unfolding is_extremum
 returns c =
     let e : c.before.nb.i ≡ 3 = omega arith in
     c.before.nb.invariant.1 ∙ sym (rw e at c.before.nb.invariant.2)
 
 returns-2 : tie.Need-returns-2 invariant-loop2 decreases-loop2 invariant-loop decreases-loop invariant-nb decreases-nb
-unfolding isExtremum
+unfolding is_extremum
 returns-2 c =
     sym
-    (every-stop 3 _ _ c.before.before.before.before.before.before.before.before.before.before.nb-test.true
-    (every-stop 3 _ _ c.before.before.before.before.before.before.before.before.loop-test.true
-    (every-stop 3 _ _ c.before.before.before.before.before.before.loop2-test.true
-    (pass-none _ _ _ _ _ _ _ _ (sym c.before.before.before.before.before.is-centre.ensures ∙ c.before.before.before.before.if1.false) (compared c.before ∙ not-true _ c.if2.true)))))
+    (every_stop 3 _ _ c.before.before.before.before.before.before.before.before.before.before.nb-test.true
+    (every_stop 3 _ _ c.before.before.before.before.before.before.before.before.loop-test.true
+    (every_stop 3 _ _ c.before.before.before.before.before.before.loop2-test.true
+    (pass_none _ _ _ _ _ _ _ _ (sym c.before.before.before.before.before.is-centre.ensures ∙ c.before.before.before.before.if1.false) (compared c.before ∙ not-true _ c.if2.true)))))
 
 pub stands-spec : {M : Type 1} → statement M
 stands-spec =
@@ -225,7 +225,7 @@ stands-spec =
     add-other-2
     add-other-3
     mul-other-3
-    shared-slice-read-other
+    shared_slice_read_other
     keeps-requires
     add-k-2
     loop2-less-2

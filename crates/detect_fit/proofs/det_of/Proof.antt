@@ -1,5 +1,5 @@
 use mathlib.Core.Path.{◌∙◌}
-use Rattle.detect_fit.specs.Fit.{detOf, outer}
+use Rattle.detect_fit.specs.Fit.{det_of, outer}
 use borrow.Author.Rules.{rules}
 use Rattle.detect_fit.proofs.det_of.Statement.{statement}
 use Rattle.detect_fit.proofs.det_of.Tie as tie
@@ -21,7 +21,7 @@ outer3-requires : tie.Need-outer3-requires
 outer3-requires c κs = search rules
 
 returns : tie.Need-returns
-unfolding detOf
+unfolding det_of
 returns c =
     let h = c.before.before.before.before.args.h in
     c.outer3.ensures ∙ (λ i. outer h.xx (c.before.before.before.mul-sub.ensures i) h.xy (c.before.before.mul-sub2.ensures i) h.xs (c.before.mul-sub3.ensures i))

@@ -1,4 +1,4 @@
-use Rattle.detect_fit.specs.Fit.{mulSub}
+use Rattle.detect_fit.specs.Fit.{mul_sub}
 use borrow.Author.Rules.{rules}
 use Rattle.detect_fit.proofs.mul_sub.Statement.{statement}
 use Rattle.detect_fit.proofs.mul_sub.Tie as tie
@@ -10,7 +10,7 @@ mul-add-requires : tie.Need-mul-add-requires
 mul-add-requires c κs = search rules
 
 returns : tie.Need-returns
-unfolding mulSub
+unfolding mul_sub
 returns c = c.mul-add.ensures.0
 
 pub mul-sub-spec : {M : Type 1} → statement M

@@ -1,4 +1,4 @@
-use Rattle.detect_fit.specs.Place.{nearOf}
+use Rattle.detect_fit.specs.Place.{near_of}
 use borrow.Author.Rules.{rules}
 use Rattle.detect_fit.proofs.near_at.Statement.{statement}
 use Rattle.detect_fit.proofs.near_at.Tie as tie
@@ -34,7 +34,7 @@ at-requires-5 : tie.Need-at-requires-5
 at-requires-5 c κs = search rules
 
 returns : tie.Need-returns
-unfolding nearOf
+unfolding near_of
 returns c =
     λ i. record {
       m = c.before.before.before.before.at.ensures i;

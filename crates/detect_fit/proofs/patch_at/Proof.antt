@@ -1,6 +1,6 @@
 use native.Mathlib.Omega.{arith}
 use Rattle.detect_fit.specs.Fit.{patch_of}
-use Rattle.detect_fit.specs.Place.{nearOf}
+use Rattle.detect_fit.specs.Place.{near_of}
 use borrow.Author.Rules.{rules}
 use Rattle.detect_fit.proofs.patch_at.Statement.{statement}
 use Rattle.detect_fit.proofs.patch_at.Tie as tie
@@ -61,7 +61,7 @@ at-requires-4 : tie.Need-at-requires-4
 at-requires-4 c κs = omega (arith, c.before.before.before.before.before.before.before)
 
 returns : tie.Need-returns
-unfolding patch_of nearOf
+unfolding patch_of near_of
 returns c =
     λ i. record {
       im = (c.before.before.before.before.before.before.near-at.ensures i).m;

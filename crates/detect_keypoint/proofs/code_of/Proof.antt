@@ -1,5 +1,5 @@
 use Rattle.std.proofs.Common.{arith, rules}
-use Rattle.detect_keypoint.proofs.Codes.{code-above, code_below, code_is}
+use Rattle.detect_keypoint.proofs.Codes.{code_above, code_below, code_is}
 use Rattle.detect_keypoint.proofs.code_of.Statement.{statement}
 use Rattle.detect_keypoint.proofs.code_of.Tie as tie
 use Rattle.detect_keypoint.proofs.code_of.Reads as reads
@@ -12,7 +12,7 @@ round-ties-even-requires c κs = search rules
 
 truncating-f32-to-u64-requires : tie.Need-truncating-f32-to-u64-requires
 truncating-f32-to-u64-requires c κs =
-    rw c.round_ties_even.ensures (code-above c.before.args.xi c.before.requires, code_below c.before.args.xi c.before.requires)
+    rw c.round_ties_even.ensures (code_above c.before.args.xi c.before.requires, code_below c.before.args.xi c.before.requires)
 
 cast-result : tie.Need-overflow-cast-result
 cast-result c =

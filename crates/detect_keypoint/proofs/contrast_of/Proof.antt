@@ -1,4 +1,4 @@
-use Rattle.detect_keypoint.specs.Keypoint.{contrastOf}
+use Rattle.detect_keypoint.specs.Keypoint.{contrast_of}
 use Rattle.std.proofs.Common.{rules}
 use Rattle.detect_keypoint.proofs.contrast_of.Statement.{statement}
 use Rattle.detect_keypoint.proofs.contrast_of.Tie as tie
@@ -20,7 +20,7 @@ mul-add-requires-3 : tie.Need-mul-add-requires-3
 mul-add-requires-3 c κs = search rules
 
 returns : tie.Need-returns
-unfolding contrastOf
+unfolding contrast_of
 returns c =
     rw (c.mul-add3.ensures.0, c.before.mul-add2.ensures.0, c.before.before.mul-add.ensures.0, c.before.before.before.before.before.gradient-of.ensures)
 

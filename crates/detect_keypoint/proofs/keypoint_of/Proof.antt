@@ -1,10 +1,10 @@
 use Rattle.std.proofs.Common.{sym, ap, ◌∙◌, arith, rules}
 use Rattle.ieee.specs.F32.{◌⊕◌, ◌⊗◌, ◌⊘◌}
 use Rattle.ieee.specs.Numbers.{two}
-use Rattle.hal.specs.Exp.{exp2Of}
-use Rattle.detect_keypoint.specs.Keypoint.{octaveWord, keypointWith}
-use Rattle.detect_keypoint.proofs.Codes.{word-is}
-use Rattle.detect_keypoint.proofs.Offsets.{small-xi}
+use Rattle.hal.specs.Exp.{exp2_of}
+use Rattle.detect_keypoint.specs.Keypoint.{octave_word, keypoint_with}
+use Rattle.detect_keypoint.proofs.Codes.{word_is}
+use Rattle.detect_keypoint.proofs.Offsets.{small_xi}
 use Rattle.detect_keypoint.proofs.keypoint_of.Statement.{statement}
 use Rattle.detect_keypoint.proofs.keypoint_of.Tie as tie
 use Rattle.detect_keypoint.proofs.keypoint_of.Reads as reads
@@ -46,7 +46,7 @@ add-t20 : tie.Need-overflow-add-t20
 add-t20 c = search rules
 
 code-of-requires : tie.Need-code-of-requires
-code-of-requires c κs = small-xi _ c.before.before.before.before.before.before.before.before.before.before.before.before.requires.1
+code-of-requires c κs = small_xi _ c.before.before.before.before.before.before.before.before.before.before.before.before.requires.1
 
 mul-t22 : tie.Need-overflow-mul-t22
 mul-t22 c = search rules
@@ -64,7 +64,7 @@ cast-t26 : tie.Need-overflow-cast-t26
 cast-t26 c = search rules
 
 returns : tie.Need-returns
-unfolding keypointWith
+unfolding keypoint_with
 returns c =
     let k = c.before.before.before in
     let n = k.before.before.before in
@@ -75,8 +75,8 @@ returns c =
     let b = p.before.before in
     let a = b.args in
     let scale = p.before.scale_of.ensures in
-    let power = x.before.exp2.ensures ∙ (λ i. exp2Of ((p.float.ensures i ⊕ a.o.xi) ⊘ l.float2.ensures i)) in
-    let word = sym (word-is a.s.octave a.k.p k.code_of_lem.result b.requires.0.0 b.requires.0.2 k.code_of_lem.ensures.1) ∙ ap (octaveWord a.s.octave a.k.p) k.code_of_lem.ensures.0 in
+    let power = x.before.exp2.ensures ∙ (λ i. exp2_of ((p.float.ensures i ⊕ a.o.xi) ⊘ l.float2.ensures i)) in
+    let word = sym (word_is a.s.octave a.k.p k.code_of_lem.result b.requires.0.0 b.requires.0.2 k.code_of_lem.ensures.1) ∙ ap (octave_word a.s.octave a.k.p) k.code_of_lem.ensures.0 in
     λ i. record {
       x = (x.float3.ensures i ⊕ a.o.xc) ⊗ scale i;
       y = (y.float4.ensures i ⊕ a.o.xr) ⊗ scale i;

@@ -2,20 +2,20 @@ use Prim.Native.Nat.{◌≤◌, ◌-◌}
 use mathlib.Core.Path.{◌≡◌, refl}
 use native.Mathlib.Omega.{arith}
 use borrow.Author.Rules.{rules}
-use Rattle.detect_look.specs.Hints.{anyHint}
-use Rattle.detect_look.proofs.Looks.{hint-none, hint-more}
+use Rattle.detect_look.specs.Hints.{any_hint}
+use Rattle.detect_look.proofs.Looks.{hint_none, hint_more}
 use Rattle.detect_look.proofs.any_hint.Statement.{statement}
 use Rattle.detect_look.proofs.any_hint.Tie as tie
 
 abbrev invariant-loop : tie.invariant-loop
-invariant-loop dog t s u any₀ c₀ c-end any c =
-    (u.lo ≤ c) × (c ≤ u.hi) × (c-end ≡ u.hi) × (any ≡ anyHint dog t s u.row u.lo c)
+invariant-loop dog t s u any₀ c₀ c_end any c =
+    (u.lo ≤ c) × (c ≤ u.hi) × (c_end ≡ u.hi) × (any ≡ any_hint dog t s u.row u.lo c)
 
 abbrev decreases-loop : tie.decreases-loop
-decreases-loop dog t s u any₀ c₀ c-end any c = u.hi - c
+decreases-loop dog t s u any₀ c₀ c_end any c = u.hi - c
 
 loop-holds : tie.Need-loop-init invariant-loop decreases-loop
-loop-holds c = (omega arith, omega arith, refl, hint-none _ _ _ _ _)
+loop-holds c = (omega arith, omega arith, refl, hint_none _ _ _ _ _)
 
 may-be-requires : tie.Need-may-be-requires invariant-loop decreases-loop
 may-be-requires c κs = search rules
@@ -29,7 +29,7 @@ loop-less c = search rules
 loop-again : tie.Need-loop-preserved invariant-loop decreases-loop
 loop-again c =
     let l = c.before.before.loop in
-    (omega arith, omega arith, refl, hint-more _ _ _ _ _ l.c _ _ l.invariant.0 l.invariant.3 c.may-be.ensures)
+    (omega arith, omega arith, refl, hint_more _ _ _ _ _ l.c _ _ l.invariant.0 l.invariant.3 c.may-be.ensures)
 
 returns : tie.Need-returns invariant-loop decreases-loop
 returns c =

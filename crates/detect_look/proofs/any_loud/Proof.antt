@@ -2,20 +2,20 @@ use Prim.Native.Nat.{◌≤◌, ◌-◌}
 use mathlib.Core.Path.{◌≡◌, refl, ap, ◌∙◌}
 use native.Mathlib.Omega.{arith}
 use borrow.Author.Rules.{rules}
-use Rattle.detect_look.specs.Hints.{beyond, anyLoud}
-use Rattle.detect_look.proofs.Looks.{loud-none, loud-more}
+use Rattle.detect_look.specs.Hints.{beyond, any_loud}
+use Rattle.detect_look.proofs.Looks.{loud_none, loud_more}
 use Rattle.detect_look.proofs.any_loud.Statement.{statement}
 use Rattle.detect_look.proofs.any_loud.Tie as tie
 
 abbrev invariant-loop : tie.invariant-loop
-invariant-loop dog t s u any₀ c₀ c-end any c =
-    (u.lo ≤ c) × (c ≤ u.hi) × (c-end ≡ u.hi) × (any ≡ anyLoud dog t s u.row u.lo c)
+invariant-loop dog t s u any₀ c₀ c_end any c =
+    (u.lo ≤ c) × (c ≤ u.hi) × (c_end ≡ u.hi) × (any ≡ any_loud dog t s u.row u.lo c)
 
 abbrev decreases-loop : tie.decreases-loop
-decreases-loop dog t s u any₀ c₀ c-end any c = u.hi - c
+decreases-loop dog t s u any₀ c₀ c_end any c = u.hi - c
 
 loop-holds : tie.Need-loop-init invariant-loop decreases-loop
-loop-holds c = (omega arith, omega arith, refl, loud-none _ _ _ _ _)
+loop-holds c = (omega arith, omega arith, refl, loud_none _ _ _ _ _)
 
 at-requires : tie.Need-at-requires invariant-loop decreases-loop
 at-requires c κs = search rules
@@ -32,7 +32,7 @@ loop-less c = search rules
 loop-again : tie.Need-loop-preserved invariant-loop decreases-loop
 loop-again c =
     let l = c.before.before.before.loop in
-    (omega arith, omega arith, refl, loud-more _ _ _ _ _ l.c _ _ l.invariant.0 l.invariant.3 (c.is-beyond.ensures ∙ ap (beyond _) c.before.at.ensures))
+    (omega arith, omega arith, refl, loud_more _ _ _ _ _ l.c _ _ l.invariant.0 l.invariant.3 (c.is-beyond.ensures ∙ ap (beyond _) c.before.at.ensures))
 
 returns : tie.Need-returns invariant-loop decreases-loop
 returns c =

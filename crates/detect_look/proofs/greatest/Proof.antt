@@ -1,5 +1,5 @@
 use mathlib.Core.Path.{◌∙◌}
-use Rattle.detect_look.specs.Hints.{ofSix, greater_of}
+use Rattle.detect_look.specs.Hints.{of_six, greater_of}
 use borrow.Author.Rules.{rules}
 use Rattle.detect_look.proofs.greatest.Statement.{statement}
 use Rattle.detect_look.proofs.greatest.Tie as tie
@@ -23,7 +23,7 @@ greater-requires-5 : tie.Need-greater-requires-5
 greater-requires-5 c κs = search rules
 
 returns : tie.Need-returns
-unfolding ofSix
+unfolding of_six
 returns c =
     let planes = c.before.greater4.ensures ∙ (λ i. greater_of (c.before.before.before.greater2.ensures i) (c.before.before.greater3.ensures i)) in
     c.greater5.ensures ∙ (λ i. greater_of (c.before.before.before.before.greater.ensures i) (planes i))

@@ -4,19 +4,19 @@ use native.Mathlib.Omega.{arith}
 use borrow.Author.Rules.{rules}
 use lib.ListN.{length}
 use Rattle.detect_look.specs.Hints.{hinted}
-use Rattle.detect_look.proofs.Counted.{hinted-none, hinted-more, hinted-bound, one-few}
+use Rattle.detect_look.proofs.Counted.{hinted_none, hinted_more, hinted_bound, one_few}
 use Rattle.detect_look.proofs.hint_count.Statement.{statement}
 use Rattle.detect_look.proofs.hint_count.Tie as tie
 
 abbrev invariant-loop : tie.invariant-loop
-invariant-loop dog t s u n₀ c₀ c-end n c =
-    (u.lo ≤ c) × (c ≤ u.hi) × (c-end ≡ u.hi) × (n ≡ length (hinted dog t s u.row u.lo c))
+invariant-loop dog t s u n₀ c₀ c_end n c =
+    (u.lo ≤ c) × (c ≤ u.hi) × (c_end ≡ u.hi) × (n ≡ length (hinted dog t s u.row u.lo c))
 
 abbrev decreases-loop : tie.decreases-loop
-decreases-loop dog t s u n₀ c₀ c-end n c = u.hi - c
+decreases-loop dog t s u n₀ c₀ c_end n c = u.hi - c
 
 loop-holds : tie.Need-loop-init invariant-loop decreases-loop
-loop-holds c = (omega arith, omega arith, refl, hinted-none _ _ _ _ _)
+loop-holds c = (omega arith, omega arith, refl, hinted_none _ _ _ _ _)
 
 may-be-requires : tie.Need-may-be-requires invariant-loop decreases-loop
 may-be-requires c κs = search rules
@@ -28,7 +28,7 @@ add-n : tie.Need-overflow-add-n invariant-loop decreases-loop
 add-n c =
     let l = c.before.before.before.loop in
     let a = c.before.before.before.before.before.args in
-    omega (arith, hinted-bound a.dog.now a.t a.s a.u.row a.u.lo l.c, one-few c.before.may-be.result _ c.one-if.ensures)
+    omega (arith, hinted_bound a.dog.now a.t a.s a.u.row a.u.lo l.c, one_few c.before.may-be.result _ c.one-if.ensures)
 
 add-c : tie.Need-overflow-add-c invariant-loop decreases-loop
 add-c c = search rules
@@ -39,7 +39,7 @@ loop-less c = search rules
 loop-again : tie.Need-loop-preserved invariant-loop decreases-loop
 loop-again c =
     let l = c.before.before.before.loop in
-    (omega arith, omega arith, refl, hinted-more _ _ _ _ _ l.c _ _ _ l.invariant.0 l.invariant.3 c.one-if.ensures c.before.may-be.ensures)
+    (omega arith, omega arith, refl, hinted_more _ _ _ _ _ l.c _ _ _ l.invariant.0 l.invariant.3 c.one-if.ensures c.before.may-be.ensures)
 
 returns : tie.Need-returns invariant-loop decreases-loop
 returns c =

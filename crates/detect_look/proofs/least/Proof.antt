@@ -1,5 +1,5 @@
 use mathlib.Core.Path.{◌∙◌}
-use Rattle.detect_look.specs.Hints.{ofSix, lesserOf}
+use Rattle.detect_look.specs.Hints.{of_six, lesser_of}
 use borrow.Author.Rules.{rules}
 use Rattle.detect_look.proofs.least.Statement.{statement}
 use Rattle.detect_look.proofs.least.Tie as tie
@@ -23,10 +23,10 @@ lesser-requires-5 : tie.Need-lesser-requires-5
 lesser-requires-5 c κs = search rules
 
 returns : tie.Need-returns
-unfolding ofSix
+unfolding of_six
 returns c =
-    let planes = c.before.lesser4.ensures ∙ (λ i. lesserOf (c.before.before.before.lesser2.ensures i) (c.before.before.lesser3.ensures i)) in
-    c.lesser5.ensures ∙ (λ i. lesserOf (c.before.before.before.before.lesser.ensures i) (planes i))
+    let planes = c.before.lesser4.ensures ∙ (λ i. lesser_of (c.before.before.before.lesser2.ensures i) (c.before.before.lesser3.ensures i)) in
+    c.lesser5.ensures ∙ (λ i. lesser_of (c.before.before.before.before.lesser.ensures i) (planes i))
 
 pub least-spec : {M : Type 1} → statement M
 least-spec =

@@ -1,13 +1,13 @@
-use Rattle.detect_look.specs.Hints.{lesserOf}
+use Rattle.detect_look.specs.Hints.{lesser_of}
 use Rattle.detect_look.proofs.lesser.Statement.{statement}
 use Rattle.detect_look.proofs.lesser.Tie as tie
 
 returns : tie.Need-returns
-unfolding lesserOf
+unfolding lesser_of
 returns c = rw c.if1.true
 
 returns-2 : tie.Need-returns-2
-unfolding lesserOf
+unfolding lesser_of
 returns-2 c = rw c.if1.false
 
 pub lesser-spec : {M : Type 1} → statement M

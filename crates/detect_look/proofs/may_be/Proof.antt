@@ -2,8 +2,8 @@ use mathlib.Core.Path.{◌∙◌}
 use mathlib.Core.Bool.{◌&&◌, ◌||◌}
 use lib.Ieee.{neg}
 use Rattle.ieee.specs.F32.{◌<ᶠ◌, ◌≤ᶠ◌}
-use Rattle.detect_fit.specs.Place.{nearOf}
-use Rattle.detect_look.specs.Hints.{greater_of, lesserOf, ofSix, ofNear, hintAt}
+use Rattle.detect_fit.specs.Place.{near_of}
+use Rattle.detect_look.specs.Hints.{greater_of, lesser_of, of_six, of_near, hint_at}
 use borrow.Author.Rules.{rules}
 use Rattle.detect_look.proofs.may_be.Statement.{statement}
 use Rattle.detect_look.proofs.may_be.Tie as tie
@@ -36,14 +36,14 @@ least-requires : tie.Need-least-requires
 least-requires c κs = search rules
 
 returns : tie.Need-returns
-unfolding nearOf ofNear ofSix hintAt
+unfolding near_of of_near of_six hint_at
 returns c =
     let h = c.before.before.before.before.before.before.args.threshold in
     let near = c.before.before.before.before.near-at.ensures in
     let before = c.before.before.before.at.ensures in
     let after = c.before.before.at2.ensures in
-    let hi = c.before.greatest.ensures ∙ (λ i. ofSix greater_of (near i) (before i) (after i)) in
-    let lo = c.least.ensures ∙ (λ i. ofSix lesserOf (near i) (before i) (after i)) in
+    let hi = c.before.greatest.ensures ∙ (λ i. of_six greater_of (near i) (before i) (after i)) in
+    let lo = c.least.ensures ∙ (λ i. of_six lesser_of (near i) (before i) (after i)) in
     λ i. ((h <ᶠ (near i).m) && (hi i ≤ᶠ (near i).m)) || (((near i).m <ᶠ neg h) && ((near i).m ≤ᶠ lo i))
 
 pub may-be-spec : {M : Type 1} → statement M

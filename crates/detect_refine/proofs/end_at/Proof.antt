@@ -1,4 +1,4 @@
-use Rattle.detect_keypoint.specs.Keypoint.{keypointOf}
+use Rattle.detect_keypoint.specs.Keypoint.{keypoint_of}
 use Rattle.detect_refine.specs.Settle.{ended}
 use borrow.Author.Rules.{rules}
 use Rattle.detect_refine.proofs.end_at.Statement.{statement}
@@ -36,7 +36,7 @@ keypoint-of-requires : tie.Need-keypoint-of-requires
 keypoint-of-requires c κs = search rules
 
 returns-3 : tie.Need-returns-3
-unfolding ended keypointOf
+unfolding ended keypoint_of
 returns-3 c =
     let k = c.before.before.before.before.before.before.contrast-of.ensures in
     rw (← k, ← c.before.before.before.before.before.is-dim.ensures, c.before.before.before.before.if1.false, ← c.before.before.before.is-edgy.ensures, c.before.before.if2.false, ← c.before.abs.ensures, ← c.keypoint-of.ensures)

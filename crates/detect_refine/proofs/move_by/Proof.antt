@@ -6,7 +6,7 @@ use lib.Signed.{mag}
 use mir.Syntax.{w32, w64}
 use mir.Val.{SFits, to_z, of_z}
 use mir.ValLaws.{to_z_pos, to_z-of_z}
-use Rattle.params.specs.Limits.{maxSide}
+use Rattle.params.specs.Limits.{max_side}
 use Rattle.detect_refine.proofs.Places.{mag_sum}
 use Rattle.detect_refine.specs.Moves.{moved}
 use borrow.Author.Rules.{rules}
@@ -30,7 +30,7 @@ wider z h = let k : mag z < 2 ^ 31 = h.sfits in record { sfits = omega arith }
 moves : (z : ℤ) → SFits w32 z → to_z w64 (of_z w64 (to_z w32 (of_z w32 z))) ≡ z
 moves z h = ap (λ (y : ℤ). to_z w64 (of_z w64 y)) (to_z-of_z w32 z h) ∙ to_z-of_z w64 z (wider z h)
 
-sums : (v : ℕ) (z : ℤ) → v ≤ maxSide → SFits w32 z → SFits w64 (pos v +ℤ z)
+sums : (v : ℕ) (z : ℤ) → v ≤ max_side → SFits w32 z → SFits w64 (pos v +ℤ z)
 sums v z h k = record { sfits = mag_sum v z h k.sfits }
 
 cast-place-2 : tie.Need-overflow-cast-place-2

@@ -2,11 +2,11 @@ use Prim.Native.Nat.{◌≤◌, ◌-◌}
 use mathlib.Core.Path.{◌≡◌, refl, sym, ◌∙◌}
 use native.Mathlib.Omega.{arith}
 use borrow.Author.Rules.{rules}
-use Rattle.params.specs.Limits.{maxMoves}
-use Rattle.detect_refine.specs.Settle.{settleFrom, refineOf}
+use Rattle.params.specs.Limits.{max_moves}
+use Rattle.detect_refine.specs.Settle.{settle_from, refine_of}
 use Rattle.detect_refine.specs.Place.{Placed}
-use Rattle.detect_refine.proofs.Steps.{step-stay, step-go}
-use Rattle.detect_refine.proofs.Settled.{settle-lost, settle-stay, settle-go, settle-none}
+use Rattle.detect_refine.proofs.Steps.{step_stay, step_go}
+use Rattle.detect_refine.proofs.Settled.{settle_lost, settle_stay, settle_go, settle_none}
 use Rattle.detect_refine.proofs.refine.Statement.{statement}
 use Rattle.detect_refine.proofs.refine.Tie as tie
 use Rattle.detect_refine.proofs.refine.Reads as reads
@@ -17,13 +17,13 @@ use Rattle.detect_refine.proofs.step_of.Reads as step-of-reads
 
 abbrev invariant-loop : tie.invariant-loop
 invariant-loop dog t s layers at₀ moves₀ at moves =
-    (moves ≤ maxMoves) × Placed t s.settings.layers at × (settleFrom dog t s (maxMoves - moves) moves at ≡ refineOf dog t s at₀)
+    (moves ≤ max_moves) × Placed t s.settings.layers at × (settle_from dog t s (max_moves - moves) moves at ≡ refine_of dog t s at₀)
 
 abbrev decreases-loop : tie.decreases-loop
-decreases-loop dog t s layers at₀ moves₀ at moves = maxMoves - moves
+decreases-loop dog t s layers at₀ moves₀ at moves = max_moves - moves
 
 loop-holds : tie.Need-loop-init invariant-loop decreases-loop
-unfolding refineOf
+unfolding refine_of
 loop-holds c = (omega arith, c.before.requires.1, refl)
 
 patch-at-requires : tie.Need-patch-at-requires invariant-loop decreases-loop
@@ -37,7 +37,7 @@ enum_told c = search rules
 
 returns : tie.Need-returns invariant-loop decreases-loop
 returns c =
-    sym (settle-lost _ _ _ _ _ (omega arith) _ _ c.before.before.step_of_lem.ensures c.before.before.before.patch-at.ensures c.enum_told.given.1)
+    sym (settle_lost _ _ _ _ _ (omega arith) _ _ c.before.before.step_of_lem.ensures c.before.before.before.patch-at.ensures c.enum_told.given.1)
     ∙ c.before.before.before.before.before.loop.invariant.2
 
 enum-known-o : tie.Need-enum-known-o invariant-loop decreases-loop
@@ -45,12 +45,12 @@ enum-known-o c = search rules
 
 end-at-requires : tie.Need-end-at-requires invariant-loop decreases-loop
 end-at-requires c κs =
-    (search rules, step-stay _ _ _ _ _ (sym c.before.before.before.step_of_lem.ensures ∙ c.before.o.given.1))
+    (search rules, step_stay _ _ _ _ _ (sym c.before.before.before.step_of_lem.ensures ∙ c.before.o.given.1))
 
 returns-2 : tie.Need-returns-2 invariant-loop decreases-loop
 returns-2 c =
     c.end-at.ensures
-    ∙ sym (settle-stay _ _ _ _ _ (omega arith) _ _ c.before.before.before.before.step_of_lem.ensures c.before.before.before.before.before.patch-at.ensures _ c.before.before.o.given.1)
+    ∙ sym (settle_stay _ _ _ _ _ (omega arith) _ _ c.before.before.before.before.step_of_lem.ensures c.before.before.before.before.before.patch-at.ensures _ c.before.before.o.given.1)
     ∙ c.before.before.before.before.before.before.before.loop.invariant.2
 
 enum-known-next : tie.Need-enum-known-next invariant-loop decreases-loop
@@ -67,13 +67,13 @@ loop-again c =
     let e = c.before.next.given.1 in
     let is = c.before.before.before.step_of_lem.ensures in (
       omega arith,
-      step-go _ _ _ _ _ (sym is ∙ e),
-      sym (settle-go _ _ _ _ _ (omega arith) _ _ is c.before.before.before.before.patch-at.ensures _ e)
+      step_go _ _ _ _ _ (sym is ∙ e),
+      sym (settle_go _ _ _ _ _ (omega arith) _ _ is c.before.before.before.before.patch-at.ensures _ e)
           ∙ c.before.before.before.before.before.before.loop.invariant.2,
     )
 
 returns-3 : tie.Need-returns-3 invariant-loop decreases-loop
-returns-3 c = sym (settle-none _ _ _ _ _ c.loop-test.false) ∙ c.before.loop.invariant.2
+returns-3 c = sym (settle_none _ _ _ _ _ c.loop-test.false) ∙ c.before.loop.invariant.2
 
 pub refine-spec : {M : Type 1} → statement M
 refine-spec =

@@ -3,21 +3,21 @@ use mathlib.Core.Path.{◌≡◌}
 use native.Mathlib.Omega.{arith}
 use lib.ListN.{length}
 use borrow.Author.Rules.{rules}
-use Rattle.params.specs.Limits.{border, maxSide}
+use Rattle.params.specs.Limits.{border, max_side}
 use Rattle.detect_extrema.specs.Neighbours.{tied}
 use Rattle.detect_extrema.specs.Scan.{keypoints}
 use Rattle.detect_room.proofs.Room.{gave, lacked}
-use Rattle.detect_hold.proofs.Few.{keypoints-few}
-use Rattle.detect_hold.proofs.Parts.{hints-few, held-few, held-most, held_all}
+use Rattle.detect_hold.proofs.Few.{keypoints_few}
+use Rattle.detect_hold.proofs.Parts.{hints_few, held_few, held_most, held_all}
 use Rattle.detect_room.proofs.land.Statement.{statement}
 use Rattle.detect_room.proofs.land.Tie as tie
 
 -- so few are held and have a hint that no sum of places wraps
-few : (c : tie.After-rest-hints) → (c.before.before.before.before.args.f.count ≤ maxSide * maxSide) × (c.rest-hints.result ≤ maxSide * maxSide)
+few : (c : tie.After-rest-hints) → (c.before.before.before.before.args.f.count ≤ max_side * max_side) × (c.rest-hints.result ≤ max_side * max_side)
 few c =
     let b = c.before.before.before.before in
     let a = b.args in
-    (held-few a.dog.now a.t a.s _ b.requires.0 _ _ _ b.requires.1.1, omega (arith, hints-few a.dog.now a.t a.s a.f.row (a.t.height - border) (omega (arith, b.requires.0.high)) b.requires.0.wide, c.rest-hints.ensures))
+    (held_few a.dog.now a.t a.s _ b.requires.0 _ _ _ b.requires.1.1, omega (arith, hints_few a.dog.now a.t a.s a.f.row (a.t.height - border) (omega (arith, b.requires.0.high)) b.requires.0.wide, c.rest-hints.ensures))
 
 -- the rest is counted by a search of it
 counted : (c : tie.After-rest-words) → let a = c.before.before.before.before.before.before.before.before.args in a.f.count + c.rest-words.result ≡ length (keypoints tied a.dog.now a.t a.s)
@@ -46,7 +46,7 @@ returns c =
     let b = c.before.before.before.before.before.before.before.before.before.before in
     let a = b.args in
     let w = c.before.before.write.ensures in
-    let m = held-most a.dog.now a.t a.s _ b.requires.0 _ _ _ b.requires.1.1 _ c.before.before.before.before.before.before.rest-hints.ensures in
+    let m = held_most a.dog.now a.t a.s _ b.requires.0 _ _ _ b.requires.1.1 _ c.before.before.before.before.before.before.rest-hints.ensures in
     let g = gave (keypoints tied a.dog.now a.t a.s) _ _ _ w.0 (omega (arith, m, w.0, c.before.before.before.before.if1.true)) w.1 in
     (g.answer, g.left)
 
@@ -59,12 +59,12 @@ rest-words-requires c κs = search rules
 add-k : tie.Need-overflow-add-k
 add-k c =
     let b = c.before.before.before.before.before.before.before.before.before.before in
-    omega (arith, counted c.before.before, keypoints-few b.args.dog.now b.args.t b.args.s _ b.requires.0)
+    omega (arith, counted c.before.before, keypoints_few b.args.dog.now b.args.t b.args.s _ b.requires.0)
 
 mul-if2 : tie.Need-overflow-mul-if2
 mul-if2 c =
     let b = c.before.before.before.before.before.before.before.before.before.before in
-    omega (arith, counted c.before.before, keypoints-few b.args.dog.now b.args.t b.args.s _ b.requires.0)
+    omega (arith, counted c.before.before, keypoints_few b.args.dog.now b.args.t b.args.s _ b.requires.0)
 
 returns-2 : tie.Need-returns-2
 returns-2 c =

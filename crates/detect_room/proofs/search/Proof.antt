@@ -4,12 +4,12 @@ use native.Mathlib.Omega.{arith}
 use lib.ListN.{length}
 use borrow.Author.Rules.{rules}
 use borrow.Author.Tests.{not-true, not-false}
-use Rattle.params.specs.Limits.{border, keypointWords}
+use Rattle.params.specs.Limits.{border, keypoint_words}
 use Rattle.detect_extrema.specs.Neighbours.{tied}
 use Rattle.detect_extrema.specs.Scan.{keypoints}
-use Rattle.detect_words.proofs.Words.{length-words}
+use Rattle.detect_words.proofs.Words.{length_words}
 use Rattle.detect_room.proofs.Room.{gave, bad, good}
-use Rattle.detect_hold.proofs.Few.{few-cells, cells-few}
+use Rattle.detect_hold.proofs.Few.{few_cells, cells_few}
 use Rattle.detect_hold.proofs.Parts.{all_left}
 use Rattle.detect_room.proofs.search.Statement.{statement}
 use Rattle.detect_room.proofs.search.Tie as tie
@@ -23,12 +23,12 @@ sub-if1-2 c = search rules
 mul-if1 : tie.Need-overflow-mul-if1
 mul-if1 c =
     let b = c.before.before.before.before in
-    omega (arith, cells-few b.args.dog.now b.args.t b.args.s _ b.requires.0)
+    omega (arith, cells_few b.args.dog.now b.args.t b.args.s _ b.requires.0)
 
 mul-if1-2 : tie.Need-overflow-mul-if1-2
 mul-if1-2 c =
     let b = c.before.before.before.before in
-    omega (arith, cells-few b.args.dog.now b.args.t b.args.s _ b.requires.0)
+    omega (arith, cells_few b.args.dog.now b.args.t b.args.s _ b.requires.0)
 
 all-good-requires : tie.Need-all-good-requires
 all-good-requires c κs = search rules
@@ -50,8 +50,8 @@ returns-2 c =
     let a = c.before.before.before.before.before.before.before.before.before.before.before.args in
     let ks = keypoints tied a.dog.now a.t a.s in
     let w = rw (all_left a.dog.now a.t a.s) at c.before.before.rest-words.ensures in
-    let k : c.before.before.rest-words.result / keypointWords ≡ length ks = omega (arith, length-words ks, w.0) in
-    let f : keypointWords * (c.before.before.rest-words.result / keypointWords) ≤ length a.out.now = omega (arith, k, few-cells a.dog.now a.t a.s, c.before.before.before.before.before.before.if1.true) in
+    let k : c.before.before.rest-words.result / keypoint_words ≡ length ks = omega (arith, length_words ks, w.0) in
+    let f : keypoint_words * (c.before.before.rest-words.result / keypoint_words) ≤ length a.out.now = omega (arith, k, few_cells a.dog.now a.t a.s, c.before.before.before.before.before.before.if1.true) in
     let g = good a.dog.now ks _ (sym c.before.before.before.before.before.all-good.ensures ∙ not-false _ c.before.before.before.before.if2.false) _ _ (gave ks _ _ _ k f w.1) in
     (g.answer, g.left)
 

@@ -5,37 +5,37 @@ use native.Mathlib.Omega.{arith}
 use borrow.Author.Rules.{rules}
 use lib.ListN.{length}
 use lib.Seq.{length-sets}
-use Rattle.lists.proofs.Ranges.{joined-start}
-use Rattle.params.specs.Limits.{keypointWords}
+use Rattle.lists.proofs.Ranges.{joined_start}
+use Rattle.params.specs.Limits.{keypoint_words}
 use Rattle.detect_extrema.specs.Neighbours.{tied}
 use Rattle.detect_extrema.specs.Scan.{found}
-use Rattle.detect_look.proofs.Looks.{marks-read}
+use Rattle.detect_look.proofs.Looks.{marks_read}
 use Rattle.detect_words.specs.Leaves.{leaves}
-use Rattle.detect_rows.specs.Forms.{runLeaves}
-use Rattle.detect_words.proofs.Words.{Filled, filled_none, filled-part}
-use Rattle.detect_rows.proofs.Forms.{cell-bound, run-bound}
+use Rattle.detect_rows.specs.Forms.{run_leaves}
+use Rattle.detect_words.proofs.Words.{Filled, filled_none, filled_part}
+use Rattle.detect_rows.proofs.Forms.{cell_bound, run_bound}
 use Rattle.detect_rows.proofs.marked_words.Statement.{statement}
 use Rattle.detect_rows.proofs.marked_words.Tie as tie
 
 abbrev invariant-loop : tie.invariant-loop
-invariant-loop dog t s u p out₀ marks n₀ c₀ c-end out n c =
-    (u.lo ≤ c) × (c ≤ u.hi) × (c-end ≡ u.hi)
-    × Filled out₀ p.from (runLeaves p.cells dog t s u.row u.lo c) out n
+invariant-loop dog t s u p out₀ marks n₀ c₀ c_end out n c =
+    (u.lo ≤ c) × (c ≤ u.hi) × (c_end ≡ u.hi)
+    × Filled out₀ p.from (run_leaves p.cells dog t s u.row u.lo c) out n
 
 abbrev decreases-loop : tie.decreases-loop
-decreases-loop dog t s u p out₀ marks n₀ c₀ c-end out n c = u.hi - c
+decreases-loop dog t s u p out₀ marks n₀ c₀ c_end out n c = u.hi - c
 
 -- so few words that no sum of places wraps
-bounded : (c : tie.At-loop invariant-loop decreases-loop) → let u = c.before.before.before.before.args.u in c.loop.n ≤ keypointWords * (c.loop.c - u.lo)
+bounded : (c : tie.At-loop invariant-loop decreases-loop) → let u = c.before.before.before.before.args.u in c.loop.n ≤ keypoint_words * (c.loop.c - u.lo)
 bounded c =
     let a = c.before.before.before.before.args in
-    omega (arith, run-bound a.dog.now a.t a.s a.p.cells a.u.row a.u.lo c.loop.c, c.loop.invariant.3.0)
+    omega (arith, run_bound a.dog.now a.t a.s a.p.cells a.u.row a.u.lo c.loop.c, c.loop.invariant.3.0)
 
 mark-requires : tie.Need-mark-requires invariant-loop decreases-loop
 mark-requires c κs = search rules
 
 loop-holds : tie.Need-loop-init invariant-loop decreases-loop
-loop-holds c = (omega arith, omega arith, refl, filled_none _ _ _ (joined-start _ _))
+loop-holds c = (omega arith, omega arith, refl, filled_none _ _ _ (joined_start _ _))
 
 sub-seen : tie.Need-overflow-sub-seen invariant-loop decreases-loop
 sub-seen c = search rules
@@ -47,7 +47,7 @@ seen-requires : tie.Need-seen-requires invariant-loop decreases-loop
 seen-requires c κs =
     let l = c.before.before.loop in
     let a = c.before.before.before.before.before.before.args in
-    (search rules, (search rules, marks-read a.dog.now a.t a.s a.u _ (omega arith) c.before.before.before.mark.ensures l.c l.invariant.0 (omega arith)))
+    (search rules, (search rules, marks_read a.dog.now a.t a.s a.u _ (omega arith) c.before.before.before.mark.ensures l.c l.invariant.0 (omega arith)))
 
 add-t17 : tie.Need-overflow-add-t17 invariant-loop decreases-loop
 add-t17 c = omega (arith, bounded c.before.before.before.before)
@@ -61,7 +61,7 @@ add-n c =
     let a = b.before.before.before.before.args in
     let e = c.before.before.before.before.before.seen.ensures in
     let g = rw e at c.before.before.leave.ensures.0 in
-    omega (arith, bounded b, g, cell-bound a.dog.now a.t a.s a.p.cells a.u.row b.loop.c)
+    omega (arith, bounded b, g, cell_bound a.dog.now a.t a.s a.p.cells a.u.row b.loop.c)
 
 add-c : tie.Need-overflow-add-c invariant-loop decreases-loop
 add-c c = search rules
@@ -76,7 +76,7 @@ loop-again c =
     let a = b.before.before.before.before.args in
     let e = c.before.before.before.before.before.seen.ensures in
     let f : ℕ → List ℕ = λ i. leaves a.p.cells a.u.row i (found tied a.dog.now a.t a.s a.u.row i) in
-    (omega arith, omega arith, refl, filled-part _ a.p.from a.u.lo l.c f _ _ _ _ l.invariant.0 l.invariant.3 (rw e at c.before.before.leave.ensures))
+    (omega arith, omega arith, refl, filled_part _ a.p.from a.u.lo l.c f _ _ _ _ l.invariant.0 l.invariant.3 (rw e at c.before.before.leave.ensures))
 
 same_length : tie.Need-same-length invariant-loop decreases-loop
 same_length c = ap length c.before.loop.invariant.3.1 ∙ simp length-sets

@@ -5,21 +5,21 @@ use native.Mathlib.Omega.{arith}
 use borrow.Author.Rules.{rules}
 use lib.ListN.{length, take, get_or}
 use lib.Seq.{length-sets}
-use Rattle.params.specs.Limits.{keypointWords}
-use Rattle.detect_rows.specs.Forms.{again, allAgain}
+use Rattle.params.specs.Limits.{keypoint_words}
+use Rattle.detect_rows.specs.Forms.{again, all_again}
 use Rattle.detect_words.proofs.Words.{Filled, filled_none, filled_more}
-use Rattle.detect_rows.proofs.Forms.{again-none, again-more, again-bound}
+use Rattle.detect_rows.proofs.Forms.{again_none, again_more, again_bound}
 use Rattle.detect_rows.proofs.refined_words.Statement.{statement}
 use Rattle.detect_rows.proofs.refined_words.Tie as tie
 
 abbrev invariant-loop : tie.invariant-loop
-invariant-loop dog t s hold k out₀ n₀ i₀ out n i = (i ≤ k) × (n ≤ keypointWords * i) × Filled out₀ 0 (allAgain dog t s (take i hold)) out n
+invariant-loop dog t s hold k out₀ n₀ i₀ out n i = (i ≤ k) × (n ≤ keypoint_words * i) × Filled out₀ 0 (all_again dog t s (take i hold)) out n
 
 abbrev decreases-loop : tie.decreases-loop
 decreases-loop dog t s hold k out₀ n₀ i₀ out n i = k - i
 
 loop-holds : tie.Need-loop-init invariant-loop decreases-loop
-loop-holds c = (omega arith, omega arith, filled_none _ _ _ (again-none _ _ _))
+loop-holds c = (omega arith, omega arith, filled_none _ _ _ (again_none _ _ _))
 
 mul-refined : tie.Need-overflow-mul-refined invariant-loop decreases-loop
 mul-refined c = search rules
@@ -36,7 +36,7 @@ add-n : tie.Need-overflow-add-n invariant-loop decreases-loop
 add-n c =
     let a = c.before.before.before.before.before.before.before.before.before.before.args in
     let l = c.before.before.before.before.before.before.loop in
-    omega (arith, c.before.before.refined.ensures.0, again-bound a.dog.now a.t a.s (get_or a.hold.now l.i 0))
+    omega (arith, c.before.before.refined.ensures.0, again_bound a.dog.now a.t a.s (get_or a.hold.now l.i 0))
 
 add-i : tie.Need-overflow-add-i invariant-loop decreases-loop
 add-i c = search rules
@@ -50,7 +50,7 @@ loop-again c =
     let l = c.before.before.before.before.before.before.loop in
     let g = c.before.before.refined.ensures in
     let h : l.i < length a.hold.now = omega arith in
-    (omega arith, omega (arith, g.0, again-bound a.dog.now a.t a.s (get_or a.hold.now l.i 0)), filled_more _ 0 (allAgain a.dog.now a.t a.s (take l.i a.hold.now)) (again a.dog.now a.t a.s (get_or a.hold.now l.i 0)) _ _ _ _ _ (again-more a.dog.now a.t a.s a.hold.now l.i h) l.invariant.2 (rw zero-add g))
+    (omega arith, omega (arith, g.0, again_bound a.dog.now a.t a.s (get_or a.hold.now l.i 0)), filled_more _ 0 (all_again a.dog.now a.t a.s (take l.i a.hold.now)) (again a.dog.now a.t a.s (get_or a.hold.now l.i 0)) _ _ _ _ _ (again_more a.dog.now a.t a.s a.hold.now l.i h) l.invariant.2 (rw zero-add g))
 
 same_length : tie.Need-same-length invariant-loop decreases-loop
 same_length c = ap length c.before.loop.invariant.2.1 ∙ simp length-sets

@@ -3,9 +3,9 @@ use mathlib.Core.Path.{◌≡◌, refl, sym}
 use native.Mathlib.Omega.{arith}
 use borrow.Author.Rules.{rules}
 use Rattle.lists.specs.Ranges.{every}
-use Rattle.lists.proofs.Every.{every-none}
-use Rattle.detect_samples.specs.Rows.{usual, spanGood}
-use Rattle.detect_samples.proofs.Spans.{Line, line, spanIn, column-more}
+use Rattle.lists.proofs.Every.{every_none}
+use Rattle.detect_samples.specs.Rows.{usual, span_good}
+use Rattle.detect_samples.proofs.Spans.{Line, line, span_in, column_more}
 use Rattle.detect_samples.proofs.column_good.Statement.{statement}
 use Rattle.detect_samples.proofs.column_good.Tie as tie
 use Rattle.detect_samples.proofs.column_good.Reads as reads
@@ -13,7 +13,7 @@ use Rattle.detect_samples.proofs.column_good.Lts as lts
 use Rattle.samples.proofs.good_sample.Reads as good-sample-reads
 
 abbrev invariant-loop : tie.invariant-loop
-invariant-loop d t r c ok₀ p₀ ok p = (p ≤ usual) × (ok ≡ every p (spanIn t r c (c + 1) d))
+invariant-loop d t r c ok₀ p₀ ok p = (p ≤ usual) × (ok ≡ every p (span_in t r c (c + 1) d))
 
 abbrev decreases-loop : tie.decreases-loop
 decreases-loop d t r c ok₀ p₀ ok p = usual - p
@@ -25,7 +25,7 @@ here c =
     line a.t.planes a.t.height a.t.width c.before.loop.p a.r (omega arith) (omega arith)
 
 loop-holds : tie.Need-loop-init invariant-loop decreases-loop
-loop-holds c = (omega arith, sym (every-none _))
+loop-holds c = (omega arith, sym (every_none _))
 
 mul-good-sample : tie.Need-overflow-mul-good-sample invariant-loop decreases-loop
 mul-good-sample c = omega (arith, here c.before)
@@ -62,10 +62,10 @@ loop-again c =
     let l = c.before.before.before.before.before.loop in
     let a = c.before.before.before.before.before.before.before.args in
     let h = here c.before.before.before.before in
-    (omega arith, column-more a.t a.r a.c a.d.now l.p _ _ _ h.is (omega (arith, h)) l.invariant.1 c.good-sample.ensures)
+    (omega arith, column_more a.t a.r a.c a.d.now l.p _ _ _ h.is (omega (arith, h)) l.invariant.1 c.good-sample.ensures)
 
 returns : tie.Need-returns invariant-loop decreases-loop
-unfolding spanGood
+unfolding span_good
 returns c =
     let l = c.before.loop in
     let a = c.before.before.before.args in

@@ -2,8 +2,8 @@ use Prim.Native.Nat.{◌≤◌, ◌-◌}
 use mathlib.Core.Path.{◌≡◌, sym, ◌∙◌}
 use native.Mathlib.Omega.{arith}
 use borrow.Author.Rules.{rules}
-use Rattle.detect_samples.specs.Rows.{spanGood}
-use Rattle.detect_samples.proofs.Spans.{span_none, span-join}
+use Rattle.detect_samples.specs.Rows.{span_good}
+use Rattle.detect_samples.proofs.Spans.{span_none, span_join}
 use Rattle.detect_samples.proofs.columns_good.Statement.{statement}
 use Rattle.detect_samples.proofs.columns_good.Tie as tie
 use Rattle.detect_samples.proofs.columns_good.Reads as reads
@@ -11,7 +11,7 @@ use Rattle.detect_samples.proofs.columns_good.Lts as lts
 use Rattle.detect_samples.proofs.column_good.Reads as column-good-reads
 
 abbrev invariant-loop : tie.invariant-loop
-invariant-loop d t r lo hi ok₀ c₀ ok c = (lo ≤ c) × (c ≤ hi) × (ok ≡ spanGood t r lo c d)
+invariant-loop d t r lo hi ok₀ c₀ ok c = (lo ≤ c) × (c ≤ hi) × (ok ≡ span_good t r lo c d)
 
 abbrev decreases-loop : tie.decreases-loop
 decreases-loop d t r lo hi ok₀ c₀ ok c = hi - c
@@ -32,7 +32,7 @@ loop-again : tie.Need-loop-preserved invariant-loop decreases-loop
 loop-again c =
     let l = c.before.before.loop in
     let a = c.before.before.before.before.args in
-    (omega arith, omega arith, rw (l.invariant.2, c.column-good.ensures) (span-join a.t a.r a.lo l.c _ a.d.now l.invariant.0 (omega arith)))
+    (omega arith, omega arith, rw (l.invariant.2, c.column-good.ensures) (span_join a.t a.r a.lo l.c _ a.d.now l.invariant.0 (omega arith)))
 
 returns : tie.Need-returns invariant-loop decreases-loop
 returns c =

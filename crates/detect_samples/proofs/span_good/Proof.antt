@@ -3,17 +3,17 @@ use mathlib.Core.Path.{◌≡◌, refl, sym}
 use native.Mathlib.Omega.{arith}
 use borrow.Author.Rules.{rules}
 use Rattle.lists.specs.Ranges.{every}
-use Rattle.lists.proofs.Every.{every-none}
-use Rattle.detect_samples.specs.Rows.{spanGood}
-use Rattle.detect_samples.proofs.Spans.{Line, line, spanIn, span_more}
+use Rattle.lists.proofs.Every.{every_none}
+use Rattle.detect_samples.specs.Rows.{span_good}
+use Rattle.detect_samples.proofs.Spans.{Line, line, span_in, span_more}
 use Rattle.detect_samples.proofs.span_good.Statement.{statement}
 use Rattle.detect_samples.proofs.span_good.Tie as tie
 
 abbrev invariant-loop : tie.invariant-loop
-invariant-loop d t r lo hi ok₀ p₀ p-end ok p = (p ≤ t.planes) × (p-end ≡ t.planes) × (ok ≡ every p (spanIn t r lo hi d))
+invariant-loop d t r lo hi ok₀ p₀ p_end ok p = (p ≤ t.planes) × (p_end ≡ t.planes) × (ok ≡ every p (span_in t r lo hi d))
 
 abbrev decreases-loop : tie.decreases-loop
-decreases-loop d t r lo hi ok₀ p₀ p-end ok p = t.planes - p
+decreases-loop d t r lo hi ok₀ p₀ p_end ok p = t.planes - p
 
 -- where the row lies in the plane at hand
 here : (c : tie.In-loop invariant-loop decreases-loop) → let a = c.before.before.before.before.before.args in Line a.t.planes a.t.height a.t.width c.before.loop.p a.r
@@ -28,7 +28,7 @@ returns : tie.Need-returns invariant-loop decreases-loop
 returns c = c.columns-good.ensures
 
 loop-holds : tie.Need-loop-init invariant-loop decreases-loop
-loop-holds c = (omega arith, refl, sym (every-none _))
+loop-holds c = (omega arith, refl, sym (every_none _))
 
 mul-from : tie.Need-overflow-mul-from invariant-loop decreases-loop
 mul-from c = omega (arith, here c.before)
@@ -64,7 +64,7 @@ loop-again c =
     (omega arith, refl, span_more a.t a.r a.lo a.hi a.d.now l.p _ _ _ (here c.before.before.before).is l.invariant.2 c.block-good.ensures)
 
 returns-2 : tie.Need-returns-2 invariant-loop decreases-loop
-unfolding spanGood
+unfolding span_good
 returns-2 c =
     let l = c.before.loop in
     let a = c.before.before.before.before.before.args in

@@ -2,17 +2,17 @@ use Rattle.std.proofs.Common.{◌≡◌, ℕ, ◌*◌, Bool, true, false, ◌&&�
 use mathlib.Core.Bool.{beq, false≢true}
 use lib.Ieee.{Float, nan, inf, fin, binary64, of_bits, up, down, level, lt, le, eq, fits}
 use Rattle.ieee.specs.Whole.{floor}
-use Rattle.ieee_laws.proofs.Floors.{floor-unsigned, floor-zero}
-use Rattle.ieee_laws.proofs.Order.{lt-le-trans}
+use Rattle.ieee_laws.proofs.Floors.{floor_unsigned, floor_zero}
+use Rattle.ieee_laws.proofs.Order.{lt_le_trans}
 use Rattle.ieee_laws.proofs.Monotone.{nil}
 use Rattle.detect_threshold.proofs.floor_of.Statement.{statement}
 use Rattle.detect_threshold.proofs.floor_of.Tie as tie
 use Rattle.detect_threshold.proofs.floor_of.Reads as reads
 use Rattle.detect_threshold.proofs.floor_of.Lts as lts
-use Rattle.std.proofs.num.nearest_u64_to_f64.Reads as nearest-u64-to-f64-reads
-use Rattle.std.proofs.num.truncating_f64_to_u64.Reads as truncating-f64-to-u64-reads
+use Rattle.std.proofs.num.nearest_u64_to_f64.Reads as nearest_u64_to_f64_reads
+use Rattle.std.proofs.num.truncating_f64_to_u64.Reads as truncating_f64_to_u64_reads
 
-held : (c : lts.Start (truncating-f64-to-u64-reads.Asked, truncating-f64-to-u64-reads.Learnt, nearest-u64-to-f64-reads.Asked, nearest-u64-to-f64-reads.Learnt) reads.Pre reads.Post) → T (fits binary64 c.args.x)
+held : (c : lts.Start (truncating_f64_to_u64_reads.Asked, truncating_f64_to_u64_reads.Learnt, nearest_u64_to_f64_reads.Asked, nearest_u64_to_f64_reads.Learnt) reads.Pre reads.Post) → T (fits binary64 c.args.x)
 held c = subst T (sym c.well-formed.0.1) tt
 
 yes : {b : Bool} → b ≡ true → T b
@@ -20,10 +20,10 @@ yes e = subst T (sym e) tt
 
 above : (x : Float) → le nil x ≡ true → lt (fin true 1 (pos 0)) x ≡ true
 unfolding lt
-above x h = lt-le-trans (fin true 1 (pos 0)) nil x refl h
+above x h = lt_le_trans (fin true 1 (pos 0)) nil x refl h
 
-same-zero : (s : Bool) (a b : ℕ) → b ≡ 0 → (eqb b a && (beq false s || eqb b 0)) ≡ true → T (level s a false b)
-same-zero s a b z e =
+same_zero : (s : Bool) (a b : ℕ) → b ≡ 0 → (eqb b a && (beq false s || eqb b 0)) ≡ true → T (level s a false b)
+same_zero s a b z e =
     let i : a ≡ 0 = sym (eqb-true b a (first (eqb b a) _ e)) ∙ z in
     rw (i, z) (any s)
   where
@@ -41,7 +41,7 @@ unfolding le eq
 zero_is nan h k = absurd (false≢true h)
 zero_is (inf true) h k = absurd (false≢true h)
 zero_is (inf false) h k = absurd (true≢false k)
-zero_is (fin s m e) h k = same-zero s (m * up e * 1) (0 * 1 * down e) (zero-mul (down e)) (rw k at h)
+zero_is (fin s m e) h k = same_zero s (m * up e * 1) (0 * 1 * down e) (zero-mul (down e)) (rw k at h)
 
 truncating-f64-to-u64-requires : tie.Need-truncating-f64-to-u64-requires
 truncating-f64-to-u64-requires c κs = (yes (above _ c.before.requires.0), yes c.before.requires.1)
@@ -54,11 +54,11 @@ unfolding of_bits
 returns c =
     let x = c.before.before.before.args.x in
     c.nearest-u64-to-f64.ensures
-    ∙ rw c.before.truncating-f64-to-u64.ensures (sym (floor-unsigned binary64 64 x (yes c.before.before.if1.true) (yes c.before.before.before.requires.1)))
+    ∙ rw c.before.truncating-f64-to-u64.ensures (sym (floor_unsigned binary64 64 x (yes c.before.before.if1.true) (yes c.before.before.before.requires.1)))
 
 returns-2 : tie.Need-returns-2
 unfolding of_bits
-returns-2 c = sym (floor-zero binary64 c.before.args.x (held c.before) (zero_is c.before.args.x c.before.requires.0 c.if1.false))
+returns-2 c = sym (floor_zero binary64 c.before.args.x (held c.before) (zero_is c.before.args.x c.before.requires.0 c.if1.false))
 
 pub floor-of-spec : {M : Type 1} → statement M
 floor-of-spec =

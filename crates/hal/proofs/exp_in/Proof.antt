@@ -7,9 +7,9 @@ use lib.Ieee.{Float, binary64, le, neg, of_bits, fits, is_nan}
 use lib.Ieee.Fits.{and_i, and_l, fits_widens}
 use Rattle.ieee.specs.Numbers.{nought}
 use Rattle.hal.specs.Numbers.{minus32}
-use Rattle.hal.specs.Exp.{inDown, downStart, downRate, downField, powerOf, fixed_of}
-use Rattle.hal.proofs.FixedPoint.{no-nan-le}
-use Rattle.hal.proofs.ExpLaws.{down_word, exp-fixed, exp-is}
+use Rattle.hal.specs.Exp.{in_down, down_start, down_rate, down_field, power_of, fixed_of}
+use Rattle.hal.proofs.FixedPoint.{no_nan_le}
+use Rattle.hal.proofs.ExpLaws.{down_word, exp_fixed, exp_is}
 use Rattle.hal.proofs.exp_in.Statement.{statement}
 use Rattle.hal.proofs.exp_in.Tie as tie
 use Rattle.hal.proofs.exp_in.Reads as reads
@@ -19,8 +19,8 @@ use Rattle.hal.proofs.power.Reads as power-reads
 fields : (u : ℕ) → u ≤ 47 * 2147483648 → 57 + u / 2147483648 ≤ 127
 fields u h = omega arith
 
-known : (x : Float) → T (inDown x) → T (not (is_nan x))
-known x t = no-nan-le minus32 x (and_l (le minus32 x) (le x nought) t)
+known : (x : Float) → T (in_down x) → T (not (is_nan x))
+known x t = no_nan_le minus32 x (and_l (le minus32 x) (le x nought) t)
 
 float-to-float-power : tie.Need-float-to-float-power
 unfolding of_bits neg
@@ -36,15 +36,15 @@ power-requires : tie.Need-power-requires
 unfolding of_bits neg
 power-requires c κs =
     let x = c.before.args.x in
-    let t : T (inDown x) = subst T (sym c.before.requires.1) tt in
-    (c.before.requires.0, (lit< tt, subst (λ (z : ℕ). 57 + z ≤ 127) (sym (down_word x t).whole) (fields (fixed_of downStart downRate x) (exp-fixed x t))))
+    let t : T (in_down x) = subst T (sym c.before.requires.1) tt in
+    (c.before.requires.0, (lit< tt, subst (λ (z : ℕ). 57 + z ≤ 127) (sym (down_word x t).whole) (fields (fixed_of down_start down_rate x) (exp_fixed x t))))
 
 returns : tie.Need-returns
 unfolding of_bits neg
 returns c =
     let x = c.before.before.args.x in
-    let t : T (inDown x) = subst T (sym c.before.before.requires.1) tt in
-    c.power.ensures ∙ ap (powerOf downField) (down_word x t).digits ∙ sym (exp-is x t)
+    let t : T (in_down x) = subst T (sym c.before.before.requires.1) tt in
+    c.power.ensures ∙ ap (power_of down_field) (down_word x t).digits ∙ sym (exp_is x t)
 
 pub exp-in-spec : {M : Type 1} → statement M
 exp-in-spec = tie.close (tie.spec float-to-float-power float-to-bits-power power-requires returns)

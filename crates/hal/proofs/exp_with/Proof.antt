@@ -1,6 +1,6 @@
 use mathlib.Core.Path.{sym, ◌∙◌}
 use lib.Ieee.{neg, of_bits}
-use Rattle.hal.specs.Exp.{expOf}
+use Rattle.hal.specs.Exp.{exp_of}
 use borrow.Author.Rules.{rules}
 use Rattle.hal.proofs.exp_with.Statement.{statement}
 use Rattle.hal.proofs.exp_with.Tie as tie
@@ -24,7 +24,7 @@ returns : tie.Need-returns
 returns c = search rules
 
 returns-2 : tie.Need-returns-2
-unfolding expOf of_bits neg
+unfolding exp_of of_bits neg
 returns-2 c = simp (c.outside.ensures, sym c.before.before.within.ensures ∙ c.before.if1.false)
 
 pub exp-with-spec : {M : Type 1} → statement M

@@ -1,9 +1,9 @@
 use Prim.Native.Nat.{◌-◌, ◌<◌}
 use native.Mathlib.Omega.{arith}
-use Rattle.hal.specs.Exp.{mixOf}
+use Rattle.hal.specs.Exp.{mix_of}
 use Rattle.hal.proofs.Entries.{steps, Steps}
 use Rattle.hal.proofs.Mixed.{mixed, Mixed}
-use Rattle.hal.proofs.PairTable.{entry_at, rise-at}
+use Rattle.hal.proofs.PairTable.{entry_at, rise_at}
 use borrow.Author.Rules.{rules}
 use Rattle.hal.proofs.mix.Statement.{statement}
 use Rattle.hal.proofs.mix.Tie as tie
@@ -47,7 +47,7 @@ cast-result-2 c =
     let h : i < 256 = c.before.before.requires.1.0 in
     let s : Steps i = steps i h in
     let m : Mixed i c.before.before.args.g = mixed i c.before.before.args.g h c.before.before.requires.1.1 in
-    simp (rise-at t c.before.before.requires.0 i h) (omega (arith, s.high))
+    simp (rise_at t c.before.before.requires.0 i h) (omega (arith, s.high))
 
 mul-result-5 : tie.Need-overflow-mul-result-5
 mul-result-5 c =
@@ -56,21 +56,21 @@ mul-result-5 c =
     let h : i < 256 = c.before.before.requires.1.0 in
     let s : Steps i = steps i h in
     let m : Mixed i c.before.before.args.g = mixed i c.before.before.args.g h c.before.before.requires.1.1 in
-    simp (rise-at t c.before.before.requires.0 i h) (omega (arith, m.product))
+    simp (rise_at t c.before.before.requires.0 i h) (omega (arith, m.product))
 
 add-result-2 : tie.Need-overflow-add-result-2
-unfolding mixOf
+unfolding mix_of
 add-result-2 c =
     let t = c.before.before.args.t.now in
     let i = c.before.before.args.i in
     let h : i < 256 = c.before.before.requires.1.0 in
     let s : Steps i = steps i h in
     let m : Mixed i c.before.before.args.g = mixed i c.before.before.args.g h c.before.before.requires.1.1 in
-    simp (entry_at t c.before.before.requires.0 i h, rise-at t c.before.before.requires.0 i h) (omega (arith, m.below))
+    simp (entry_at t c.before.before.requires.0 i h, rise_at t c.before.before.requires.0 i h) (omega (arith, m.below))
 
 returns : tie.Need-returns
-unfolding mixOf
-returns c = let h = c.before.before.requires.1.0 in simp (entry_at c.before.before.args.t.now c.before.before.requires.0 c.before.before.args.i h, rise-at c.before.before.args.t.now c.before.before.requires.0 c.before.before.args.i h)
+unfolding mix_of
+returns c = let h = c.before.before.requires.1.0 in simp (entry_at c.before.before.args.t.now c.before.before.requires.0 c.before.before.args.i h, rise_at c.before.before.args.t.now c.before.before.requires.0 c.before.before.args.i h)
 
 pub mix-spec : {M : Type 1} → statement M
 mix-spec =

@@ -2,7 +2,7 @@ use mathlib.Core.Path.{◌≡◌, sym, ap, ◌∙◌, subst}
 use lib.Pow.{field, mod-mod-pow}
 use Prim.Native.Nat.{ℕ, ◌/◌, ◌%◌, ◌≤◌}
 use native.Mathlib.Omega.{arith}
-use Rattle.hal.specs.Exp.{powerOf}
+use Rattle.hal.specs.Exp.{power_of}
 use Rattle.hal.proofs.ExpLaws.{Part, part}
 use borrow.Author.Rules.{rules}
 use Rattle.hal.proofs.power.Statement.{statement}
@@ -24,7 +24,7 @@ scaled-requires c κs =
     (subst (λ (z : ℕ). 8388608 ≤ z) (sym c.mix.ensures) m.above, subst (λ (z : ℕ). z ≤ 16777216) (sym c.mix.ensures) m.below, omega arith, omega arith)
 
 returns : tie.Need-returns
-unfolding powerOf
+unfolding power_of
 returns c =
     let v = c.before.before.args.v in
     let i : v % 274877906944 / 8388608 % 256 ≡ v / 8388608 % 256 = ap (λ (z : ℕ). z % 256) (field v 15 23) ∙ mod-mod-pow (v / 8388608) 7 8 in

@@ -1,4 +1,4 @@
-use Rattle.hal_angle.specs.Angle.{alongOf, line_of}
+use Rattle.hal_angle.specs.Angle.{along_of, line_of}
 use borrow.Author.Rules.{rules}
 use Rattle.hal_angle.proofs.along.Statement.{statement}
 use Rattle.hal_angle.proofs.along.Tie as tie
@@ -33,7 +33,7 @@ element-copy-out-result-2 : tie.Need-element-copy-out-result-2
 element-copy-out-result-2 c = search rules
 
 returns : tie.Need-returns
-unfolding alongOf line_of
+unfolding along_of line_of
 returns c = simp c.before.before.requires.0
 
 pub along-spec : {M : Type 1} → statement M

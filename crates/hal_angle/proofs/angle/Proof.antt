@@ -1,6 +1,6 @@
 use mathlib.Core.Path.{refl, sym, ◌∙◌}
 use Rattle.hal_angle.specs.Turns.{turns}
-use Rattle.hal_angle.specs.Angle.{angleOf}
+use Rattle.hal_angle.specs.Angle.{angle_of}
 use borrow.Author.Rules.{rules}
 use Rattle.hal_angle.proofs.angle.Statement.{statement}
 use Rattle.hal_angle.proofs.angle.Tie as tie
@@ -24,7 +24,7 @@ returns : tie.Need-returns
 returns c = c.angle-in.ensures
 
 returns-2 : tie.Need-returns-2
-unfolding angleOf
+unfolding angle_of
 returns-2 c = simp (c.outside.ensures, sym c.before.before.in_reach.ensures ∙ c.before.if1.false)
 
 pub angle-spec : {M : Type 1} → statement M

@@ -3,7 +3,7 @@ use mathlib.Core.Bool.{not}
 use lib.Dec.{T}
 use lib.Ieee.{Float, binary32, add, mul, is_nan}
 use Rattle.hal_angle.specs.Numbers.{shift}
-use Rattle.hal_angle.proofs.AngleTable.{Row, row_of, step-number, direction-at}
+use Rattle.hal_angle.proofs.AngleTable.{Row, row_of, step_number, direction_at}
 use borrow.Author.Rules.{rules}
 use Rattle.hal_angle.proofs.direction.Statement.{statement}
 use Rattle.hal_angle.proofs.direction.Tie as tie
@@ -36,7 +36,7 @@ along-requires : tie.Need-along-requires
 along-requires c κs =
     let s = c.before.before.before.args in
     let x : Row s.t.now c.before.before.quarter.result s.left s.down = row_of s.t.now c.before.before.quarter.result s.left s.down c.before.before.before.requires.0 c.before.before.quarter.ensures.0 in
-    (c.before.before.before.requires.0, subst (λ (z : Float). T (not (is_nan (add binary32 (mul binary32 s.ahead z) shift)))) (sym x.steps) (step-number s.left s.down s.ahead c.before.before.before.requires.1))
+    (c.before.before.before.requires.0, subst (λ (z : Float). T (not (is_nan (add binary32 (mul binary32 s.ahead z) shift)))) (sym x.steps) (step_number s.left s.down s.ahead c.before.before.before.requires.1))
 
 add-greater : tie.Need-overflow-add-greater
 add-greater c = search rules
@@ -66,7 +66,7 @@ returns : tie.Need-returns
 returns c =
     let s = c.before.before.before.before.before.before.before.before.args in
     let i = c.before.before.before.before.before.before.before.quarter.result in
-    direction-at s.t.now i s.left s.down s.ahead c.before.before.before.before.along.result c.before.before.greater.result c.lesser.result
+    direction_at s.t.now i s.left s.down s.ahead c.before.before.before.before.along.result c.before.before.greater.result c.lesser.result
     (row_of s.t.now i s.left s.down c.before.before.before.before.before.before.before.before.requires.0 c.before.before.before.before.before.before.before.quarter.ensures.0) c.before.before.before.before.along.ensures c.before.before.greater.ensures c.lesser.ensures
 
 pub direction-spec : {M : Type 1} → statement M

@@ -4,7 +4,7 @@ use Prim.Native.Nat.{ℕ, ◌%◌, ◌≤◌}
 use native.Mathlib.Omega.{arith}
 use lib.Dec.{T}
 use lib.Ieee.{binary32, fits, nan_bits}
-use Rattle.ieee.proofs.Patterns.{of_number, number-low, clear-is}
+use Rattle.ieee.proofs.Patterns.{of_number, number_low, clear_is}
 use borrow.Author.Rules.{rules}
 use Rattle.hal_angle.proofs.size.Statement.{statement}
 use Rattle.hal_angle.proofs.size.Tie as tie
@@ -22,10 +22,10 @@ float-to-bits-result : tie.Need-float-to-bits-result
 float-to-bits-result c = search rules
 
 float-from-bits-result : tie.Need-float-from-bits-result
-float-from-bits-result c = number _ (number-low binary32 c.args.x (held c) c.requires)
+float-from-bits-result c = number _ (number_low binary32 c.args.x (held c) c.requires)
 
 returns : tie.Need-returns
-returns c = clear-is binary32 c.args.x (held c) c.requires
+returns c = clear_is binary32 c.args.x (held c) c.requires
 
 pub size-spec : {M : Type 1} → statement M
 size-spec = tie.close (tie.spec float-to-bits-result float-from-bits-result returns)

@@ -1,5 +1,5 @@
 use mathlib.Core.Path.{sym, ◌∙◌}
-use Rattle.hal_magnitude.specs.Magnitude.{magnitudeOf}
+use Rattle.hal_magnitude.specs.Magnitude.{magnitude_of}
 use borrow.Author.Rules.{rules}
 use Rattle.hal_magnitude.proofs.magnitude.Statement.{statement}
 use Rattle.hal_magnitude.proofs.magnitude.Tie as tie
@@ -19,11 +19,11 @@ outside-requires : tie.Need-outside-requires
 outside-requires c κs = search rules
 
 returns : tie.Need-returns
-unfolding magnitudeOf
+unfolding magnitude_of
 returns c = simp (c.length.ensures, sym c.before.before.in_reach.ensures ∙ c.before.if1.true)
 
 returns-2 : tie.Need-returns-2
-unfolding magnitudeOf
+unfolding magnitude_of
 returns-2 c = simp (c.outside.ensures, sym c.before.before.in_reach.ensures ∙ c.before.if1.false)
 
 pub magnitude-spec : {M : Type 1} → statement M

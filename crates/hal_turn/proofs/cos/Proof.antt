@@ -1,5 +1,5 @@
 use mathlib.Core.Path.{sym, ◌∙◌}
-use Rattle.hal_turn.specs.Turn.{cosOf}
+use Rattle.hal_turn.specs.Turn.{cos_of}
 use lib.Ieee.{of_bits}
 use borrow.Author.Rules.{rules}
 use Rattle.hal_turn.proofs.cos.Statement.{statement}
@@ -36,23 +36,23 @@ outside-requires : tie.Need-outside-requires
 outside-requires c κs = search rules
 
 returns : tie.Need-returns
-unfolding cosOf of_bits
+unfolding cos_of of_bits
 returns c = simp (c.quarter-sine.ensures, sym c.before.before.before.within.ensures ∙ c.before.before.if1.true, c.before.if2.true)
 
 returns-2 : tie.Need-returns-2
-unfolding cosOf of_bits
+unfolding cos_of of_bits
 returns-2 c = simp (c.negated.ensures, c.before.quarter-sine2.ensures, sym c.before.before.before.before.before.within.ensures ∙ c.before.before.before.before.if1.true, c.before.before.before.if2.false, c.before.before.if3.true)
 
 returns-3 : tie.Need-returns-3
-unfolding cosOf of_bits
+unfolding cos_of of_bits
 returns-3 c = simp (c.negated2.ensures, c.before.quarter-sine3.ensures, sym c.before.before.before.before.before.before.within.ensures ∙ c.before.before.before.before.before.if1.true, c.before.before.before.before.if2.false, c.before.before.before.if3.false, c.before.before.if4.true)
 
 returns-4 : tie.Need-returns-4
-unfolding cosOf of_bits
+unfolding cos_of of_bits
 returns-4 c = simp (c.quarter-sine4.ensures, sym c.before.before.before.before.before.within.ensures ∙ c.before.before.before.before.if1.true, c.before.before.before.if2.false, c.before.before.if3.false, c.before.if4.false)
 
 returns-5 : tie.Need-returns-5
-unfolding cosOf of_bits
+unfolding cos_of of_bits
 returns-5 c = simp (c.outside.ensures, sym c.before.before.within.ensures ∙ c.before.if1.false)
 
 pub cos-spec : {M : Type 1} → statement M

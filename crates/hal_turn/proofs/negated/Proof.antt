@@ -1,4 +1,4 @@
-use Rattle.hal_turn.specs.Turn.{negatedOf}
+use Rattle.hal_turn.specs.Turn.{negated_of}
 use lib.Ieee.{of_bits}
 use Rattle.hal_turn.proofs.negated.Statement.{statement}
 use Rattle.hal_turn.proofs.negated.Tie as tie
@@ -6,11 +6,11 @@ use Rattle.hal_turn.proofs.negated.Reads as reads
 use Rattle.hal_turn.proofs.negated.Lts as lts
 
 returns : tie.Need-returns
-unfolding negatedOf of_bits
+unfolding negated_of of_bits
 returns c = simp c.if1.true
 
 returns-2 : tie.Need-returns-2
-unfolding negatedOf of_bits
+unfolding negated_of of_bits
 returns-2 c = simp c.if1.false
 
 pub negated-spec : {M : Type 1} → statement M

@@ -1,4 +1,4 @@
-use Rattle.hal_turn.specs.Turn.{quarterSineOf}
+use Rattle.hal_turn.specs.Turn.{quarter_sine_of}
 use lib.Ieee.{of_bits}
 use borrow.Author.Rules.{rules}
 use Rattle.hal_turn.proofs.quarter_sine.Statement.{statement}
@@ -11,7 +11,7 @@ hold-requires : tie.Need-hold-requires
 hold-requires c κs = search rules
 
 returns : tie.Need-returns
-unfolding quarterSineOf of_bits
+unfolding quarter_sine_of of_bits
 returns c = c.hold.ensures
 
 pub quarter-sine-spec : {M : Type 1} → statement M

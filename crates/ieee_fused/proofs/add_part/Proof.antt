@@ -3,7 +3,7 @@ use mathlib.Core.Path.{◌≡◌, sym, subst}
 use mathlib.Core.Bool.{Bool, true, ◌||◌}
 use lib.Dec.{T}
 use lib.Ieee.{Float, of_bits, le, eq}
-use Rattle.ieee.proofs.Parted.{Bound, least, weight, part-once}
+use Rattle.ieee.proofs.Parted.{Bound, least, weight, part_once}
 use borrow.Author.Rules.{rules}
 use Rattle.ieee_fused.proofs.add_part.Statement.{statement}
 use Rattle.ieee_fused.proofs.add_part.Tie as tie
@@ -32,19 +32,19 @@ one c = first _ _ _ c.before.if1.true
 abbrev other : tie.Then2 → Float
 other c = second _ _ _ c.before.if1.true
 
-one-weighs : (c : tie.Then2) → T (weight (one c))
+one_weighs : (c : tie.Then2) → T (weight (one c))
 unfolding first of_bits weight
-one-weighs c = tt
+one_weighs c = tt
 
-other-weighs : (c : tie.Then2) → T (weight (other c))
+other_weighs : (c : tie.Then2) → T (weight (other c))
 unfolding second of_bits weight
-other-weighs c = tt
+other_weighs c = tt
 
 returns : tie.Need-returns
 unfolding left first second
 returns c =
     let s = c.before.before in
-    part-once s.args.a s.args.w s.args.c (tested c) (one c) (other c) (subst T (sym s.well-formed.0.1) tt) (bound c) (one-weighs c) (other-weighs c) c.before.if1.true c.if2.true
+    part_once s.args.a s.args.w s.args.c (tested c) (one c) (other c) (subst T (sym s.well-formed.0.1) tt) (bound c) (one_weighs c) (other_weighs c) c.before.if1.true c.if2.true
 
 mul-add-requires : tie.Need-mul-add-requires
 mul-add-requires c κs = search rules

@@ -7,7 +7,7 @@ use native.Mathlib.Omega.{arith}
 use lib.Ieee.{Float, binary32, unlike, sum}
 use Rattle.packing.specs.Parts.{Splits}
 use Rattle.ieee.specs.Fused.{fma}
-use Rattle.ieee.proofs.Product.{fma-parts}
+use Rattle.ieee.proofs.Product.{fma_parts}
 use Rattle.ieee.proofs.Doubled.{product_lt}
 use Rattle.ieee_fused.proofs.fma_finite.Statement.{statement}
 use Rattle.ieee_fused.proofs.fma_finite.Tie as tie
@@ -15,7 +15,7 @@ use Rattle.ieee_fused.proofs.fma_finite.Tie as tie
 -- the sum of the parts is the fused operation
 summed : (a b c r : Float) (s t u : Bool) (m n p i j k : ℕ) → Splits 149 24 253 a s m i → Splits 149 24 253 b t n j → Splits 149 24 253 c u p k
     → r ≡ sum binary32 (unlike s t) (m * n * 2 ^ (i + j)) u (p * 2 ^ (k + 149)) (2 ^ 298) → r ≡ fma binary32 a b c
-summed a b c r s t u m n p i j k A B C e = e ∙ sym (fma-parts binary32 a b c s t u m n p i j k 149 A.value B.value C.value)
+summed a b c r s t u m n p i j k A B C e = e ∙ sym (fma_parts binary32 a b c s t u m n p i j k 149 A.value B.value C.value)
 
 unpack-requires : tie.Need-unpack-requires
 unpack-requires c κs = search rules

@@ -6,7 +6,7 @@ use native.Mathlib.Omega.{arith}
 use lib.Dec.{T}
 use lib.Ieee.{Float, binary32, fits}
 use Rattle.ieee.specs.Parts.{FusedWide}
-use Rattle.ieee.proofs.Doubled.{all-finite, fused-no-nan, fused-narrow}
+use Rattle.ieee.proofs.Doubled.{all_finite, fused_no_nan, fused_narrow}
 use Rattle.ieee_fused.proofs.fused_wide.Statement.{statement}
 use Rattle.ieee_fused.proofs.fused_wide.Tie as tie
 
@@ -27,12 +27,12 @@ is-finite-requires : tie.Need-is-finite-requires
 is-finite-requires c κs = search rules
 
 wide-fma-requires : tie.Need-wide-fma-requires
-wide-fma-requires c κs = let s = c.before.before in all-finite s.args.a s.args.b s.args.c (A s) (B s) (C s) (sym c.before.is_finite.ensures ∙ c.if1.true)
+wide-fma-requires c κs = let s = c.before.before in all_finite s.args.a s.args.b s.args.c (A s) (B s) (C s) (sym c.before.is_finite.ensures ∙ c.if1.true)
 
 float-to-bits-n : tie.Need-float-to-bits-n
 float-to-bits-n c =
     let s = c.before.before.before in
-    fused-no-nan s.args.a s.args.b s.args.c (A s) (B s) (C s) (sym c.before.before.is_finite.ensures ∙ c.before.if1.true) c.wide-fma.result c.wide-fma.ensures
+    fused_no_nan s.args.a s.args.b s.args.c (A s) (B s) (C s) (sym c.before.before.is_finite.ensures ∙ c.before.if1.true) c.wide-fma.result c.wide-fma.ensures
 
 rounds-once-requires : tie.Need-rounds-once-requires
 rounds-once-requires c κs = search rules
@@ -44,7 +44,7 @@ returns c =
     let k = c.before.rounds-once.ensures.0 c.if2.true in
     record {
       once = λ h. k;
-      right = λ h. fused-narrow s.args.a s.args.b s.args.c (A s) (B s) (C s) (sym d.before.before.is_finite.ensures ∙ d.before.if1.true) d.wide-fma.result d.wide-fma.ensures k;
+      right = λ h. fused_narrow s.args.a s.args.b s.args.c (A s) (B s) (C s) (sym d.before.before.is_finite.ensures ∙ d.before.if1.true) d.wide-fma.result d.wide-fma.ensures k;
     }
 
 returns-2 : tie.Need-returns-2

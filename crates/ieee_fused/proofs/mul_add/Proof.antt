@@ -4,13 +4,13 @@ use mathlib.Core.Path.{◌≡◌, sym, ◌∙◌, subst}
 use lib.Ieee.{Float, binary32}
 use Rattle.ieee.specs.Fused.{fma}
 use Rattle.ieee.specs.Operations.{IsFma}
-use Rattle.ieee.proofs.Operations.{fma-ieee}
+use Rattle.ieee.proofs.Operations.{fma_ieee}
 use Rattle.ieee_fused.proofs.mul_add.Statement.{statement}
 use Rattle.ieee_fused.proofs.mul_add.Tie as tie
 
 -- both clauses from the first
 both : (x y z r : Float) → r ≡ fma binary32 x y z → (r ≡ fma binary32 x y z) × IsFma binary32 x y z r
-both x y z r e = (e, subst (IsFma binary32 x y z) (sym e) (fma-ieee binary32 x y z))
+both x y z r e = (e, subst (IsFma binary32 x y z) (sym e) (fma_ieee binary32 x y z))
 
 fused-wide-requires : tie.Need-fused-wide-requires
 fused-wide-requires c κs = search rules

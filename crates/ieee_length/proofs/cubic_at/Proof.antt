@@ -1,6 +1,6 @@
 -- `cubic_at` meets its contract: of small numbers every step is small. Assumes nothing.
 use lib.Ieee.{nan}
-use Rattle.ieee_length.proofs.Small.{cubic-finite}
+use Rattle.ieee_length.proofs.Small.{cubic_finite}
 use Rattle.std.proofs.Common.{rules}
 use Rattle.ieee_length.proofs.cubic_at.Statement.{statement}
 use Rattle.ieee_length.proofs.cubic_at.Tie as tie
@@ -39,7 +39,7 @@ element-copy-out-result-4 : tie.Need-element-copy-out-result-4
 element-copy-out-result-4 c = search rules
 
 returns : tie.Need-returns
-returns c = let s = c.before.before.before.before in cubic-finite s.args.cubics.now s.args.i s.args.a nan s.requires.0 s.requires.1.0 s.requires.1.1
+returns c = let s = c.before.before.before.before in cubic_finite s.args.cubics.now s.args.i s.args.a nan s.requires.0 s.requires.1.0 s.requires.1.1
 
 pub cubic-at-spec : {M : Type 1} → statement M
 cubic-at-spec =

@@ -3,26 +3,26 @@ use Rattle.std.proofs.Common.{◌≡◌, ℕ, ◌<◌, ◌≤◌, Bool, true, fa
 use lib.Ieee.{Float, fin, binary32, binary64, mul, of_bits}
 use Rattle.ieee.specs.Root.{sqrt}
 use Rattle.ieee.specs.Fused.{fma, convert}
-use Rattle.ieee.specs.Parts.{RoundsOnce, narrowBits}
+use Rattle.ieee.specs.Parts.{RoundsOnce, narrow_bits}
 use Rattle.ieee.proofs.Equal.{zero_of}
-use Rattle.ieee.proofs.Doubled.{plain-normal, plain-is}
+use Rattle.ieee.proofs.Doubled.{plain_normal, plain_is}
 use Rattle.ieee_length.proofs.length.Statement.{statement}
 use Rattle.ieee_length.proofs.length.Tie as tie
 
 -- the zeros
-zeros-at : (s t : Bool) → of_bits binary32 0 ≡ sqrt binary32 (fma binary32 (fin s 0 (pos 0)) (fin s 0 (pos 0)) (mul binary32 (fin t 0 (pos 0)) (fin t 0 (pos 0))))
+zeros_at : (s t : Bool) → of_bits binary32 0 ≡ sqrt binary32 (fma binary32 (fin s 0 (pos 0)) (fin s 0 (pos 0)) (mul binary32 (fin t 0 (pos 0)) (fin t 0 (pos 0))))
 unfolding of_bits sqrt fma mul
-zeros-at true true = refl
-zeros-at true false = refl
-zeros-at false true = refl
-zeros-at false false = refl
+zeros_at true true = refl
+zeros_at true false = refl
+zeros_at false true = refl
+zeros_at false false = refl
 
 zeros : (x y : Float) → ((s : Bool) × (x ≡ fin s 0 (pos 0))) → ((t : Bool) × (y ≡ fin t 0 (pos 0))) → of_bits binary32 0 ≡ sqrt binary32 (fma binary32 x x (mul binary32 y y))
-zeros x y (s, e) (t, g) = zeros-at s t ∙ sym (ap₂ (λ (a b : Float). sqrt binary32 (fma binary32 a a (mul binary32 b b))) e g)
+zeros x y (s, e) (t, g) = zeros_at s t ∙ sym (ap₂ (λ (a b : Float). sqrt binary32 (fma binary32 a a (mul binary32 b b))) e g)
 
 -- the root of what the short path gives
-root-of : (n b : ℕ) (r v : Float) → r ≡ sqrt binary32 (of_bits binary32 b) → b ≡ narrowBits n → RoundsOnce n → n < 5183643170566569984 → convert binary32 (of_bits binary64 n) ≡ v → r ≡ sqrt binary32 v
-root-of n b r v e f k h g = e ∙ ap (λ (x : ℕ). sqrt binary32 (of_bits binary32 x)) f ∙ ap (sqrt binary32) (plain-is n k (lt_of_lt_of_le h (lit≤ tt)) ∙ g)
+root_of_lem : (n b : ℕ) (r v : Float) → r ≡ sqrt binary32 (of_bits binary32 b) → b ≡ narrow_bits n → RoundsOnce n → n < 5183643170566569984 → convert binary32 (of_bits binary64 n) ≡ v → r ≡ sqrt binary32 v
+root_of_lem n b r v e f k h g = e ∙ ap (λ (x : ℕ). sqrt binary32 (of_bits binary32 x)) f ∙ ap (sqrt binary32) (plain_is n k (lt_of_lt_of_le h (lit≤ tt)) ∙ g)
 
 returns : tie.Need-returns
 returns c =
@@ -39,13 +39,13 @@ normal-root-requires : tie.Need-normal-root-requires
 normal-root-requires c κs =
     let d = c.before.before in
     let n = d.before.fused-wide in
-    subst (λ (b : ℕ). (8388608 ≤ b) × (b < 2139095040)) (sym c.narrow-bits.ensures) (plain-normal n.result (n.ensures.once d.if3.true) (lt_of_lt_of_le c.before.if4.true (lit≤ tt)))
+    subst (λ (b : ℕ). (8388608 ≤ b) × (b < 2139095040)) (sym c.narrow-bits.ensures) (plain_normal n.result (n.ensures.once d.if3.true) (lt_of_lt_of_le c.before.if4.true (lit≤ tt)))
 
 returns-2 : tie.Need-returns-2
 returns-2 c =
     let d = c.before.before.before in
     let n = d.before.fused-wide in
-    root-of n.result _ _ _ c.normal-root.ensures c.before.narrow-bits.ensures (n.ensures.once d.if3.true) (lt_of_lt_of_le c.before.before.if4.true (lit≤ tt)) (n.ensures.right d.if3.true)
+    root_of_lem n.result _ _ _ c.normal-root.ensures c.before.narrow-bits.ensures (n.ensures.once d.if3.true) (lt_of_lt_of_le c.before.before.if4.true (lit≤ tt)) (n.ensures.right d.if3.true)
 
 fma-general-requires : tie.Need-fma-general-requires
 fma-general-requires c κs = search rules

@@ -1,5 +1,5 @@
 -- `length_with` meets its contract: the guess that passed, or `length`. Assumes nothing.
-use Rattle.packing.proofs.Plain.{no-nan32}
+use Rattle.packing.proofs.Plain.{no_nan32}
 use Rattle.std.proofs.Common.{rules}
 use Rattle.ieee_length.proofs.length_with.Statement.{statement}
 use Rattle.ieee_length.proofs.length_with.Tie as tie
@@ -8,7 +8,7 @@ length-guess-requires : tie.Need-length-guess-requires
 length-guess-requires c κs = search rules
 
 float-from-bits-result : tie.Need-float-from-bits-result
-float-from-bits-result c = no-nan32 c.before.length-guess.result c.before.length-guess.ensures.small
+float-from-bits-result c = no_nan32 c.before.length-guess.result c.before.length-guess.ensures.small
 
 length-requires : tie.Need-length-requires
 length-requires c κs = search rules

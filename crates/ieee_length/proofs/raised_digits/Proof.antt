@@ -1,6 +1,6 @@
 -- `raised_digits` meets its contract: the pattern is of a number from 1 to below 4. Assumes nothing.
 use Rattle.std.proofs.Common.{arith, rules}
-use Rattle.packing.proofs.Plain.{no-nan64}
+use Rattle.packing.proofs.Plain.{no_nan64}
 use Rattle.ieee_length.proofs.raised_digits.Statement.{statement}
 use Rattle.ieee_length.proofs.raised_digits.Tie as tie
 
@@ -11,7 +11,7 @@ add-result : tie.Need-overflow-add-result
 add-result c = search rules
 
 float-from-bits-result : tie.Need-float-from-bits-result
-float-from-bits-result c = no-nan64 _ (omega arith)
+float-from-bits-result c = no_nan64 _ (omega arith)
 
 returns : tie.Need-returns
 returns c = search rules

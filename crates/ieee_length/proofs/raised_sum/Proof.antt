@@ -1,7 +1,7 @@
 -- `raised_sum` meets its contract. Assumes nothing.
 use Rattle.std.proofs.Common.{T, sym, subst, arith}
 use lib.Ieee.{binary32, fits}
-use Rattle.ieee_length.proofs.Raised.{operands, sum-no-nan, sum_below, raised}
+use Rattle.ieee_length.proofs.Raised.{operands, sum_no_nan, sum_below, raised}
 use Rattle.ieee_length.proofs.raised_sum.Statement.{statement}
 use Rattle.ieee_length.proofs.raised_sum.Tie as tie
 
@@ -12,7 +12,7 @@ wide-fma-requires : tie.Need-wide-fma-requires
 wide-fma-requires c κs = operands c.args.x c.args.y (held c) c.requires
 
 float-to-bits-result : tie.Need-float-to-bits-result
-float-to-bits-result c = let s = c.before in sum-no-nan s.args.x s.args.y (held s) s.requires c.wide-fma.result c.wide-fma.ensures
+float-to-bits-result c = let s = c.before in sum_no_nan s.args.x s.args.y (held s) s.requires c.wide-fma.result c.wide-fma.ensures
 
 add-result : tie.Need-overflow-add-result
 add-result c = let s = c.before in omega (arith, sum_below s.args.x s.args.y (held s) s.requires c.wide-fma.result c.wide-fma.ensures)

@@ -8,14 +8,14 @@ use lib.Dec.{T, lit<, lit≤}
 use lib.Pow.{pow_pos}
 use lib.Ieee.{binary64, to_bits}
 use Rattle.packing.proofs.Plain.{above_no_nan}
-use Rattle.ieee_root.proofs.Tries.{try-lt, try-small, try-right}
+use Rattle.ieee_root.proofs.Tries.{try_lt, try_small, try_right}
 use Rattle.ieee_root.proofs.checked_root.Statement.{statement}
 use Rattle.ieee_root.proofs.checked_root.Tie as tie
 use Rattle.ieee_root.proofs.checked_root.Reads as reads
 use Rattle.ieee_root.proofs.checked_root.Lts as lts
 
-square-in : (b : ℕ) → b % 2 ^ 25 * (b % 2 ^ 25) < 2 ^ 50
-square-in b = let l : b % 2 ^ 25 ≤ 2 ^ 25 - 1 = omega (arith, mod-lt b (pow_pos 25)) in lt_of_le_of_lt (mul-le-mul l l) (lit< tt)
+square_in : (b : ℕ) → b % 2 ^ 25 * (b % 2 ^ 25) < 2 ^ 50
+square_in b = let l : b % 2 ^ 25 ≤ 2 ^ 25 - 1 = omega (arith, mod-lt b (pow_pos 25)) in lt_of_le_of_lt (mul-le-mul l l) (lit< tt)
 
 sub-e : tie.Need-overflow-sub-e
 sub-e c = search rules
@@ -39,13 +39,13 @@ float-to-bits-q : tie.Need-float-to-bits-q
 float-to-bits-q c = above_no_nan _ c.before.args.t c.if1.true
 
 mul-n : tie.Need-overflow-mul-n
-mul-n c = record { fits = lt_of_lt_of_le (square-in (to_bits binary64 c.before.args.t)) (lit≤ tt) }
+mul-n c = record { fits = lt_of_lt_of_le (square_in (to_bits binary64 c.before.args.t)) (lit≤ tt) }
 
 add-if2 : tie.Need-overflow-add-if2
-add-if2 c = let s = c.before in omega (arith, try-lt s.args.b s.requires.0 s.requires.1)
+add-if2 c = let s = c.before in omega (arith, try_lt s.args.b s.requires.0 s.requires.1)
 
 add-if3 : tie.Need-overflow-add-if3
-add-if3 c = omega (arith, square-in (to_bits binary64 c.before.before.args.t))
+add-if3 c = omega (arith, square_in (to_bits binary64 c.before.before.args.t))
 
 add-result : tie.Need-overflow-add-result
 add-result c = search rules
@@ -64,8 +64,8 @@ returns c =
     let s = c.before.before.before in
     let q = to_bits binary64 s.args.t % 2 ^ 25 in
     record {
-      small = try-small s.args.b s.requires.0 s.requires.1 q (omega (arith, c.before.if2.true)) (omega (arith, c.if3.true));
-      right = λ h. try-right s.args.b s.requires.0 s.requires.1 q (omega (arith, c.before.if2.true)) (omega (arith, c.if3.true));
+      small = try_small s.args.b s.requires.0 s.requires.1 q (omega (arith, c.before.if2.true)) (omega (arith, c.if3.true));
+      right = λ h. try_right s.args.b s.requires.0 s.requires.1 q (omega (arith, c.before.if2.true)) (omega (arith, c.if3.true));
     }
 
 returns-2 : tie.Need-returns-2

@@ -25,15 +25,15 @@ half k p =
     let e : suc (k - 1) ≡ k = omega arith in
     ap (λ (x : ℕ). 2 ^ x) (sym e) ∙ pow-suc 2 (k - 1)
 
-square-in : (t : ℕ) → t < 2 ^ 32 → t * t < 2 ^ 64
-square-in t h = let l : t ≤ 2 ^ 32 - 1 = omega arith in lt_of_le_of_lt (mul-le-mul l l) (lit< tt)
+square_in : (t : ℕ) → t < 2 ^ 32 → t * t < 2 ^ 64
+square_in t h = let l : t ≤ 2 ^ 32 - 1 = omega arith in lt_of_le_of_lt (mul-le-mul l l) (lit< tt)
 
 module _ (n r k : ℕ) (p : 0 < k) (i : invariant-loop n 0 32 r k) where
   abbrev b : ℕ
   b = 1 * 2 ^ (k - 1) % 2 ^ 64
 
-  t-in : r + b < 2 ^ 32
-  t-in = omega (arith, i.3, half k p, bit k p i.0, pow_pos (k - 1))
+  t_in : r + b < 2 ^ 32
+  t_in = omega (arith, i.3, half k p, bit k p i.0, pow_pos (k - 1))
 
   taken : (r + b) * (r + b) ≤ n → invariant-loop n 0 32 (r + b) (k - 1)
   taken h =
@@ -56,10 +56,10 @@ shl-t : tie.Need-overflow-shl-t invariant-loop decreases-loop
 shl-t c = omega arith
 
 add-t : tie.Need-overflow-add-t invariant-loop decreases-loop
-add-t c = omega (arith, t-in c.before.before.args.n c.before.loop.r c.before.loop.k c.loop-test.true c.before.loop.invariant)
+add-t c = omega (arith, t_in c.before.before.args.n c.before.loop.r c.before.loop.k c.loop-test.true c.before.loop.invariant)
 
 mul-if1 : tie.Need-overflow-mul-if1 invariant-loop decreases-loop
-mul-if1 c = record { fits = square-in (c.before.loop.r + b c.before.before.args.n c.before.loop.r c.before.loop.k c.loop-test.true c.before.loop.invariant) (t-in c.before.before.args.n c.before.loop.r c.before.loop.k c.loop-test.true c.before.loop.invariant) }
+mul-if1 c = record { fits = square_in (c.before.loop.r + b c.before.before.args.n c.before.loop.r c.before.loop.k c.loop-test.true c.before.loop.invariant) (t_in c.before.before.args.n c.before.loop.r c.before.loop.k c.loop-test.true c.before.loop.invariant) }
 
 loop-less : tie.Need-loop-smaller invariant-loop decreases-loop
 loop-less c = omega arith

@@ -1,7 +1,7 @@
 -- `normal_root` meets its contract: the checked guess, or the general path. Assumes nothing.
 use borrow.Author.Rules.{rules}
 use native.Mathlib.Nat.{le_of_lt}
-use Rattle.packing.proofs.Plain.{no-nan32}
+use Rattle.packing.proofs.Plain.{no_nan32}
 use Rattle.ieee_root.proofs.normal_root.Statement.{statement}
 use Rattle.ieee_root.proofs.normal_root.Tie as tie
 
@@ -12,13 +12,13 @@ checked-root-requires : tie.Need-checked-root-requires
 checked-root-requires c κs = search rules
 
 float-from-bits-result : tie.Need-float-from-bits-result
-float-from-bits-result c = no-nan32 c.before.checked-root.result c.before.checked-root.ensures.small
+float-from-bits-result c = no_nan32 c.before.checked-root.result c.before.checked-root.ensures.small
 
 returns : tie.Need-returns
 returns c = c.before.checked-root.ensures.right c.if1.true
 
 float-from-bits-root-general : tie.Need-float-from-bits-root-general
-float-from-bits-root-general c = let s = c.before.before.before in no-nan32 s.args.b (le_of_lt s.requires.1)
+float-from-bits-root-general c = let s = c.before.before.before in no_nan32 s.args.b (le_of_lt s.requires.1)
 
 root-general-requires : tie.Need-root-general-requires
 root-general-requires c κs = search rules

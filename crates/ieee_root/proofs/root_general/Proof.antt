@@ -29,8 +29,8 @@ T_of b e = subst T (sym e) tt
 more : (m : ℕ) (e : ℤ) → ltb (0 * down e) (m * up e * 1) ≡ true → 0 < m
 more m e h = first_pos m (up e) (subst (λ (x : ℕ). 0 < x) (mul-one (m * up e)) (subst (λ (x : ℕ). x < m * up e * 1) (zero-mul (down e)) (ltb→lt (0 * down e) (m * up e * 1) (T_of (ltb (0 * down e) (m * up e * 1)) h))))
 
-is-more : (m : ℕ) (e : ℤ) → ltb (0 * down e) (suc m * up e * 1) ≡ true
-is-more m e =
+is_more : (m : ℕ) (e : ℤ) → ltb (0 * down e) (suc m * up e * 1) ≡ true
+is_more m e =
     is_true (ltb (0 * down e) (suc m * up e * 1)) (lt→ltb (0 * down e) (suc m * up e * 1)
     (subst (λ (x : ℕ). x < suc m * up e * 1) (sym (zero-mul (down e))) (subst (λ (x : ℕ). 0 < x) (sym (mul-one (suc m * up e))) (mul-pos (zero-lt-suc m) (up_pos e)))))
 
@@ -86,7 +86,7 @@ none (inf true) g h = refl
 none (inf false) g h = absurd (true≢false g)
 none (fin s zero e) g h = absurd (true≢false (sym (zeros e s) ∙ h))
 none (fin true (suc m) e) g h = refl
-none (fin false (suc m) e) g h = absurd (true≢false (sym (is-more m e) ∙ g))
+none (fin false (suc m) e) g h = absurd (true≢false (sym (is_more m e) ∙ g))
 
 held : (c : tie.Start) → T (fits binary32 c.args.x)
 held c = subst T (sym c.well-formed.0.1) tt

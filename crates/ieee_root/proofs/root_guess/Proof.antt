@@ -5,7 +5,7 @@ use native.Mathlib.Omega.{arith}
 use mathlib.Core.Path.{◌≡◌, refl, sym, ap, ◌∙◌, subst}
 use mathlib.Core.Bool.{Bool, true, false, not}
 use lib.Dec.{T, lit<, lit≤}
-use Rattle.packing.proofs.Plain.{no-nan64}
+use Rattle.packing.proofs.Plain.{no_nan64}
 use Rattle.ieee_root.proofs.root_guess.Statement.{statement}
 use Rattle.ieee_root.proofs.root_guess.Tie as tie
 use Rattle.ieee_root.proofs.root_guess.Reads as reads
@@ -29,10 +29,10 @@ sub-y : tie.Need-overflow-sub-y
 sub-y c = search rules
 
 float-from-bits-y : tie.Need-float-from-bits-y
-float-from-bits-y c = no-nan64 _ (omega arith)
+float-from-bits-y c = no_nan64 _ (omega arith)
 
 float-from-bits-newton-steps : tie.Need-float-from-bits-newton-steps
-float-from-bits-newton-steps c = no-nan64 _ (omega arith)
+float-from-bits-newton-steps c = no_nan64 _ (omega arith)
 
 newton-steps-requires : tie.Need-newton-steps-requires
 newton-steps-requires c κs = search rules

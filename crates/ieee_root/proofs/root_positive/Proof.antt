@@ -15,26 +15,26 @@ use lib.Ieee.Scale.{finite}
 use lib.Ieee.Positive.{positive, value_pos, first_pos}
 use Rattle.packing.specs.Parts.{Normalized}
 use Rattle.ieee.specs.Root.{sqrt, halves}
-use Rattle.ieee_root.proofs.Roots.{square_le, exact-case, open-case, sqrt-is}
+use Rattle.ieee_root.proofs.Roots.{square_le, exact_case, open_case, sqrt_is}
 use Rattle.ieee_root.proofs.root_positive.Statement.{statement}
 use Rattle.ieee_root.proofs.root_positive.Tie as tie
 use Rattle.ieee_root.proofs.root_positive.Reads as reads
 use Rattle.ieee_root.proofs.root_positive.Lts as lts
 use Rattle.ieee_root.proofs.isqrt.Reads as isqrt-reads
 
-finite-of : (x : Float) → T (positive x) → finite x ≡ true
-finite-of nan p = absurd p
-finite-of (inf s) p = absurd p
-finite-of (fin s m e) p = refl
+finite_of : (x : Float) → T (positive x) → finite x ≡ true
+finite_of nan p = absurd p
+finite_of (inf s) p = absurd p
+finite_of (fin s m e) p = refl
 
-as-false : (x : Float) (s : Bool) (a c : ℕ) → T (positive x) → HasValue x s a c → HasValue x false a c
-as-false nan s a c p h = absurd p
-as-false (inf t) s a c p h = absurd p
-as-false (fin true m e) s a c p h = absurd p
-as-false (fin false m e) s a c p h = (refl, h.1)
+as_false : (x : Float) (s : Bool) (a c : ℕ) → T (positive x) → HasValue x s a c → HasValue x false a c
+as_false nan s a c p h = absurd p
+as_false (inf t) s a c p h = absurd p
+as_false (fin true m e) s a c p h = absurd p
+as_false (fin false m e) s a c p h = (refl, h.1)
 
-some-digit : (x : Float) (s : Bool) (m e : ℕ) → T (positive x) → HasValue x s (m * 2 ^ e) (2 ^ 149) → 0 < m
-some-digit x s m e p h = first_pos m (2 ^ e) (value_pos x (m * 2 ^ e) (2 ^ 149) p (pow_pos 149) (as-false x s (m * 2 ^ e) (2 ^ 149) p h))
+some_digit : (x : Float) (s : Bool) (m e : ℕ) → T (positive x) → HasValue x s (m * 2 ^ e) (2 ^ 149) → 0 < m
+some_digit x s m e p h = first_pos m (2 ^ e) (value_pos x (m * 2 ^ e) (2 ^ 149) p (pow_pos 149) (as_false x s (m * 2 ^ e) (2 ^ 149) p h))
 
 small : (r a : ℕ) → r * r ≤ a → a < 2 ^ 64 → r < 2 ^ 32
 small r a h k = square_le r (2 ^ 32) (lt_of_le_of_lt h k)
@@ -47,23 +47,23 @@ module _ (m e z : ℕ) (q : Normalized m z) where
   abbrev a : ℕ
   a = m * 2 ^ (z + w % 2) % 2 ^ 64
 
-  a-twice : m * 2 ^ (z + w % 2) ≡ m * 2 ^ z * 2 ^ (w % 2)
-  a-twice = ap (λ (x : ℕ). m * x) (pow-add 2 z (w % 2)) ∙ sym (mul_assoc m (2 ^ z) (2 ^ (w % 2)))
+  a_twice : m * 2 ^ (z + w % 2) ≡ m * 2 ^ z * 2 ^ (w % 2)
+  a_twice = ap (λ (x : ℕ). m * x) (pow-add 2 z (w % 2)) ∙ sym (mul_assoc m (2 ^ z) (2 ^ (w % 2)))
 
   a_in : m * 2 ^ (z + w % 2) < 2 ^ 64
-  a_in = lt_of_le_of_lt (le_trans (le_of_eq a-twice) (mul-le-mul_left (m * 2 ^ z) (pow_mono {i = w % 2} {j = 1} (omega arith)))) (omega (arith, q.high))
+  a_in = lt_of_le_of_lt (le_trans (le_of_eq a_twice) (mul-le-mul_left (m * 2 ^ z) (pow_mono {i = w % 2} {j = 1} (omega arith)))) (omega (arith, q.high))
 
-  a-is : a ≡ m * 2 ^ (z + w % 2)
-  a-is = mod-eq_of_lt a_in
+  a_is : a ≡ m * 2 ^ (z + w % 2)
+  a_is = mod-eq_of_lt a_in
 
-  a-ge : 2 ^ 61 ≤ a
-  a-ge = le_trans q.low (le_trans (le_of_eq (sym (mul-one (m * 2 ^ z)))) (le_trans (mul-le-mul_left (m * 2 ^ z) (pow_pos (w % 2))) (le_of_eq (sym (a-is ∙ a-twice)))))
+  a_ge : 2 ^ 61 ≤ a
+  a_ge = le_trans q.low (le_trans (le_of_eq (sym (mul-one (m * 2 ^ z)))) (le_trans (mul-le-mul_left (m * 2 ^ z) (pow_pos (w % 2))) (le_of_eq (sym (a_is ∙ a_twice)))))
 
   -- a * 4 ^ (w / 2) is four times the number whose root is asked
   same : a * (2 ^ (w / 2) * 2 ^ (w / 2)) ≡ 4 * (m * 2 ^ e * 2 ^ 149)
   same =
       let k : z + w % 2 + (w / 2 + w / 2) ≡ e + 151 = omega (arith, q.most) in
-      ap₂ (λ (x y : ℕ). x * y) a-is (sym (pow-add 2 (w / 2) (w / 2)))
+      ap₂ (λ (x y : ℕ). x * y) a_is (sym (pow-add 2 (w / 2) (w / 2)))
       ∙ mul_assoc m (2 ^ (z + w % 2)) (2 ^ (w / 2 + w / 2))
       ∙ ap (λ (x : ℕ). m * x) (sym (pow-add 2 (z + w % 2) (w / 2 + w / 2)) ∙ ap (λ (x : ℕ). 2 ^ x) k ∙ pow-add 2 e 151)
       ∙ sym (mul_assoc m (2 ^ e) (2 ^ 151))
@@ -74,7 +74,7 @@ module _ (m e z : ℕ) (q : Normalized m z) where
   up = omega (arith, q.most)
 
   keep : (r : ℕ) → a < suc r * suc r → 2 ^ 24 ≤ r
-  keep r h = omega (arith, square_le (2 ^ 30) (suc r) (lt_of_lt_of_le (lit< tt) (le_trans a-ge (le_of_lt h))))
+  keep r h = omega (arith, square_le (2 ^ 30) (suc r) (lt_of_lt_of_le (lit< tt) (le_trans a_ge (le_of_lt h))))
 
   same' : a * (2 ^ suc (w / 2 - 1) * 2 ^ suc (w / 2 - 1)) ≡ 4 * (m * 2 ^ e * 2 ^ 149)
   same' = ap (λ (x : ℕ). a * (2 ^ x * 2 ^ x)) up ∙ same
@@ -83,8 +83,8 @@ module _ (m e z : ℕ) (q : Normalized m z) where
       → round binary32 false (2 * r * 2 ^ (w / 2 + 923)) (2 ^ 1074) ≡ sqrt binary32 x
   square x s r p h l d =
       ap (λ (y : ℕ). round binary32 false (2 * r * 2 ^ (y + 923)) (2 ^ 1074)) (sym up)
-      ∙ exact-case (m * 2 ^ e * 2 ^ 149) a r (w / 2 - 1) same' (keep r (subst (λ (y : ℕ). a < y * y) (add-one r) l)) d
-      ∙ sym (sqrt-is x s (m * 2 ^ e) p h)
+      ∙ exact_case (m * 2 ^ e * 2 ^ 149) a r (w / 2 - 1) same' (keep r (subst (λ (y : ℕ). a < y * y) (add-one r) l)) d
+      ∙ sym (sqrt_is x s (m * 2 ^ e) p h)
 
   -- n is the root and a half
   between : (x : Float) (s : Bool) (r n : ℕ) → n ≡ r * 2 + 1 → T (positive x) → HasValue x s (m * 2 ^ e) (2 ^ 149) → r * r ≤ a → a < (r + 1) * (r + 1) → (r * r ≡ a → ⊥)
@@ -92,14 +92,14 @@ module _ (m e z : ℕ) (q : Normalized m z) where
   between x s r n j p h g l d =
       let l' : a < suc r * suc r = subst (λ (y : ℕ). a < y * y) (add-one r) l in
       ap₂ (λ (v y : ℕ). round binary32 false (v * 2 ^ (y + 923)) (2 ^ 1074)) j (sym up)
-      ∙ open-case (m * 2 ^ e * 2 ^ 149) a r (w / 2 - 1) same' (keep r l') (lt_of_le-ne g d) l'
-      ∙ sym (sqrt-is x s (m * 2 ^ e) p h)
+      ∙ open_case (m * 2 ^ e * 2 ^ 149) a r (w / 2 - 1) same' (keep r l') (lt_of_le-ne g d) l'
+      ∙ sym (sqrt_is x s (m * 2 ^ e) p h)
 
 unpack-requires : tie.Need-unpack-requires
-unpack-requires c κs = finite-of c.args.x c.requires
+unpack-requires c κs = finite_of c.args.x c.requires
 
 normalizing-shift-requires : tie.Need-normalizing-shift-requires
-normalizing-shift-requires c κs = let u = c.unpack in (some-digit c.before.args.x u.result.sign u.result.significand u.result.exponent c.before.requires u.ensures.value, omega (arith, u.ensures.digits))
+normalizing-shift-requires c κs = let u = c.unpack in (some_digit c.before.args.x u.result.sign u.result.significand u.result.exponent c.before.requires u.ensures.value, omega (arith, u.ensures.digits))
 
 add-w : tie.Need-overflow-add-w
 add-w c = search rules

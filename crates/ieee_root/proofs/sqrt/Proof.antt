@@ -7,7 +7,7 @@ use lib.Ieee.Bits.{of_bits-to_bits}
 use Rattle.ieee.specs.Root.{sqrt}
 use Rattle.ieee.specs.Operations.{IsRoot}
 use Rattle.packing.proofs.Plain.{above_no_nan}
-use Rattle.ieee_root.proofs.Midpoints.{root-ieee}
+use Rattle.ieee_root.proofs.Midpoints.{root_ieee}
 use Rattle.ieee_root.proofs.sqrt.Statement.{statement}
 use Rattle.ieee_root.proofs.sqrt.Tie as tie
 
@@ -16,7 +16,7 @@ held c = subst T (sym c.well-formed.0.1) tt
 
 -- both clauses from the first
 both : (x r : Float) → T (fits binary32 x) → r ≡ sqrt binary32 x → (r ≡ sqrt binary32 x) × IsRoot binary32 x r
-both x r h e = (e, subst (IsRoot binary32 x) (sym e) (root-ieee x h))
+both x r h e = (e, subst (IsRoot binary32 x) (sym e) (root_ieee x h))
 
 float-to-bits-b : tie.Need-float-to-bits-b
 float-to-bits-b c = above_no_nan _ c.before.args.x c.if1.true

@@ -7,16 +7,16 @@ use mathlib.Core.Bool.{Bool, true, false}
 use lib.Pow.{pow_pos}
 use Rattle.ieee_whole.specs.declared.Way.{Way}
 use Rattle.ieee_whole.specs.declared.Way.TheVariants.{Zero, Down, Near}
-use Rattle.ieee_whole.specs.Parts.{beforeCut}
-use Rattle.ieee_whole.proofs.Flat.{one_shift, twice-less}
+use Rattle.ieee_whole.specs.Parts.{before_cut}
+use Rattle.ieee_whole.proofs.Flat.{one_shift, twice_less}
 use Rattle.ieee_whole.proofs.before_cut.Statement.{statement}
 use Rattle.ieee_whole.proofs.before_cut.Tie as tie
 
-down : (w : Way) (s : Bool) (m b r : ℕ) → w ≡ Down → s ≡ true → r ≡ b - 1 → r ≡ beforeCut w s m b
-down w s m b r e f g = g ∙ sym (ap (λ (v : Way). beforeCut v s m b) e ∙ ap (λ (z : Bool). beforeCut Down z m b) f)
+down : (w : Way) (s : Bool) (m b r : ℕ) → w ≡ Down → s ≡ true → r ≡ b - 1 → r ≡ before_cut w s m b
+down w s m b r e f g = g ∙ sym (ap (λ (v : Way). before_cut v s m b) e ∙ ap (λ (z : Bool). before_cut Down z m b) f)
 
-near : (w : Way) (s : Bool) (m h r : ℕ) → w ≡ Near → 1 ≤ h → r ≡ 2 ^ (h - 1) - 1 + m / 2 ^ h % 2 → r ≡ beforeCut w s m (2 ^ h)
-near w s m h r e l g = g ∙ ap (λ (x : ℕ). x - 1 + m / 2 ^ h % 2) (omega (arith, twice-less h l)) ∙ sym (ap (λ (v : Way). beforeCut v s m (2 ^ h)) e)
+near : (w : Way) (s : Bool) (m h r : ℕ) → w ≡ Near → 1 ≤ h → r ≡ 2 ^ (h - 1) - 1 + m / 2 ^ h % 2 → r ≡ before_cut w s m (2 ^ h)
+near w s m h r e l g = g ∙ ap (λ (x : ℕ). x - 1 + m / 2 ^ h % 2) (omega (arith, twice_less h l)) ∙ sym (ap (λ (v : Way). before_cut v s m (2 ^ h)) e)
 
 some : (h : ℕ) → h ≤ 40 → 1 ≤ 1 * 2 ^ h % 2 ^ 64
 some h l = subst (λ (x : ℕ). 1 ≤ x) (sym (one_shift h l)) (pow_pos h)

@@ -6,7 +6,7 @@ use native.Mathlib.Omega.{arith}
 use mathlib.Core.Bool.{Bool, true, false}
 use lib.IntN.{ℤ, pos, negsuc, neg_ℤ}
 use Rattle.ieee.specs.Whole.{saturate}
-use Rattle.ieee_whole.proofs.Wholes.{saturate-minus, saturate-plus}
+use Rattle.ieee_whole.proofs.Wholes.{saturate_minus, saturate_plus}
 use Rattle.ieee_whole.proofs.clamped_i32.Statement.{statement}
 use Rattle.ieee_whole.proofs.clamped_i32.Tie as tie
 
@@ -20,10 +20,10 @@ signed-i32-requires : tie.Need-signed-i32-requires
 signed-i32-requires c κs = search rules
 
 returns : tie.Need-returns
-returns c = let a = c.before.before in saturate-minus a.args.s a.args.k (negsuc 2147483647) c.if2.true (ap (λ (x : ℕ). neg_ℤ (pos x)) (least a.args.k c.before.if1.true))
+returns c = let a = c.before.before in saturate_minus a.args.s a.args.k (negsuc 2147483647) c.if2.true (ap (λ (x : ℕ). neg_ℤ (pos x)) (least a.args.k c.before.if1.true))
 
 returns-2 : tie.Need-returns-2
-returns-2 c = let a = c.before.before in saturate-plus a.args.s a.args.k (pos 2147483647) c.if2.false (ap (λ (x : ℕ). pos x) (most a.args.k c.before.if1.true))
+returns-2 c = let a = c.before.before in saturate_plus a.args.s a.args.k (pos 2147483647) c.if2.false (ap (λ (x : ℕ). pos x) (most a.args.k c.before.if1.true))
 
 returns-3 : tie.Need-returns-3
 returns-3 c = search rules

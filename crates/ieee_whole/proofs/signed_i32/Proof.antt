@@ -8,7 +8,7 @@ use lib.IntN.{ℤ, pos, negsuc, neg_ℤ, ◌-ℤ◌, +ℤ_idl}
 use mir.Syntax.{w32}
 use mir.Val.{SFits, to_z, of_z}
 use mir.ValLaws.{to_z_pos, to_z-of_z}
-use Rattle.ieee_whole.proofs.Wholes.{saturate-minus, saturate-plus}
+use Rattle.ieee_whole.proofs.Wholes.{saturate_minus, saturate_plus}
 use Rattle.ieee_whole.proofs.signed_i32.Statement.{statement}
 use Rattle.ieee_whole.proofs.signed_i32.Tie as tie
 use Rattle.ieee_whole.proofs.signed_i32.Reads as reads
@@ -30,8 +30,8 @@ fits_sub k h = subst (SFits w32) (sym (negated k h)) (fits_neg k h)
 itself : (k : ℕ) → k < 2 ^ 31 → k ≡ min k (2 ^ 31)
 itself k h = omega arith
 
-itself-short : (k : ℕ) → k < 2 ^ 31 → k ≡ min k (2 ^ 31 - 1)
-itself-short k h = omega arith
+itself_short : (k : ℕ) → k < 2 ^ 31 → k ≡ min k (2 ^ 31 - 1)
+itself_short k h = omega arith
 
 cast-result : tie.Need-overflow-cast-result
 cast-result c = search rules
@@ -43,10 +43,10 @@ cast-result-2 : tie.Need-overflow-cast-result-2
 cast-result-2 c = search rules
 
 returns : tie.Need-returns
-returns c = let a = c.before in saturate-minus a.args.s a.args.k _ c.if1.true (to_z-of_z w32 (pos 0 -ℤ to_z w32 a.args.k) (fits_sub a.args.k a.requires) ∙ negated a.args.k a.requires ∙ ap (λ (x : ℕ). neg_ℤ (pos x)) (itself a.args.k a.requires))
+returns c = let a = c.before in saturate_minus a.args.s a.args.k _ c.if1.true (to_z-of_z w32 (pos 0 -ℤ to_z w32 a.args.k) (fits_sub a.args.k a.requires) ∙ negated a.args.k a.requires ∙ ap (λ (x : ℕ). neg_ℤ (pos x)) (itself a.args.k a.requires))
 
 returns-2 : tie.Need-returns-2
-returns-2 c = let a = c.before in saturate-plus a.args.s a.args.k _ c.if1.false (to_z_pos w32 a.args.k a.requires ∙ ap (λ (x : ℕ). pos x) (itself-short a.args.k a.requires))
+returns-2 c = let a = c.before in saturate_plus a.args.s a.args.k _ c.if1.false (to_z_pos w32 a.args.k a.requires ∙ ap (λ (x : ℕ). pos x) (itself_short a.args.k a.requires))
 
 pub signed-i32-spec : {M : Type 1} → statement M
 signed-i32-spec = tie.close (tie.spec cast-result sub-result cast-result-2 returns returns-2)

@@ -5,8 +5,8 @@ use Prim.Native.Nat.{ℕ}
 use native.Mathlib.Nat.{le_of_lt}
 use lib.Dec.{T}
 use lib.Ieee.{binary32, round}
-use Rattle.ieee_whole.proofs.Wholes.{whole-other}
-use Rattle.ieee_whole.proofs.Casts.{whole-large, whole-small}
+use Rattle.ieee_whole.proofs.Wholes.{whole_other}
+use Rattle.ieee_whole.proofs.Casts.{whole_large, whole_small}
 use Rattle.ieee_whole.proofs.to_whole.Statement.{statement}
 use Rattle.ieee_whole.proofs.to_whole.Tie as tie
 
@@ -29,7 +29,7 @@ returns : tie.Need-returns
 returns c =
     let u = c.before.unpack in
     let x = c.before.before.before.before in
-    whole-large x.args.x u.result.sign u.result.significand u.result.exponent u.ensures x.args.w (subst T (sym x.well-formed.1.0.1) tt) c.if2.true
+    whole_large x.args.x u.result.sign u.result.significand u.result.exponent u.ensures x.args.w (subst T (sym x.well-formed.1.0.1) tt) c.if2.true
 
 returns-2 : tie.Need-returns-2
 returns-2 c =
@@ -39,10 +39,10 @@ returns-2 c =
     let x = d.before.before.before in
     c.signed-f32.ensures
     ∙ ap (λ (k : ℕ). round binary32 u.result.sign k 1) z.whole-size.ensures.0
-    ∙ whole-small x.args.x u.result.sign u.result.significand u.result.exponent u.ensures x.args.w (le_of_lt z.before.if2.false)
+    ∙ whole_small x.args.x u.result.sign u.result.significand u.result.exponent u.ensures x.args.w (le_of_lt z.before.if2.false)
 
 returns-3 : tie.Need-returns-3
-returns-3 c = let x = c.before.before in whole-other x.args.w x.args.x (sym c.before.is_finite.ensures ∙ c.if1.false)
+returns-3 c = let x = c.before.before in whole_other x.args.w x.args.x (sym c.before.is_finite.ensures ∙ c.if1.false)
 
 pub to-whole-spec : {M : Type 1} → statement M
 to-whole-spec =

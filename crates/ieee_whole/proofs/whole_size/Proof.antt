@@ -4,8 +4,8 @@ use mathlib.Core.Path.{◌≡◌, refl, sym, ap, ◌∙◌, subst}
 use Prim.Native.Nat.{ℕ, ◌+◌, ◌-◌, ◌*◌, ◌/◌, ◌%◌, ◌^◌, ◌≤◌, ◌<◌, min}
 use native.Mathlib.Omega.{arith}
 use lib.Pow.{pow_pos}
-use Rattle.ieee_whole.specs.Parts.{wholeSize}
-use Rattle.ieee_whole.proofs.Flat.{size-stop, size-sum, size-le, cut-le, power-lt}
+use Rattle.ieee_whole.specs.Parts.{whole_size}
+use Rattle.ieee_whole.proofs.Flat.{size_stop, size_sum, size_le, cut_le, power_lt}
 use Rattle.ieee_whole.proofs.whole_size.Statement.{statement}
 use Rattle.ieee_whole.proofs.whole_size.Tie as tie
 
@@ -25,7 +25,7 @@ add-result : tie.Need-overflow-add-result
 add-result c =
     let a = c.before.before in
     let h = c.before.short-shift.result in
-    omega (arith, c.before-cut.ensures, cut-le a.args.w a.args.s a.args.m (2 ^ h) (pow_pos h), power-lt h (far a.args.d h c.before.short-shift.ensures))
+    omega (arith, c.before-cut.ensures, cut_le a.args.w a.args.s a.args.m (2 ^ h) (pow_pos h), power_lt h (far a.args.d h c.before.short-shift.ensures))
 
 cast-result : tie.Need-overflow-cast-result
 cast-result c = search rules
@@ -37,11 +37,11 @@ returns : tie.Need-returns
 returns c =
     let a = c.before.before in
     let h = c.before.short-shift.result in
-    let e : (a.args.m + c.before-cut.result) / 2 ^ h ≡ wholeSize a.args.w a.args.s a.args.m (2 ^ a.args.d) =
+    let e : (a.args.m + c.before-cut.result) / 2 ^ h ≡ whole_size a.args.w a.args.s a.args.m (2 ^ a.args.d) =
     ap (λ (x : ℕ). (a.args.m + x) / 2 ^ h) c.before-cut.ensures
-    ∙ size-sum a.args.w a.args.s a.args.m h (some a.args.d h a.requires.1 c.before.short-shift.ensures)
-    ∙ size-stop a.args.w a.args.s a.args.m a.args.d h a.requires.0 c.before.short-shift.ensures in
-    (e, subst (λ (x : ℕ). x ≤ 2 ^ 24) (sym e) (size-le a.args.w a.args.s a.args.m a.args.d a.requires.0))
+    ∙ size_sum a.args.w a.args.s a.args.m h (some a.args.d h a.requires.1 c.before.short-shift.ensures)
+    ∙ size_stop a.args.w a.args.s a.args.m a.args.d h a.requires.0 c.before.short-shift.ensures in
+    (e, subst (λ (x : ℕ). x ≤ 2 ^ 24) (sym e) (size_le a.args.w a.args.s a.args.m a.args.d a.requires.0))
 
 pub whole-size-spec : {M : Type 1} → statement M
 whole-size-spec =

@@ -7,8 +7,8 @@ use mir.Syntax.{w32}
 use mir.ValLaws.{to_z-of_z}
 use lib.Ieee.{to_signed}
 use Rattle.ieee.specs.Whole.{saturate}
-use Rattle.ieee_whole.proofs.Wholes.{saturate-same, whole-other}
-use Rattle.ieee_whole.proofs.Casts.{cast-large, cast-small}
+use Rattle.ieee_whole.proofs.Wholes.{saturate_same, whole_other}
+use Rattle.ieee_whole.proofs.Casts.{cast_large, cast_small}
 use Rattle.ieee_whole.proofs.whole_to_i32.Statement.{statement}
 use Rattle.ieee_whole.proofs.whole_to_i32.Tie as tie
 
@@ -44,8 +44,8 @@ returns c =
     let x = d.before.before.before in
     to_z-of_z w32 c.clamped-i32.result (record { sfits = c.clamped-i32.type-inv })
     ∙ c.clamped-i32.ensures
-    ∙ saturate-same u.result.sign z.shifted_up.result (u.result.significand * 2 ^ (u.result.exponent - 149)) z.shifted_up.ensures
-    ∙ cast-large x.args.x u.result.sign u.result.significand u.result.exponent u.ensures x.args.w 31 z.before.if2.true
+    ∙ saturate_same u.result.sign z.shifted_up.result (u.result.significand * 2 ^ (u.result.exponent - 149)) z.shifted_up.ensures
+    ∙ cast_large x.args.x u.result.sign u.result.significand u.result.exponent u.ensures x.args.w 31 z.before.if2.true
 
 returns-2 : tie.Need-returns-2
 returns-2 c =
@@ -56,14 +56,14 @@ returns-2 c =
     to_z-of_z w32 c.signed-i32.result (record { sfits = c.signed-i32.type-inv })
     ∙ c.signed-i32.ensures
     ∙ ap (λ (k : ℕ). saturate 31 u.result.sign k) z.whole-size.ensures.0
-    ∙ cast-small x.args.x u.result.sign u.result.significand u.result.exponent u.ensures x.args.w 31 (le_of_lt z.before.if2.false)
+    ∙ cast_small x.args.x u.result.sign u.result.significand u.result.exponent u.ensures x.args.w 31 (le_of_lt z.before.if2.false)
 
 returns-3 : tie.Need-returns-3
 returns-3 c =
     let x = c.before.before.before in
     to_z-of_z w32 c.infinite-to-i32.result (record { sfits = c.infinite-to-i32.type-inv })
     ∙ c.infinite-to-i32.ensures
-    ∙ ap (to_signed 31) (whole-other x.args.w x.args.x (sym c.before.before.is_finite.ensures ∙ c.before.if1.false))
+    ∙ ap (to_signed 31) (whole_other x.args.w x.args.x (sym c.before.before.is_finite.ensures ∙ c.before.if1.false))
 
 pub whole-to-i32-spec : {M : Type 1} → statement M
 whole-to-i32-spec =

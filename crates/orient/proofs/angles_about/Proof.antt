@@ -1,4 +1,4 @@
-use Rattle.orient.proofs.Checks.{ready-range, about}
+use Rattle.orient.proofs.Checks.{ready_range, about}
 use borrow.Author.Rules.{rules}
 use Rattle.orient.proofs.angles_about.Statement.{statement}
 use Rattle.orient.proofs.angles_about.Tie as tie
@@ -12,7 +12,7 @@ window-at-requires : tie.Need-window-at-requires
 window-at-requires c κs = search rules
 
 tally-of-requires : tie.Need-tally-of-requires
-tally-of-requires c κs = rw c.window-at.ensures (ready-range _ _ _ c.before.before.requires)
+tally-of-requires c κs = rw c.window-at.ensures (ready_range _ _ _ c.before.before.requires)
 
 angles-of-requires : tie.Need-angles-of-requires
 angles-of-requires c κs = search rules

@@ -1,5 +1,5 @@
 use mathlib.Core.Path.{sym, ◌∙◌}
-use Rattle.orient.proofs.Answers.{answer-refused, out-refused, few, answer-given, out-given}
+use Rattle.orient.proofs.Answers.{answer_refused, out_refused, few, answer_given, out_given}
 use borrow.Author.Rules.{rules}
 use Rattle.orient.proofs.assign_orientations.Statement.{statement}
 use Rattle.orient.proofs.assign_orientations.Tie as tie
@@ -16,7 +16,7 @@ returns : tie.Need-returns
 returns c =
     let a = c.before.before.before.before.args in
     let e = c.before.fault-of.ensures.0 in
-    (answer-refused a.img.now a.s a.k _ _ e c.if1.true, out-refused a.img.now a.s a.k _ a.out.now e c.if1.true)
+    (answer_refused a.img.now a.s a.k _ _ e c.if1.true, out_refused a.img.now a.s a.k _ a.out.now e c.if1.true)
 
 angles-about-requires : tie.Need-angles-about-requires
 angles-about-requires c κs = c.before.fault-of.ensures.1 c.if1.false
@@ -37,8 +37,8 @@ returns-2 c =
     let r = b.angles-about.ensures in
     let z = sym b.before.before.fault-of.ensures.0 ∙ b.before.if1.false in
     let g = c.before.before.give.ensures in (
-      answer-given a.img.now a.s a.k b.angles-about.result r z _ _ g.0,
-      out-given a.img.now a.s a.k b.angles-about.result r z a.out.now _ g.1,
+      answer_given a.img.now a.s a.k b.angles-about.result r z _ _ g.0,
+      out_given a.img.now a.s a.k b.angles-about.result r z a.out.now _ g.1,
     )
 
 pub assign-orientations-spec : {M : Type 1} → statement M

@@ -1,5 +1,5 @@
 use mathlib.Core.Path.{refl}
-use Rattle.orient.specs.Keypoint.{cellWrong}
+use Rattle.orient.specs.Keypoint.{cell_wrong}
 use borrow.Author.Rules.{rules}
 use Rattle.orient.proofs.cell_wrong.Statement.{statement}
 use Rattle.orient.proofs.cell_wrong.Tie as tie
@@ -13,7 +13,7 @@ cast-result-2 : tie.Need-overflow-cast-result-2
 cast-result-2 c = search rules
 
 returns : tie.Need-returns
-unfolding cellWrong
+unfolding cell_wrong
 returns c = refl
 
 pub cell-wrong-spec : {M : Type 1} → statement M

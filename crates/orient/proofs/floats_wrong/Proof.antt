@@ -1,4 +1,4 @@
-use Rattle.orient.specs.Keypoint.{floatsWrong}
+use Rattle.orient.specs.Keypoint.{floats_wrong}
 use borrow.Author.Rules.{rules}
 use Rattle.orient.proofs.floats_wrong.Statement.{statement}
 use Rattle.orient.proofs.floats_wrong.Tie as tie
@@ -22,7 +22,7 @@ is-finite-requires-5 : tie.Need-is-finite-requires-5
 is-finite-requires-5 c κs = search rules
 
 returns : tie.Need-returns
-unfolding floatsWrong
+unfolding floats_wrong
 returns c = rw (c.is-finite5.ensures, c.before.is-finite4.ensures, c.before.before.is-finite3.ensures, c.before.before.before.is-finite2.ensures, c.before.before.before.before.is_finite.ensures)
 
 pub floats-wrong-spec : {M : Type 1} → statement M

@@ -1,5 +1,5 @@
 use mathlib.Core.Path.{sym, ◌∙◌}
-use Rattle.orient.proofs.Checks.{cell-first, octave-next, octave-right, rest-last}
+use Rattle.orient.proofs.Checks.{cell_first, octave_next, octave_right_lem, rest_last}
 use borrow.Author.Rules.{rules}
 use Rattle.orient.proofs.keypoint_wrong.Statement.{statement}
 use Rattle.orient.proofs.keypoint_wrong.Tie as tie
@@ -14,24 +14,24 @@ cell-wrong-requires : tie.Need-cell-wrong-requires
 cell-wrong-requires c κs = search rules
 
 returns : tie.Need-returns
-returns c = cell-first _ _ (sym c.before.cell-wrong.ensures ∙ c.if1.true)
+returns c = cell_first _ _ (sym c.before.cell-wrong.ensures ∙ c.if1.true)
 
 octave-wrong-requires : tie.Need-octave-wrong-requires
 octave-wrong-requires c κs = search rules
 
 returns-2 : tie.Need-returns-2
-returns-2 c = octave-next _ _ (sym c.before.before.before.cell-wrong.ensures ∙ c.before.before.if1.false) (sym c.before.octave-wrong.ensures ∙ c.if2.true)
+returns-2 c = octave_next _ _ (sym c.before.before.before.cell-wrong.ensures ∙ c.before.before.if1.false) (sym c.before.octave-wrong.ensures ∙ c.if2.true)
 
 floats-wrong-requires : tie.Need-floats-wrong-requires
 floats-wrong-requires c κs = search rules
 
 scale-wrong-requires : tie.Need-scale-wrong-requires
-scale-wrong-requires c κs = octave-right _ (sym c.before.before.octave-wrong.ensures ∙ c.before.if2.false)
+scale-wrong-requires c κs = octave_right_lem _ (sym c.before.before.octave-wrong.ensures ∙ c.before.if2.false)
 
 returns-3 : tie.Need-returns-3
 returns-3 c =
     let b = c.before.before in
-    rw (c.scale-wrong.ensures, c.before.floats-wrong.ensures) (rest-last _ _ (sym b.before.before.before.cell-wrong.ensures ∙ b.before.before.if1.false) (sym b.before.octave-wrong.ensures ∙ b.if2.false))
+    rw (c.scale-wrong.ensures, c.before.floats-wrong.ensures) (rest_last _ _ (sym b.before.before.before.cell-wrong.ensures ∙ b.before.before.if1.false) (sym b.before.octave-wrong.ensures ∙ b.if2.false))
 
 pub keypoint-wrong-spec : {M : Type 1} → statement M
 keypoint-wrong-spec =

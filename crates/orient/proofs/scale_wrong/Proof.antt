@@ -1,4 +1,4 @@
-use Rattle.orient.specs.Keypoint.{scaleWrong}
+use Rattle.orient.specs.Keypoint.{scale_wrong}
 use borrow.Author.Rules.{rules}
 use Rattle.orient.proofs.scale_wrong.Statement.{statement}
 use Rattle.orient.proofs.scale_wrong.Tie as tie
@@ -10,7 +10,7 @@ scale-of-requires : tie.Need-scale-of-requires
 scale-of-requires c κs = search rules
 
 returns : tie.Need-returns
-unfolding scaleWrong
+unfolding scale_wrong
 returns c = rw c.scale_of.ensures
 
 pub scale-wrong-spec : {M : Type 1} → statement M

@@ -1,4 +1,4 @@
-use Rattle.orient.specs.Entry.{windowAt}
+use Rattle.orient.specs.Entry.{window_at}
 use borrow.Author.Rules.{rules}
 use Rattle.orient.proofs.window_at.Statement.{statement}
 use Rattle.orient.proofs.window_at.Tie as tie
@@ -22,7 +22,7 @@ window-of-requires c κs =
     (a.row, (a.column, (a.high, (a.wide, rw c.scale_of.ensures a.scale))))
 
 returns : tie.Need-returns
-unfolding windowAt
+unfolding window_at
 returns c = rw (c.window-of.ensures, c.before.scale_of.ensures)
 
 pub window-at-spec : {M : Type 1} → statement M

@@ -1,7 +1,7 @@
 use mathlib.Core.Path.{refl}
 use native.Mathlib.Omega.{arith}
-use Rattle.orient_window.proofs.Cells.{at-cell}
-use Rattle.orient_gather.proofs.Runs.{length-late, length-early}
+use Rattle.orient_window.proofs.Cells.{at_cell}
+use Rattle.orient_gather.proofs.Runs.{length_late, length_early}
 use borrow.Author.Rules.{rules}
 use Rattle.orient_gather.proofs.cells_at.Statement.{statement}
 use Rattle.orient_gather.proofs.cells_at.Tie as tie
@@ -13,13 +13,13 @@ early-of-requires : tie.Need-early-of-requires
 early-of-requires c κs = search rules
 
 rem-rest : tie.Need-nonzero-rem-rest
-rem-rest c = (at-cell c.before.before.args.win _ _ c.before.before.requires.0 c.before.before.requires.1).some
+rem-rest c = (at_cell c.before.before.args.win _ _ c.before.before.requires.0 c.before.before.requires.1).some
 
 sub-rest : tie.Need-overflow-sub-rest
-sub-rest c = omega (arith, at-cell c.before.before.before.args.win _ _ c.before.before.before.requires.0 c.before.before.before.requires.1)
+sub-rest c = omega (arith, at_cell c.before.before.before.args.win _ _ c.before.before.before.requires.0 c.before.before.before.requires.1)
 
 returns : tie.Need-returns
-returns c = length-late c.before.before.before.before.args.win _ _ _ (rw (← c.before.before.before.early-of.ensures) c.if1.true) refl
+returns c = length_late c.before.before.before.before.args.win _ _ _ (rw (← c.before.before.before.early-of.ensures) c.if1.true) refl
 
 sub-if2 : tie.Need-overflow-sub-if2
 sub-if2 c = search rules
@@ -28,10 +28,10 @@ sub-result : tie.Need-overflow-sub-result
 sub-result c = search rules
 
 returns-2 : tie.Need-returns-2
-returns-2 c = let e = c.before.before.before.before.early-of.ensures in length-early c.before.before.before.before.before.args.win _ _ _ (rw (← e) c.before.if1.false) (rw (← e) (omega arith))
+returns-2 c = let e = c.before.before.before.before.early-of.ensures in length_early c.before.before.before.before.before.args.win _ _ _ (rw (← e) c.before.if1.false) (rw (← e) (omega arith))
 
 returns-3 : tie.Need-returns-3
-returns-3 c = let e = c.before.before.before.before.early-of.ensures in length-early c.before.before.before.before.before.args.win _ _ _ (rw (← e) c.before.if1.false) (rw (← e) (omega arith))
+returns-3 c = let e = c.before.before.before.before.early-of.ensures in length_early c.before.before.before.before.before.args.win _ _ _ (rw (← e) c.before.if1.false) (rw (← e) (omega arith))
 
 pub cells-at-spec : {M : Type 1} → statement M
 cells-at-spec =

@@ -52,16 +52,16 @@ use denote.Triple.Walked.{says, needs, Stays, stay_none, stay_none_ref, stay_non
 use denote.Exit.{yes}
 use denote.Signature.{plain}
 use borrow.Table.OneValue.{part_in, part_out}
-use Rattle.params.specs.Limits.{maxSide}
-use Rattle.hal.specs.Powers.{pairs as pairTable}
-use Rattle.hal_magnitude.specs.Cubics.{cubics as cubicTable}
-use Rattle.hal_angle.specs.Turns.{turns as turnTable}
+use Rattle.params.specs.Limits.{max_side}
+use Rattle.hal.specs.Powers.{pairs as pair_table}
+use Rattle.hal_magnitude.specs.Cubics.{cubics as cubic_table}
+use Rattle.hal_angle.specs.Turns.{turns as turn_table}
 use Rattle.orient_tally.specs.Sample.{bins}
 use Rattle.orient_tally.specs.Tally.{tallied, tally_of, empty}
 use Rattle.orient_tally.specs.Place.{InRange}
-use Rattle.orient_tally.specs.Runs.{sampleIn}
-use Rattle.orient_gather.specs.Runs.{runOf, runLength}
-use Rattle.orient_tally.proofs.After.{after, after_none, after-all}
+use Rattle.orient_tally.specs.Runs.{sample_in}
+use Rattle.orient_gather.specs.Runs.{run_of, run_length}
+use Rattle.orient_tally.proofs.After.{after, after_none, after_all}
 use Rattle.orient_gather.proofs.Runs.{Goes, goes, after_run, asked_in}
 use Rattle.orient_tally.specs.declared.Tally.{Tally}
 use Rattle.orient_tally.specs.declared.Sample.{Sample}
@@ -76,25 +76,25 @@ use Rattle.orient_window.proofs.Window.TheLaws as N'
 use Rattle.orient_tally.specs.contracts.Run as U
 use Rattle.orient_tally.proofs.Run.TheLaws as U'
 use Rattle.orient_tally.specs.contracts.fresh as fresh
-use Rattle.orient_tally.proofs.fresh.Symbol as fresh-def
+use Rattle.orient_tally.proofs.fresh.Symbol as fresh_def
 use Rattle.orient_tally.proofs.fresh.Symbol.{name as #orient-tally·fresh}
-use Rattle.orient_tally.proofs.fresh.Met as fresh-thm
+use Rattle.orient_tally.proofs.fresh.Met as fresh_thm
 use Rattle.orient_gather.specs.contracts.run_at as run_at
-use Rattle.orient_gather.proofs.run_at.Symbol as run-at-def
+use Rattle.orient_gather.proofs.run_at.Symbol as run_at_def
 use Rattle.orient_gather.proofs.run_at.Symbol.{name as #orient-gather·run-at}
-use Rattle.orient_gather.proofs.run_at.Met as run-at-thm
+use Rattle.orient_gather.proofs.run_at.Met as run_at_thm
 use Rattle.orient_gather.specs.contracts.cells_at as cells_at
-use Rattle.orient_gather.proofs.cells_at.Symbol as cells-at-def
+use Rattle.orient_gather.proofs.cells_at.Symbol as cells_at_def
 use Rattle.orient_gather.proofs.cells_at.Symbol.{name as #orient-gather·cells-at}
-use Rattle.orient_gather.proofs.cells_at.Met as cells-at-thm
-use Rattle.orient_tally.specs.contracts.sample_at as sample-at
-use Rattle.orient_tally.proofs.sample_at.Symbol as sample-at-def
+use Rattle.orient_gather.proofs.cells_at.Met as cells_at_thm
+use Rattle.orient_tally.specs.contracts.sample_at as sample_at
+use Rattle.orient_tally.proofs.sample_at.Symbol as sample_at_def
 use Rattle.orient_tally.proofs.sample_at.Symbol.{name as #orient-tally·sample-at}
-use Rattle.orient_tally.proofs.sample_at.Met as sample-at-thm
-use Rattle.orient_tally.specs.contracts.add_sample as add-sample
-use Rattle.orient_tally.proofs.add_sample.Symbol as add-sample-def
+use Rattle.orient_tally.proofs.sample_at.Met as sample_at_thm
+use Rattle.orient_tally.specs.contracts.add_sample as add_sample
+use Rattle.orient_tally.proofs.add_sample.Symbol as add_sample_def
 use Rattle.orient_tally.proofs.add_sample.Symbol.{name as #orient-tally·add-sample}
-use Rattle.orient_tally.proofs.add_sample.Met as add-sample-thm
+use Rattle.orient_tally.proofs.add_sample.Met as add_sample_thm
 use Rattle.orient_gather.specs.contracts.gather.Key.{name as #orient-gather·gather}
 use Rattle.orient_gather.specs.contracts.gather as f
 use Rattle.orient_gather.proofs.gather.Statement as stated
@@ -122,23 +122,23 @@ stayed =
 abbrev word : Ty
 word = ty_int w64
 
-abbrev tallyT : Ty
-tallyT = T'.mir
+abbrev tally_t : Ty
+tally_t = T'.mir
 
-abbrev imgT : Ty
-imgT = slice_ty (ty_ref (named 0) imm (ty_float binary32))
+abbrev img_t : Ty
+img_t = slice_ty (ty_ref (named 0) imm (ty_float binary32))
 
-abbrev pairsT : Ty
-pairsT = ty_ref (named 0) imm (ty_array (ty_int w32) 512)
+abbrev pairs_t : Ty
+pairs_t = ty_ref (named 0) imm (ty_array (ty_int w32) 512)
 
-abbrev cubicsT : Ty
-cubicsT = ty_ref (named 0) imm (ty_array (ty_float binary64) 256)
+abbrev cubics_t : Ty
+cubics_t = ty_ref (named 0) imm (ty_array (ty_float binary64) 256)
 
 abbrev turns_t : Ty
 turns_t = ty_ref (named 0) imm (ty_array (ty_float binary32) 272)
 
-abbrev refT : Ty
-refT = ty_ref erased mut (pointee (T.the_row).written)
+abbrev ref_t : Ty
+ref_t = ty_ref erased mut (pointee (T.the_row).written)
 
 -- a turn of the inner loop, from the test on
 abbrev more : Body
@@ -174,14 +174,14 @@ module _ {M : Type 1} {𝓤 : Ura M} (𝓛 : Logic 𝓤) (at_mem : Memory → SP
   CellsAt = triple_of 𝓛 cells_at.signature (cells_at.spec 𝓛 at_mem run)
 
   abbrev SampleAt : Contract 𝓤
-  SampleAt = triple_of 𝓛 sample-at.signature (sample-at.spec 𝓛 at_mem run)
+  SampleAt = triple_of 𝓛 sample_at.signature (sample_at.spec 𝓛 at_mem run)
 
   abbrev AddSample : Contract 𝓤
-  AddSample = triple_of 𝓛 add-sample.signature (add-sample.spec 𝓛 at_mem run)
+  AddSample = triple_of 𝓛 add_sample.signature (add_sample.spec 𝓛 at_mem run)
 
 module _ {M : Type 1} {𝓤 : Ura M} (𝓛 : Logic 𝓤) (at_mem : Memory → SProp 𝓤) (run : Routine → Fun 𝓤) (κ : Lft) (q : Share) (s : Bor (List Float)) (p : Bor (List ℕ)) (c d : Bor (List Float)) (win : Window) (n : ℕ)
-    (is-s : Is (ShrSlice (named 0) κ f32) s (slice_val s.ref_ptr (length s.now) ∷ [])) (is-p : Is (ShrRef (named 0) κ P) p (shr_vals p)) (is_c : Is (ShrRef (named 0) κ Q) c (shr_vals c)) (is-d : Is (ShrRef (named 0) κ D) d (shr_vals d)) (is-win : Is N.the_row win (LL.vals N.the_type N'.the_laws win)) (gn : n < 2 ^ 64)
-    (known-p : p.now ≡ pairTable) (known-c : c.now ≡ cubicTable) (known-d : d.now ≡ turnTable) (range : InRange s.now win) (all : n ≡ win.rows * win.cols) where
+    (is_s : Is (ShrSlice (named 0) κ f32) s (slice_val s.ref_ptr (length s.now) ∷ [])) (is_p : Is (ShrRef (named 0) κ P) p (shr_vals p)) (is_c : Is (ShrRef (named 0) κ Q) c (shr_vals c)) (is_d : Is (ShrRef (named 0) κ D) d (shr_vals d)) (is_win : Is N.the_row win (LL.vals N.the_type N'.the_laws win)) (gn : n < 2 ^ 64)
+    (known_p : p.now ≡ pair_table) (known_c : c.now ≡ cubic_table) (known_d : d.now ≡ turn_table) (range : InRange s.now win) (all : n ≡ win.rows * win.cols) where
   open 𝓛 use {H}
 
   abbrev xs : List Float
@@ -216,24 +216,24 @@ module _ {M : Type 1} {𝓤 : Ura M} (𝓛 : Logic 𝓤) (at_mem : Memory → SP
   abbrev Own : Fml
   Own = (ShrSlice (named 0) κ f32).own_val s (u ∷ [])
 
-  abbrev Has-p : Fml
-  Has-p = (ShrRef (named 0) κ P).own_val p (vp ∷ [])
+  abbrev Has_p : Fml
+  Has_p = (ShrRef (named 0) κ P).own_val p (vp ∷ [])
 
-  abbrev Has-c : Fml
-  Has-c = (ShrRef (named 0) κ Q).own_val c (vc ∷ [])
+  abbrev Has_c : Fml
+  Has_c = (ShrRef (named 0) κ Q).own_val c (vc ∷ [])
 
-  abbrev Has-d : Fml
-  Has-d = (ShrRef (named 0) κ D).own_val d (vd ∷ [])
+  abbrev Has_d : Fml
+  Has_d = (ShrRef (named 0) κ D).own_val d (vd ∷ [])
 
   abbrev Refs : Item 𝓤
-  Refs = ‵ Own ⊛ (‵ Has-p ⊛ (‵ Has-c ⊛ ‵ Has-d))
+  Refs = ‵ Own ⊛ (‵ Has_p ⊛ (‵ Has_c ⊛ ‵ Has_d))
 
-  refs-twice : ent 𝓤 (mean 𝓛 Refs) (sep 𝓤 (mean 𝓛 Refs) (mean 𝓛 Refs))
-  refs-twice =
+  refs_twice : ent 𝓤 (mean 𝓛 Refs) (sep 𝓤 (mean 𝓛 Refs) (mean 𝓛 Refs))
+  refs_twice =
       qed 𝓛 (Refs ∷ []) ∵ split ! $ use1 𝓛 (‵ Own ⊛ ‵ Own) ((shr_slice_copy 𝓛 (named 0) κ f32).twice s (u ∷ [])) $ split ! $
-      move ! (2 ∷ []) $ split ! $ use1 𝓛 (‵ Has-p ⊛ ‵ Has-p) ((shr_copy 𝓛 (named 0) κ P).twice p (vp ∷ [])) $ split ! $
-      move ! (2 ∷ []) $ split ! $ use1 𝓛 (‵ Has-c ⊛ ‵ Has-c) ((shr_copy 𝓛 (named 0) κ Q).twice c (vc ∷ [])) $ split ! $
-      move ! (2 ∷ []) $ use1 𝓛 (‵ Has-d ⊛ ‵ Has-d) ((shr_copy 𝓛 (named 0) κ D).twice d (vd ∷ [])) $ split ! $
+      move ! (2 ∷ []) $ split ! $ use1 𝓛 (‵ Has_p ⊛ ‵ Has_p) ((shr_copy 𝓛 (named 0) κ P).twice p (vp ∷ [])) $ split ! $
+      move ! (2 ∷ []) $ split ! $ use1 𝓛 (‵ Has_c ⊛ ‵ Has_c) ((shr_copy 𝓛 (named 0) κ Q).twice c (vc ∷ [])) $ split ! $
+      move ! (2 ∷ []) $ use1 𝓛 (‵ Has_d ⊛ ‵ Has_d) ((shr_copy 𝓛 (named 0) κ D).twice d (vd ∷ [])) $ split ! $
       -- [d; d; c; c; p; p; s; s]
       move ! (2 ∷ 0 ∷ []) $ join ! $ move ! (3 ∷ 0 ∷ []) $ join ! $ move ! (4 ∷ 0 ∷ []) $ join ! $
       move ! (2 ∷ 1 ∷ []) $ join ! $ move ! (2 ∷ 0 ∷ []) $ join ! $ move ! (2 ∷ 0 ∷ []) $ join ! $ move ! (1 ∷ []) $ frame ! $ done !
@@ -251,17 +251,17 @@ module _ {M : Type 1} {𝓤 : Ura M} (𝓛 : Logic 𝓤) (at_mem : Memory → SP
       nothing ! $ move ! (2 ∷ 0 ∷ []) $ join ! $ frame ! $ move ! (1 ∷ []) $ split ! $ move ! (1 ∷ []) $ split ! $ move ! (1 ∷ []) $ split ! $
       -- [c; d; p; s; the tally]
       nothing ! $ owned ! usize (Is usize) (uint_Makes 𝓛 w64) n _ (refl, gn) $ fjoin ! $
-      owned ! N.the_row (Is N.the_row) ((LL.makes N.the_type N'.the_plain) 𝓛) win _ is-win $ fjoin ! $ move ! (2 ∷ 0 ∷ []) $ fjoin ! $ move ! (1 ∷ 0 ∷ []) $ fjoin ! $ move ! (1 ∷ 0 ∷ []) $ fjoin ! $ move ! (1 ∷ 0 ∷ []) $ fjoin ! $ frame ! $ done !
+      owned ! N.the_row (Is N.the_row) ((LL.makes N.the_type N'.the_plain) 𝓛) win _ is_win $ fjoin ! $ move ! (2 ∷ 0 ∷ []) $ fjoin ! $ move ! (1 ∷ 0 ∷ []) $ fjoin ! $ move ! (1 ∷ 0 ∷ []) $ fjoin ! $ move ! (1 ∷ 0 ∷ []) $ fjoin ! $ frame ! $ done !
 
   -- ---- the calls: what is passed, what is asked, what is known of the result
-  abbrev to-fresh : (Fresh 𝓛 at_mem run).Ghost
-  to-fresh = ((tt, tt, tt, tt, tt), tt)
+  abbrev to_fresh : (Fresh 𝓛 at_mem run).Ghost
+  to_fresh = ((tt, tt, tt, tt, tt), tt)
 
-  goes-fresh : ent 𝓤 (sep 𝓤 (sem 𝓛 ftrue) (sem 𝓛 ftrue)) ((Fresh 𝓛 at_mem run).pre to-fresh)
-  goes-fresh = qed 𝓛 (‵ ftrue ∷ ‵ ftrue ∷ []) ∵ join ! $ frame ! $ done !
+  goes_fresh : ent 𝓤 (sep 𝓤 (sem 𝓛 ftrue) (sem 𝓛 ftrue)) ((Fresh 𝓛 at_mem run).pre to_fresh)
+  goes_fresh = qed 𝓛 (‵ ftrue ∷ ‵ ftrue ∷ []) ∵ join ! $ frame ! $ done !
 
-  fresh-said : (r : Tally) → ent 𝓤 (ensured 𝓛 fresh.ended (fresh.clauses 𝓛 at_mem run) tt tt tt r) (fact 𝓤 (r ≡ empty))
-  fresh-said r = ex_e 𝓤 _ (λ ws. snd∗ 𝓤 (sem 𝓛 (lasts fresh.ended tt tt ws)) (fact 𝓤 (r ≡ empty)))
+  fresh_said : (r : Tally) → ent 𝓤 (ensured 𝓛 fresh.ended (fresh.clauses 𝓛 at_mem run) tt tt tt r) (fact 𝓤 (r ≡ empty))
+  fresh_said r = ex_e 𝓤 _ (λ ws. snd∗ 𝓤 (sem 𝓛 (lasts fresh.ended tt tt ws)) (fact 𝓤 (r ≡ empty)))
 
   -- the window, the number of cells and k
   abbrev Three : Type 0
@@ -270,49 +270,49 @@ module _ {M : Type 1} {𝓤 : Ura M} (𝓛 : Logic 𝓤) (at_mem : Memory → SP
   abbrev three : ℕ → Three
   three k = (win, (n, (k, tt)))
 
-  abbrev to-run-at : ℕ → (RunAt 𝓛 at_mem run).Ghost
-  to-run-at k = ((tt, tt, tt, three k, (v ∷ [], (vint w64 n ∷ [], (vint w64 k ∷ [], tt)))), tt)
+  abbrev to_run_at : ℕ → (RunAt 𝓛 at_mem run).Ghost
+  to_run_at k = ((tt, tt, tt, three k, (v ∷ [], (vint w64 n ∷ [], (vint w64 k ∷ [], tt)))), tt)
 
-  abbrev to-cells-at : ℕ → (CellsAt 𝓛 at_mem run).Ghost
-  to-cells-at k = ((tt, tt, tt, three k, (v ∷ [], (vint w64 n ∷ [], (vint w64 k ∷ [], tt)))), tt)
+  abbrev to_cells_at : ℕ → (CellsAt 𝓛 at_mem run).Ghost
+  to_cells_at k = ((tt, tt, tt, three k, (v ∷ [], (vint w64 n ∷ [], (vint w64 k ∷ [], tt)))), tt)
 
   small : (k : ℕ) → k < n → k < 2 ^ 64
   small k l = omega arith
 
-  low : win.top + win.rows ≤ maxSide
+  low : win.top + win.rows ≤ max_side
   low = omega (arith, range.fits)
 
-  near : win.left + win.cols ≤ maxSide
+  near : win.left + win.cols ≤ max_side
   near = omega (arith, range.fits)
 
-  goes-run-at : (k : ℕ) → k < n → ent 𝓤 (sep 𝓤 (sem 𝓛 ftrue) (sem 𝓛 ftrue)) ((RunAt 𝓛 at_mem run).pre (to-run-at k))
-  goes-run-at k l =
+  goes_run_at : (k : ℕ) → k < n → ent 𝓤 (sep 𝓤 (sem 𝓛 ftrue) (sem 𝓛 ftrue)) ((RunAt 𝓛 at_mem run).pre (to_run_at k))
+  goes_run_at k l =
       qed 𝓛 (‵ ftrue ∷ ‵ ftrue ∷ []) ∵ says ! (low, (near, (all, l))) $ frame ! $
       owned ! usize (Is usize) (uint_Makes 𝓛 w64) k _ (refl, small k l) $ fjoin ! $ owned ! usize (Is usize) (uint_Makes 𝓛 w64) n _ (refl, gn) $ fjoin ! $
-      owned ! N.the_row (Is N.the_row) ((LL.makes N.the_type N'.the_plain) 𝓛) win _ is-win $ fjoin ! $ done !
+      owned ! N.the_row (Is N.the_row) ((LL.makes N.the_type N'.the_plain) 𝓛) win _ is_win $ fjoin ! $ done !
 
-  goes-cells-at : (k : ℕ) → k < n → ent 𝓤 (sep 𝓤 (sem 𝓛 ftrue) (sem 𝓛 ftrue)) ((CellsAt 𝓛 at_mem run).pre (to-cells-at k))
-  goes-cells-at k l =
+  goes_cells_at : (k : ℕ) → k < n → ent 𝓤 (sep 𝓤 (sem 𝓛 ftrue) (sem 𝓛 ftrue)) ((CellsAt 𝓛 at_mem run).pre (to_cells_at k))
+  goes_cells_at k l =
       qed 𝓛 (‵ ftrue ∷ ‵ ftrue ∷ []) ∵ says ! (all, l) $ frame ! $
       owned ! usize (Is usize) (uint_Makes 𝓛 w64) k _ (refl, small k l) $ fjoin ! $ owned ! usize (Is usize) (uint_Makes 𝓛 w64) n _ (refl, gn) $ fjoin ! $
-      owned ! N.the_row (Is N.the_row) ((LL.makes N.the_type N'.the_plain) 𝓛) win _ is-win $ fjoin ! $ done !
+      owned ! N.the_row (Is N.the_row) ((LL.makes N.the_type N'.the_plain) 𝓛) win _ is_win $ fjoin ! $ done !
 
-  run-at-said : (k : ℕ) (r : Run) → ent 𝓤 (ensured 𝓛 run_at.ended (run_at.clauses 𝓛 at_mem run) tt (three k) tt r) (fact 𝓤 (r ≡ runOf win n k))
-  run-at-said k r = ex_e 𝓤 _ (λ ws. snd∗ 𝓤 (sem 𝓛 (lasts run_at.ended tt (three k) ws)) (fact 𝓤 (r ≡ runOf win n k)))
+  run_at_said : (k : ℕ) (r : Run) → ent 𝓤 (ensured 𝓛 run_at.ended (run_at.clauses 𝓛 at_mem run) tt (three k) tt r) (fact 𝓤 (r ≡ run_of win n k))
+  run_at_said k r = ex_e 𝓤 _ (λ ws. snd∗ 𝓤 (sem 𝓛 (lasts run_at.ended tt (three k) ws)) (fact 𝓤 (r ≡ run_of win n k)))
 
-  cells-at-said : (k m : ℕ) → ent 𝓤 (ensured 𝓛 cells_at.ended (cells_at.clauses 𝓛 at_mem run) tt (three k) tt m) (fact 𝓤 (m ≡ runLength win n k))
-  cells-at-said k m = ex_e 𝓤 _ (λ ws. snd∗ 𝓤 (sem 𝓛 (lasts cells_at.ended tt (three k) ws)) (fact 𝓤 (m ≡ runLength win n k)))
+  cells_at_said : (k m : ℕ) → ent 𝓤 (ensured 𝓛 cells_at.ended (cells_at.clauses 𝓛 at_mem run) tt (three k) tt m) (fact 𝓤 (m ≡ run_length win n k))
+  cells_at_said k m = ex_e 𝓤 _ (λ ws. snd∗ 𝓤 (sem 𝓛 (lasts cells_at.ended tt (three k) ws)) (fact 𝓤 (m ≡ run_length win n k)))
 
   -- the tally at l, lent under the name δ
   abbrev y : ℕ → GName → Tally → MutBor Tally
   y l δ h = record { ref_ptr = (l, 0); ghost_name = δ; now = h }
 
-  abbrev to-add-sample : ℕ → ℕ → GName → Tally → Sample → Val → (AddSample 𝓛 at_mem run).Ghost
-  to-add-sample l ν δ h r w = (((ν ∷ [], tt), (full_share, tt), tt, (y l δ h, (r, tt)), (vptr l 0 ∷ [], (w ∷ [], tt))), tt)
+  abbrev to_add_sample : ℕ → ℕ → GName → Tally → Sample → Val → (AddSample 𝓛 at_mem run).Ghost
+  to_add_sample l ν δ h r w = (((ν ∷ [], tt), (full_share, tt), tt, (y l δ h, (r, tt)), (vptr l 0 ∷ [], (w ∷ [], tt))), tt)
 
-  goes-add-sample : (l ν : ℕ) (δ : GName) (h : Tally) (r : Sample) (w : Val) → r.bin < bins
-      → ent 𝓤 (⋆ 𝓛 (‵ (flft (ν ∷ []) full_share) ∷ ‵ ((MutRef (named 0) (ν ∷ []) R).own_val (y l δ h) (vptr l 0 ∷ [])) ∷ ‵ ((S.the_row).own_val r (w ∷ [])) ∷ [])) ((AddSample 𝓛 at_mem run).pre (to-add-sample l ν δ h r w))
-  goes-add-sample l ν δ h r w within =
+  goes_add_sample : (l ν : ℕ) (δ : GName) (h : Tally) (r : Sample) (w : Val) → r.bin < bins
+      → ent 𝓤 (⋆ 𝓛 (‵ (flft (ν ∷ []) full_share) ∷ ‵ ((MutRef (named 0) (ν ∷ []) R).own_val (y l δ h) (vptr l 0 ∷ [])) ∷ ‵ ((S.the_row).own_val r (w ∷ [])) ∷ [])) ((AddSample 𝓛 at_mem run).pre (to_add_sample l ν δ h r w))
+  goes_add_sample l ν δ h r w within =
       qed 𝓛 (‵ (flft (ν ∷ []) full_share) ∷ ‵ ((MutRef (named 0) (ν ∷ []) R).own_val (y l δ h) (vptr l 0 ∷ [])) ∷ ‵ ((S.the_row).own_val r (w ∷ [])) ∷ []) ∵ says ! within $ nothing ! $ move ! (1 ∷ 0 ∷ []) $ join ! $ frame ! $
       nothing ! $ move ! (2 ∷ 0 ∷ []) $ fjoin ! $ move ! (1 ∷ 0 ∷ []) $ fjoin ! $ done !
 
@@ -323,14 +323,14 @@ module _ {M : Type 1} {𝓤 : Ura M} (𝓛 : Logic 𝓤) (at_mem : Memory → SP
   abbrev Nearer : (n : ℕ) → Upto n → Upto n → Type 0
   Nearer n j i = n - j.0 < n - i.0
 
-  Nearer-wf : (n : ℕ) → WellFounded (Nearer n)
-  Nearer-wf n = InvImage.wf (λ (i : Upto n). n - i.0) lt-wf_rel.wf
+  Nearer_wf : (n : ℕ) → WellFounded (Nearer n)
+  Nearer_wf n = InvImage.wf (λ (i : Upto n). n - i.0) lt-wf_rel.wf
 
   fits : (j : Upto n) → j.0 < 2 ^ 64
   fits j = lt_of_le_of_lt j.1 gn
 
-  module _ (𝓣 : Tables 𝓤 H) (known-fresh : Triple 𝓤 (𝓣.C #orient-tally·fresh) (Fresh 𝓛 at_mem run)) (known-run-at : Triple 𝓤 (𝓣.C #orient-gather·run-at) (RunAt 𝓛 at_mem run)) (known-cells-at : Triple 𝓤 (𝓣.C #orient-gather·cells-at) (CellsAt 𝓛 at_mem run))
-      (known-sample-at : Triple 𝓤 (𝓣.C #orient-tally·sample-at) (SampleAt 𝓛 at_mem run)) (known-add-sample : Triple 𝓤 (𝓣.C #orient-tally·add-sample) (AddSample 𝓛 at_mem run)) where
+  module _ (𝓣 : Tables 𝓤 H) (known_fresh : Triple 𝓤 (𝓣.C #orient-tally·fresh) (Fresh 𝓛 at_mem run)) (known_run_at : Triple 𝓤 (𝓣.C #orient-gather·run-at) (RunAt 𝓛 at_mem run)) (known_cells_at : Triple 𝓤 (𝓣.C #orient-gather·cells-at) (CellsAt 𝓛 at_mem run))
+      (known_sample_at : Triple 𝓤 (𝓣.C #orient-tally·sample-at) (SampleAt 𝓛 at_mem run)) (known_add_sample : Triple 𝓤 (𝓣.C #orient-tally·add-sample) (AddSample 𝓛 at_mem run)) where
     abbrev C : Calls 𝓤 H
     C = 𝓣.C
 
@@ -342,25 +342,25 @@ module _ {M : Type 1} {𝓤 : Ura M} (𝓛 : Logic 𝓤) (at_mem : Memory → SP
 
     module _ (l₀ l₁ l₂ l₃ l₄ l₅ l₆ l₇ l₈ l₉ l₁₀ l₁₁ l₁₂ l₁₃ l₁₄ l₁₅ l₁₆ l₁₇ : ℕ) where
       abbrev En : Env 𝓤 H
-      En = (tallyT, l₀) ∷ (imgT, l₁) ∷ (pairsT, l₂) ∷ (cubicsT, l₃) ∷ (turns_t, l₄) ∷ (N'.mir, l₅) ∷ (word, l₆) ∷ (tallyT, l₇) ∷ (word, l₈) ∷ (U'.mir, l₉) ∷ (word, l₁₀) ∷ (word, l₁₁) ∷ (S'.mir, l₁₂) ∷ (tallyT, l₁₃) ∷ (ty_bool, l₁₄) ∷ (ty_bool, l₁₅) ∷ (ty_unit, l₁₆) ∷ (refT, l₁₇) ∷ []
+      En = (tally_t, l₀) ∷ (img_t, l₁) ∷ (pairs_t, l₂) ∷ (cubics_t, l₃) ∷ (turns_t, l₄) ∷ (N'.mir, l₅) ∷ (word, l₆) ∷ (tally_t, l₇) ∷ (word, l₈) ∷ (U'.mir, l₉) ∷ (word, l₁₀) ∷ (word, l₁₁) ∷ (S'.mir, l₁₂) ∷ (tally_t, l₁₃) ∷ (ty_bool, l₁₄) ∷ (ty_bool, l₁₅) ∷ (ty_unit, l₁₆) ∷ (ref_t, l₁₇) ∷ []
 
       -- the locals from _17 to _12, those that hold a run, and those from _6 on
       abbrev Rooms : List (Item 𝓤) → List (Item 𝓤)
       Rooms Γ =
-          ‵ (froom refT l₁₇ 0) ∷ ‵ (fdies refT l₁₇) ∷ ‵ (froom ty_unit l₁₆ 0) ∷ ‵ (fdies ty_unit l₁₆) ∷ ‵ (froom ty_bool l₁₅ 0) ∷ ‵ (fdies ty_bool l₁₅) ∷ ‵ (froom ty_bool l₁₄ 0) ∷ ‵ (fdies ty_bool l₁₄)
-          ∷ ‵ (froom tallyT l₁₃ 0) ∷ ‵ (fdies tallyT l₁₃) ∷ ‵ (froom S'.mir l₁₂ 0) ∷ ‵ (fdies S'.mir l₁₂) ∷ Γ
+          ‵ (froom ref_t l₁₇ 0) ∷ ‵ (fdies ref_t l₁₇) ∷ ‵ (froom ty_unit l₁₆ 0) ∷ ‵ (fdies ty_unit l₁₆) ∷ ‵ (froom ty_bool l₁₅ 0) ∷ ‵ (fdies ty_bool l₁₅) ∷ ‵ (froom ty_bool l₁₄ 0) ∷ ‵ (fdies ty_bool l₁₄)
+          ∷ ‵ (froom tally_t l₁₃ 0) ∷ ‵ (fdies tally_t l₁₃) ∷ ‵ (froom S'.mir l₁₂ 0) ∷ ‵ (fdies S'.mir l₁₂) ∷ Γ
 
       abbrev NoRun : List (Item 𝓤) → List (Item 𝓤)
       NoRun Γ = ‵ (froom word l₁₁ 0) ∷ ‵ (fdies word l₁₁) ∷ ‵ (froom word l₁₀ 0) ∷ ‵ (fdies word l₁₀) ∷ ‵ (froom U'.mir l₉ 0) ∷ ‵ (fdies U'.mir l₉) ∷ Γ
 
       abbrev Given' : List (Item 𝓤)
       Given' =
-          ‵ (fat full_share word l₆ 0 (vint w64 n)) ∷ ‵ (fdies word l₆) ∷ ‵ (fat full_share N'.mir l₅ 0 v) ∷ ‵ (fdies N'.mir l₅) ∷ ‵ (fat full_share turns_t l₄ 0 vd) ∷ ‵ (fdies turns_t l₄) ∷ ‵ (fat full_share cubicsT l₃ 0 vc) ∷ ‵ (fdies cubicsT l₃)
-          ∷ ‵ (fat full_share pairsT l₂ 0 vp) ∷ ‵ (fdies pairsT l₂) ∷ ‵ (fat full_share imgT l₁ 0 u) ∷ ‵ (fdies imgT l₁) ∷ ‵ (froom tallyT l₀ 0) ∷ ‵ (fdies tallyT l₀) ∷ ‵ (flft κ q) ∷ Refs ∷ []
+          ‵ (fat full_share word l₆ 0 (vint w64 n)) ∷ ‵ (fdies word l₆) ∷ ‵ (fat full_share N'.mir l₅ 0 v) ∷ ‵ (fdies N'.mir l₅) ∷ ‵ (fat full_share turns_t l₄ 0 vd) ∷ ‵ (fdies turns_t l₄) ∷ ‵ (fat full_share cubics_t l₃ 0 vc) ∷ ‵ (fdies cubics_t l₃)
+          ∷ ‵ (fat full_share pairs_t l₂ 0 vp) ∷ ‵ (fdies pairs_t l₂) ∷ ‵ (fat full_share img_t l₁ 0 u) ∷ ‵ (fdies img_t l₁) ∷ ‵ (froom tally_t l₀ 0) ∷ ‵ (fdies tally_t l₀) ∷ ‵ (flft κ q) ∷ Refs ∷ []
 
       -- k and the tally
       abbrev Passed : ℕ → ℕ → List (Item 𝓤)
-      Passed k m = ‵ (fat full_share word l₈ 0 (vint w64 k)) ∷ ‵ (fdies word l₈) ∷ ‵ (part_at R full_share (after xs win m) l₇ 0) ∷ ‵ (fdies tallyT l₇) ∷ Given'
+      Passed k m = ‵ (fat full_share word l₈ 0 (vint w64 k)) ∷ ‵ (fdies word l₈) ∷ ‵ (part_at R full_share (after xs win m) l₇ 0) ∷ ‵ (fdies tally_t l₇) ∷ Given'
 
       abbrev At : Upto n → List (Item 𝓤)
       At k = Rooms (NoRun (Passed k.0 k.0))
@@ -370,13 +370,13 @@ module _ {M : Type 1} {𝓤 : Ura M} (𝓛 : Logic 𝓤) (at_mem : Memory → SP
       Turned k = after_turn 𝓤 H (Below 𝓛 (Nearer n) At k) (after_block 𝓤 H (after_seq 𝓤 H (Wp 𝓤 H C Λ En code'.t-5 (at_return 𝓤 H En Post)) (at_return 𝓤 H En Post)))
 
       -- ---- a run
-      module _ (k : Upto n) (below : k.0 < n) (r : Run) (w : Val) (is-r : Is U.the_row r (w ∷ [])) (m : ℕ) (g : Goes win n k.0 r m) where
+      module _ (k : Upto n) (below : k.0 < n) (r : Run) (w : Val) (is_r : Is U.the_row r (w ∷ [])) (m : ℕ) (g : Goes win n k.0 r m) where
         abbrev In : Upto m → List (Item 𝓤)
         In i =
             Rooms (‵ (fat full_share word l₁₁ 0 (vint w64 i.0)) ∷ ‵ (fdies word l₁₁) ∷ ‵ (fat full_share word l₁₀ 0 (vint w64 m)) ∷ ‵ (fdies word l₁₀) ∷ ‵ (fat full_share U'.mir l₉ 0 w) ∷ ‵ (fdies U'.mir l₉) ∷ Passed k.0 (k.0 + i.0))
 
-        abbrev Run-turned : Upto m → Out → SProp 𝓤
-        Run-turned i = after_turn 𝓤 H (Below 𝓛 (Nearer m) In i) (after_block 𝓤 H (after_seq 𝓤 H (Wp 𝓤 H C Λ En rest (Turned k)) (Turned k)))
+        abbrev Run_turned : Upto m → Out → SProp 𝓤
+        Run_turned i = after_turn 𝓤 H (Below 𝓛 (Nearer m) In i) (after_block 𝓤 H (after_seq 𝓤 H (Wp 𝓤 H C Λ En rest (Turned k)) (Turned k)))
 
         few : (i : ℕ) → i ≤ m → i < 2 ^ 64
         few i l = omega (arith, g.most)
@@ -384,40 +384,40 @@ module _ {M : Type 1} {𝓤 : Ura M} (𝓛 : Logic 𝓤) (at_mem : Memory → SP
         abbrev next : (i : Upto m) → Holds (ltb i.0 m) → Upto m
         next i less = (i.0 + 1, add-one-le (ltb→lt i.0 m less))
 
-        abbrev Cell-args : Type 0
-        Cell-args = Bor (List Float) × (Bor (List ℕ) × (Bor (List Float) × (Bor (List Float) × (Run × (ℕ × Unit {0})))))
+        abbrev Cell_args : Type 0
+        Cell_args = Bor (List Float) × (Bor (List ℕ) × (Bor (List Float) × (Bor (List Float) × (Run × (ℕ × Unit {0})))))
 
-        abbrev cell-args : ℕ → Cell-args
-        cell-args i = (s, (p, (c, (d, (r, (i, tt))))))
+        abbrev cell_args : ℕ → Cell_args
+        cell_args i = (s, (p, (c, (d, (r, (i, tt))))))
 
-        abbrev to-sample-at : ℕ → (SampleAt 𝓛 at_mem run).Ghost
-        to-sample-at i = (((κ, tt), (q, tt), tt, cell-args i, (u ∷ [], (vp ∷ [], (vc ∷ [], (vd ∷ [], (w ∷ [], (vint w64 i ∷ [], tt))))))), tt)
+        abbrev to_sample_at : ℕ → (SampleAt 𝓛 at_mem run).Ghost
+        to_sample_at i = (((κ, tt), (q, tt), tt, cell_args i, (u ∷ [], (vp ∷ [], (vc ∷ [], (vd ∷ [], (w ∷ [], (vint w64 i ∷ [], tt))))))), tt)
 
-        goes-sample-at : (i : ℕ) → i < m → ent 𝓤 (⋆ 𝓛 (‵ (flft κ q) ∷ Refs ∷ [])) ((SampleAt 𝓛 at_mem run).pre (to-sample-at i))
-        goes-sample-at i l =
-            qed 𝓛 (‵ (flft κ q) ∷ Refs ∷ []) ∵ says ! (known-p, (known-c, (known-d, asked_in xs win n k.0 i m r range g l))) $ nothing ! $ move ! (1 ∷ 0 ∷ []) $ join ! $ frame ! $ split ! $ move ! (1 ∷ []) $ split ! $ move ! (1 ∷ []) $ split ! $
+        goes_sample_at : (i : ℕ) → i < m → ent 𝓤 (⋆ 𝓛 (‵ (flft κ q) ∷ Refs ∷ [])) ((SampleAt 𝓛 at_mem run).pre (to_sample_at i))
+        goes_sample_at i l =
+            qed 𝓛 (‵ (flft κ q) ∷ Refs ∷ []) ∵ says ! (known_p, (known_c, (known_d, asked_in xs win n k.0 i m r range g l))) $ nothing ! $ move ! (1 ∷ 0 ∷ []) $ join ! $ frame ! $ split ! $ move ! (1 ∷ []) $ split ! $ move ! (1 ∷ []) $ split ! $
             -- [c; d; p; s]
-            nothing ! $ owned ! usize (Is usize) (uint_Makes 𝓛 w64) i _ (refl, few i (le_of_lt l)) $ fjoin ! $ owned ! U.the_row (Is U.the_row) ((LL.makes U.the_type U'.the_plain) 𝓛) r _ is-r $ fjoin ! $
+            nothing ! $ owned ! usize (Is usize) (uint_Makes 𝓛 w64) i _ (refl, few i (le_of_lt l)) $ fjoin ! $ owned ! U.the_row (Is U.the_row) ((LL.makes U.the_type U'.the_plain) 𝓛) r _ is_r $ fjoin ! $
             move ! (2 ∷ 0 ∷ []) $ fjoin ! $ move ! (1 ∷ 0 ∷ []) $ fjoin ! $ move ! (1 ∷ 0 ∷ []) $ fjoin ! $ move ! (1 ∷ 0 ∷ []) $ fjoin ! $ done !
 
         abbrev Said : ℕ → Sample → Type 0
-        Said i h = (h ≡ sampleIn xs r i) × (h.bin < bins)
+        Said i h = (h ≡ sample_in xs r i) × (h.bin < bins)
 
-        sample-at-said : (i : ℕ) (h : Sample) → ent 𝓤 (ensured 𝓛 sample-at.ended (sample-at.clauses 𝓛 at_mem run) (κ, tt) (cell-args i) tt h) (fact 𝓤 (Said i h))
-        sample-at-said i h = ex_e 𝓤 _ (λ ws. snd∗ 𝓤 (sem 𝓛 (lasts sample-at.ended (κ, tt) (cell-args i) ws)) (fact 𝓤 (Said i h)))
+        sample_at_said : (i : ℕ) (h : Sample) → ent 𝓤 (ensured 𝓛 sample_at.ended (sample_at.clauses 𝓛 at_mem run) (κ, tt) (cell_args i) tt h) (fact 𝓤 (Said i h))
+        sample_at_said i h = ex_e 𝓤 _ (λ ws. snd∗ 𝓤 (sem 𝓛 (lasts sample_at.ended (κ, tt) (cell_args i) ws)) (fact 𝓤 (Said i h)))
 
-        run-turns : (i : Upto m) → Sq 𝓛 (In i) (runs C Λ En code'.turn-1 (any_q (Run-turned i)))
+        run_turns : (i : Upto m) → Sq 𝓛 (In i) (runs C Λ En code'.turn-1 (any_q (Run_turned i)))
         unfolding after_turn
-        run-turns i =
+        run_turns i =
             assigns ! (bin ! (load ! (from ! (stop !)) (look ! 12 refl)) (load ! (from ! (stop !)) (look ! 14 refl)) tt) (from ! (stop !)) (init ! 4 refl (tt, tt)) $
             first ! $ branches ! (load ! (from ! (stop !)) (look ! 4 refl))
-            (λ less. skips ! $ exec ! C Λ En more (any_q (Run-turned i)) $
+            (λ less. skips ! $ exec ! C Λ En more (any_q (Run_turned i)) $
             -- the sample
-            move ! (37 ∷ []) $ use1 𝓛 (Refs ⊛ Refs) refs-twice $ split ! $ move ! (38 ∷ 0 ∷ []) $
-            use2 𝓛 (raw ((SampleAt 𝓛 at_mem run).pre (to-sample-at i.0))) (goes-sample-at i.0 (ltb→lt i.0 m less)) $
-            calls_at ! fm (SampleAt 𝓛 at_mem run) known-sample-at (to-sample-at i.0) (and_then ! (load ! (from ! (stop !)) (look ! 34 refl)) (and_then ! (load ! (from ! (stop !)) (look ! 32 refl)) (and_then ! (load ! (from ! (stop !)) (look ! 30 refl)) (and_then ! (load ! (from ! (stop !)) (look ! 28 refl)) (and_then ! (load ! (from ! (stop !)) (look ! 18 refl)) (and_then ! (load ! (from ! (stop !)) (look ! 14 refl)) (no_more !))))))) (λ z.
-            use1 𝓛 (later (some (λ (h : Sample). ((‵ (flft κ q) ⊛ ‵ ftrue) ⊛ ‵ ((S.the_row).own_val h (z ∷ []))) ⊛ raw (ensured 𝓛 sample-at.ended (sample-at.clauses 𝓛 at_mem run) (κ, tt) (cell-args i.0) tt h)))) (id⊢ 𝓤 _) $ await ! tt $ pick ! (λ h.
-            split ! $ move ! (1 ∷ []) $ use1 𝓛 (raw (fact 𝓤 (Said i.0 h))) (sample-at-said i.0 h) $ heard ! (Said i.0 h) (λ e. split ! $ move ! (1 ∷ []) $
+            move ! (37 ∷ []) $ use1 𝓛 (Refs ⊛ Refs) refs_twice $ split ! $ move ! (38 ∷ 0 ∷ []) $
+            use2 𝓛 (raw ((SampleAt 𝓛 at_mem run).pre (to_sample_at i.0))) (goes_sample_at i.0 (ltb→lt i.0 m less)) $
+            calls_at ! fm (SampleAt 𝓛 at_mem run) known_sample_at (to_sample_at i.0) (and_then ! (load ! (from ! (stop !)) (look ! 34 refl)) (and_then ! (load ! (from ! (stop !)) (look ! 32 refl)) (and_then ! (load ! (from ! (stop !)) (look ! 30 refl)) (and_then ! (load ! (from ! (stop !)) (look ! 28 refl)) (and_then ! (load ! (from ! (stop !)) (look ! 18 refl)) (and_then ! (load ! (from ! (stop !)) (look ! 14 refl)) (no_more !))))))) (λ z.
+            use1 𝓛 (later (some (λ (h : Sample). ((‵ (flft κ q) ⊛ ‵ ftrue) ⊛ ‵ ((S.the_row).own_val h (z ∷ []))) ⊛ raw (ensured 𝓛 sample_at.ended (sample_at.clauses 𝓛 at_mem run) (κ, tt) (cell_args i.0) tt h)))) (id⊢ 𝓤 _) $ await ! tt $ pick ! (λ h.
+            split ! $ move ! (1 ∷ []) $ use1 𝓛 (raw (fact 𝓤 (Said i.0 h))) (sample_at_said i.0 h) $ heard ! (Said i.0 h) (λ e. split ! $ move ! (1 ∷ []) $
             peeks ! S.the_row (Is S.the_row) (shows 𝓛 S.the_row) h (z ∷ []) (λ is.
             -- [what the sample owns; κ's token; what the slice and the tables own; _17; …]
             land ! (from ! (stop !)) (init ! 13 refl ((LL.lawful S.the_type S'.the_laws 𝓛).typed h _ is).0) $
@@ -425,11 +425,11 @@ module _ {M : Type 1} {𝓤 : Ura M} (𝓛 : Logic 𝓤) (at_mem : Memory → SP
             assigns ! (addr ! (from ! (stop !))) (from ! (stop !)) (init ! 3 refl (tt, tt)) $
             lft_new ! tt (λ ν. move ! (24 ∷ []) $
             use1 𝓛 (later (some (λ (δ : GName). ‵ ((MutRef (named 0) (ν ∷ []) R).own_val (y l₇ δ (after xs win (k.0 + i.0))) (vptr l₇ 0 ∷ [])) ⊛ ‵ (flent (ν ∷ []) (Held (mem R) l₇ 0 δ))))) (lends_ref 𝓛 R (named 0) (ν ∷ []) (after xs win (k.0 + i.0)) l₇ 0) $ await ! tt $ pick ! (λ δ. split ! $
-            move ! (2 ∷ 0 ∷ 3 ∷ []) $ use3 𝓛 (raw ((AddSample 𝓛 at_mem run).pre (to-add-sample l₇ ν δ (after xs win (k.0 + i.0)) h z))) (goes-add-sample l₇ ν δ (after xs win (k.0 + i.0)) h z e.1) $
+            move ! (2 ∷ 0 ∷ 3 ∷ []) $ use3 𝓛 (raw ((AddSample 𝓛 at_mem run).pre (to_add_sample l₇ ν δ (after xs win (k.0 + i.0)) h z))) (goes_add_sample l₇ ν δ (after xs win (k.0 + i.0)) h z e.1) $
             -- [what `add_sample` asks; the lender's part; κ's token; what the slice and the tables own; _17; …]
-            calls_at ! fm (AddSample 𝓛 at_mem run) known-add-sample (to-add-sample l₇ ν δ (after xs win (k.0 + i.0)) h z) (and_then ! (load ! (from ! (stop !)) (look ! 4 refl)) (and_then ! (load ! (from ! (stop !)) (look ! 14 refl)) (no_more !))) (λ z'.
-            use1 𝓛 (later (some (λ (r' : Unit {0}). ((‵ (flft (ν ∷ []) full_share) ⊛ ‵ ftrue) ⊛ ‵ (unit.own_val r' (z' ∷ []))) ⊛ raw (ensured 𝓛 add-sample.ended (add-sample.clauses 𝓛 at_mem run) (ν ∷ [], tt) (y l₇ δ (after xs win (k.0 + i.0)), (h, tt)) tt r')))) (id⊢ 𝓤 _) $ await ! tt $ pick ! (λ r'.
-            split ! $ move ! (1 ∷ []) $ use1 𝓛 (some (λ (zs : Tally × (Unit {0} × Unit {0})). ‵ (lasts add-sample.ended (ν ∷ [], tt) (y l₇ δ (after xs win (k.0 + i.0)), (h, tt)) zs) ⊛ raw (fact 𝓤 (zs.0 ≡ tallied (after xs win (k.0 + i.0)) h)))) (id⊢ 𝓤 _) $ pick ! (λ zs.
+            calls_at ! fm (AddSample 𝓛 at_mem run) known_add_sample (to_add_sample l₇ ν δ (after xs win (k.0 + i.0)) h z) (and_then ! (load ! (from ! (stop !)) (look ! 4 refl)) (and_then ! (load ! (from ! (stop !)) (look ! 14 refl)) (no_more !))) (λ z'.
+            use1 𝓛 (later (some (λ (r' : Unit {0}). ((‵ (flft (ν ∷ []) full_share) ⊛ ‵ ftrue) ⊛ ‵ (unit.own_val r' (z' ∷ []))) ⊛ raw (ensured 𝓛 add_sample.ended (add_sample.clauses 𝓛 at_mem run) (ν ∷ [], tt) (y l₇ δ (after xs win (k.0 + i.0)), (h, tt)) tt r')))) (id⊢ 𝓤 _) $ await ! tt $ pick ! (λ r'.
+            split ! $ move ! (1 ∷ []) $ use1 𝓛 (some (λ (zs : Tally × (Unit {0} × Unit {0})). ‵ (lasts add_sample.ended (ν ∷ [], tt) (y l₇ δ (after xs win (k.0 + i.0)), (h, tt)) zs) ⊛ raw (fact 𝓤 (zs.0 ≡ tallied (after xs win (k.0 + i.0)) h)))) (id⊢ 𝓤 _) $ pick ! (λ zs.
             split ! $ move ! (1 ∷ []) $ heard ! (zs.0 ≡ tallied (after xs win (k.0 + i.0)) h) (λ e'. fsplit ! $
             -- [the tally's last value; true; ν's token and the result; the lender's part; κ's token; what the slice and the tables own; _17; …]
             move ! (2 ∷ []) $ split ! $ move ! (1 ∷ []) $ feq_l ! (λ o.
@@ -446,8 +446,8 @@ module _ {M : Type 1} {𝓤 : Ura M} (𝓛 : Logic 𝓤) (at_mem : Memory → SP
             assigns_last ! (bin ! (load ! (from ! (stop !)) (look ! 18 refl)) (load ! (from ! (stop !)) (look ! 14 refl)) (record { fits = fits (k.0 + m, g.most) })) (from ! (stop !)) (store ! 18 refl (tt, record { fits = fits (k.0 + m, g.most) })) $
             forget ! 4 refl $ forget ! 12 refl $ forget ! 14 refl $ forget ! 16 refl $ again ! (Nearer n) At k (k.0 + m, g.most) (omega (arith, below, g.some, g.most)))
 
-        run-rounds : Sq 𝓛 (In (0, zero-le)) (runs C Λ En inner (any_q (Turned k)))
-        run-rounds = first ! $ blocks ! $ loops ! 𝓣 (Nearer m) (Nearer-wf m) In run-turns (0, zero-le)
+        run_rounds : Sq 𝓛 (In (0, zero-le)) (runs C Λ En inner (any_q (Turned k)))
+        run_rounds = first ! $ blocks ! $ loops ! 𝓣 (Nearer m) (Nearer_wf m) In run_turns (0, zero-le)
 
       turns : (k : Upto n) → Sq 𝓛 (At k) (runs C Λ En code'.turn-2 (any_q (Turned k)))
       unfolding after_turn
@@ -456,42 +456,42 @@ module _ {M : Type 1} {𝓤 : Ura M} (𝓛 : Logic 𝓤) (at_mem : Memory → SP
           first ! $ branches ! (load ! (from ! (stop !)) (look ! 6 refl))
           (λ less. skips ! $ exec ! C Λ En outer (any_q (Turned k)) $ forget ! 6 refl $
           -- the run
-          nothing ! $ nothing ! $ use2 𝓛 (raw ((RunAt 𝓛 at_mem run).pre (to-run-at k.0))) (goes-run-at k.0 (ltb→lt k.0 n less)) $
-          calls_at ! fm (RunAt 𝓛 at_mem run) known-run-at (to-run-at k.0) (and_then ! (load ! (from ! (stop !)) (look ! 25 refl)) (and_then ! (load ! (from ! (stop !)) (look ! 23 refl)) (and_then ! (load ! (from ! (stop !)) (look ! 19 refl)) (no_more !)))) (λ w.
+          nothing ! $ nothing ! $ use2 𝓛 (raw ((RunAt 𝓛 at_mem run).pre (to_run_at k.0))) (goes_run_at k.0 (ltb→lt k.0 n less)) $
+          calls_at ! fm (RunAt 𝓛 at_mem run) known_run_at (to_run_at k.0) (and_then ! (load ! (from ! (stop !)) (look ! 25 refl)) (and_then ! (load ! (from ! (stop !)) (look ! 23 refl)) (and_then ! (load ! (from ! (stop !)) (look ! 19 refl)) (no_more !)))) (λ w.
           use1 𝓛 (later (some (λ (r : Run). (‵ ftrue ⊛ ‵ ((U.the_row).own_val r (w ∷ []))) ⊛ raw (ensured 𝓛 run_at.ended (run_at.clauses 𝓛 at_mem run) tt (three k.0) tt r)))) (id⊢ 𝓤 _) $ await ! tt $ pick ! (λ r.
-          split ! $ move ! (1 ∷ []) $ use1 𝓛 (raw (fact 𝓤 (r ≡ runOf win n k.0))) (run-at-said k.0 r) $ heard ! (r ≡ runOf win n k.0) (λ e. split ! $ drop ! $ peeks ! U.the_row (Is U.the_row) (shows 𝓛 U.the_row) r (w ∷ []) (λ is-r. drop ! $
-          land ! (from ! (stop !)) (init ! 16 refl ((LL.lawful U.the_type U'.the_laws 𝓛).typed r _ is-r).0) $
+          split ! $ move ! (1 ∷ []) $ use1 𝓛 (raw (fact 𝓤 (r ≡ run_of win n k.0))) (run_at_said k.0 r) $ heard ! (r ≡ run_of win n k.0) (λ e. split ! $ drop ! $ peeks ! U.the_row (Is U.the_row) (shows 𝓛 U.the_row) r (w ∷ []) (λ is_r. drop ! $
+          land ! (from ! (stop !)) (init ! 16 refl ((LL.lawful U.the_type U'.the_laws 𝓛).typed r _ is_r).0) $
           -- how many cells it has
-          nothing ! $ nothing ! $ use2 𝓛 (raw ((CellsAt 𝓛 at_mem run).pre (to-cells-at k.0))) (goes-cells-at k.0 (ltb→lt k.0 n less)) $
-          calls_at ! fm (CellsAt 𝓛 at_mem run) known-cells-at (to-cells-at k.0) (and_then ! (load ! (from ! (stop !)) (look ! 25 refl)) (and_then ! (load ! (from ! (stop !)) (look ! 23 refl)) (and_then ! (load ! (from ! (stop !)) (look ! 19 refl)) (no_more !)))) (λ z.
+          nothing ! $ nothing ! $ use2 𝓛 (raw ((CellsAt 𝓛 at_mem run).pre (to_cells_at k.0))) (goes_cells_at k.0 (ltb→lt k.0 n less)) $
+          calls_at ! fm (CellsAt 𝓛 at_mem run) known_cells_at (to_cells_at k.0) (and_then ! (load ! (from ! (stop !)) (look ! 25 refl)) (and_then ! (load ! (from ! (stop !)) (look ! 23 refl)) (and_then ! (load ! (from ! (stop !)) (look ! 19 refl)) (no_more !)))) (λ z.
           use1 𝓛 (later (some (λ (m : ℕ). (‵ ftrue ⊛ ‵ (usize.own_val m (z ∷ []))) ⊛ raw (ensured 𝓛 cells_at.ended (cells_at.clauses 𝓛 at_mem run) tt (three k.0) tt m)))) (id⊢ 𝓤 _) $ await ! tt $ pick ! (λ m.
-          split ! $ move ! (1 ∷ []) $ use1 𝓛 (raw (fact 𝓤 (m ≡ runLength win n k.0))) (cells-at-said k.0 m) $ heard ! (m ≡ runLength win n k.0) (λ e'. split ! $ drop ! $ peeks ! usize (Is usize) (shows 𝓛 usize) m (z ∷ []) (λ is_m. drop ! $
+          split ! $ move ! (1 ∷ []) $ use1 𝓛 (raw (fact 𝓤 (m ≡ run_length win n k.0))) (cells_at_said k.0 m) $ heard ! (m ≡ run_length win n k.0) (λ e'. split ! $ drop ! $ peeks ! usize (Is usize) (shows 𝓛 usize) m (z ∷ []) (λ is_m. drop ! $
           land ! (from ! (stop !)) (init ! 14 refl (subst (λ (x : Val). Holds (has_ty word x) × WT x) (sym (ap only is_m.0)) (tt, record { fits = is_m.1 }))) $
           rewrite ! 14 (λ (x : Val). ‵ (fat full_share word l₁₀ 0 x)) (ap only is_m.0) refl $
           assigns ! (of_opd ! (lit ! tt)) (from ! (stop !)) (init ! 12 refl (tt, record { fits = lit< tt })) $
           rewrite ! 20 (λ (h : Tally). ‵ (part_at R full_share h l₇ 0)) (ap (after xs win) (sym (add-zero k.0))) refl $
-          run-rounds k (ltb→lt k.0 n less) r w is-r m (goes win n k.0 r m e e' all (ltb→lt k.0 n less)))))))))))
+          run_rounds k (ltb→lt k.0 n less) r w is_r m (goes win n k.0 r m e e' all (ltb→lt k.0 n less)))))))))))
           (λ over. jumps ! $ exec ! C Λ En code'.t-5 (at_ret En Post) $
-          move ! (20 ∷ []) $ use1 𝓛 (some (λ (z : Val). ‵ (fat full_share tallyT l₇ 0 z) ⊛ ‵ (R.own (after xs win k.0) (z ∷ [])))) (part_out 𝓛 R refl full_share (after xs win k.0) l₇ 0) $ pick ! (λ z. split ! $ move ! (1 ∷ []) $
+          move ! (20 ∷ []) $ use1 𝓛 (some (λ (z : Val). ‵ (fat full_share tally_t l₇ 0 z) ⊛ ‵ (R.own (after xs win k.0) (z ∷ [])))) (part_out 𝓛 R refl full_share (after xs win k.0) l₇ 0) $ pick ! (λ z. split ! $ move ! (1 ∷ []) $
           peeks ! R (Is R) (shows 𝓛 R) (after xs win k.0) (z ∷ []) (λ is.
           -- [what the tally owns; _7; _17; …; _8; …; _7's; _6; …]
           assigns ! (of_opd ! (load ! (from ! (stop !)) (look ! 1 refl))) (from ! (stop !)) (init ! 35 refl ((LL.lawful T.the_type T'.the_laws 𝓛).typed (after xs win k.0) _ is).0) $
           returns ! (look ! 35 refl) $ forget ! 1 refl $ forget ! 8 refl $ forget ! 20 refl $ forget ! 23 refl $ forget ! 25 refl $ forget ! 27 refl $ forget ! 29 refl $ forget ! 31 refl $ forget ! 33 refl $ forget ! 35 refl $
           move ! (35 ∷ 36 ∷ []) $ free1 ! $ move ! (33 ∷ 34 ∷ []) $ free1 ! $ move ! (31 ∷ 32 ∷ []) $ free1 ! $ move ! (29 ∷ 30 ∷ []) $ free1 ! $ move ! (27 ∷ 28 ∷ []) $ free1 ! $ move ! (25 ∷ 26 ∷ []) $ free1 ! $ move ! (23 ∷ 24 ∷ []) $ free1 ! $ move ! (1 ∷ 22 ∷ []) $ free1 ! $ move ! (19 ∷ 20 ∷ []) $ free1 ! $ move ! (17 ∷ 18 ∷ []) $ free1 ! $ move ! (15 ∷ 16 ∷ []) $ free1 ! $ move ! (13 ∷ 14 ∷ []) $ free1 ! $ move ! (11 ∷ 12 ∷ []) $ free1 ! $ move ! (9 ∷ 10 ∷ []) $ free1 ! $ move ! (7 ∷ 8 ∷ []) $ free1 ! $ move ! (5 ∷ 6 ∷ []) $ free1 ! $ move ! (3 ∷ 4 ∷ []) $ free1 ! $ move ! (1 ∷ 2 ∷ []) $ free1 ! $ free0 ! $
-          by ! (exits (after xs win k.0) z (ap (after xs win) (le_antisymm k.1 (nltb→le k.0 n over)) ∙ after-all xs win n all)))))
+          by ! (exits (after xs win k.0) z (ap (after xs win) (le_antisymm k.1 (nltb→le k.0 n over)) ∙ after_all xs win n all)))))
 
       rounds : Sq 𝓛 (At (0, zero-le)) (runs C Λ En code'.t-4 (at_ret En Post))
-      rounds = first ! $ blocks ! $ loops ! 𝓣 (Nearer n) (Nearer-wf n) At turns (0, zero-le)
+      rounds = first ! $ blocks ! $ loops ! 𝓣 (Nearer n) (Nearer_wf n) At turns (0, zero-le)
 
       -- the MIR up to the loop
       abbrev Start : List (Item 𝓤)
-      Start = Rooms (NoRun (‵ (froom word l₈ 0) ∷ ‵ (fdies word l₈) ∷ ‵ (froom tallyT l₇ 0) ∷ ‵ (fdies tallyT l₇) ∷ Given'))
+      Start = Rooms (NoRun (‵ (froom word l₈ 0) ∷ ‵ (fdies word l₈) ∷ ‵ (froom tally_t l₇ 0) ∷ ‵ (fdies tally_t l₇) ∷ Given'))
 
       starts : Sq 𝓛 Start (runs C Λ En code'.t-1 (at_ret En Post))
       starts =
-          nothing ! $ nothing ! $ use2 𝓛 (raw ((Fresh 𝓛 at_mem run).pre to-fresh)) goes-fresh $ calls_at ! fm (Fresh 𝓛 at_mem run) known-fresh to-fresh (no_more !) (λ z.
+          nothing ! $ nothing ! $ use2 𝓛 (raw ((Fresh 𝓛 at_mem run).pre to_fresh)) goes_fresh $ calls_at ! fm (Fresh 𝓛 at_mem run) known_fresh to_fresh (no_more !) (λ z.
           use1 𝓛 (later (some (λ (r : Tally). (‵ ftrue ⊛ ‵ (R.own r (z ∷ []))) ⊛ raw (ensured 𝓛 fresh.ended (fresh.clauses 𝓛 at_mem run) tt tt tt r)))) (id⊢ 𝓤 _) $ await ! tt $ pick ! (λ r.
-          split ! $ move ! (1 ∷ []) $ use1 𝓛 (raw (fact 𝓤 (r ≡ empty))) (fresh-said r) $ heard ! (r ≡ empty) (λ e. split ! $ drop ! $ peeks ! R (Is R) (shows 𝓛 R) r (z ∷ []) (λ is.
+          split ! $ move ! (1 ∷ []) $ use1 𝓛 (raw (fact 𝓤 (r ≡ empty))) (fresh_said r) $ heard ! (r ≡ empty) (λ e. split ! $ drop ! $ peeks ! R (Is R) (shows 𝓛 R) r (z ∷ []) (λ is.
           -- [what the tally owns; _17; …]
           land ! (from ! (stop !)) (init ! 9 refl ((LL.lawful T.the_type T'.the_laws 𝓛).typed r _ is).0) $
           assigns ! (of_opd ! (load ! (from ! (stop !)) (look ! 9 refl))) (from ! (stop !)) (init ! 21 refl ((LL.lawful T.the_type T'.the_laws 𝓛).typed r _ is).0) $
@@ -506,35 +506,35 @@ module _ {M : Type 1} {𝓤 : Ura M} (𝓛 : Logic 𝓤) (at_mem : Memory → SP
         -- [d; …; c; p; s; κ's token; true]
         keep ! (2 ∷ 0 ∷ 3 ∷ 4 ∷ 5 ∷ []) $ join ! $ move ! (1 ∷ 0 ∷ []) $ join ! $ move ! (1 ∷ 0 ∷ []) $ join ! $ move ! (1 ∷ 0 ∷ []) $ enter ! C Λ code.function (u ∷ vp ∷ vc ∷ vd ∷ v ∷ vint w64 n ∷ []) _ $
         alloc1 ! (λ l₀. alloc1 ! (λ l₁. alloc1 ! (λ l₂. alloc1 ! (λ l₃. alloc1 ! (λ l₄. alloc1 ! (λ l₅. alloc1 ! (λ l₆. alloc1 ! (λ l₇. alloc1 ! (λ l₈. alloc1 ! (λ l₉. alloc1 ! (λ l₁₀. alloc1 ! (λ l₁₁. alloc1 ! (λ l₁₂. alloc1 ! (λ l₁₃. alloc1 ! (λ l₁₄. alloc1 ! (λ l₁₅. alloc1 ! (λ l₁₆. alloc1 ! (λ l₁₇. alloc0 ! $ params1 ! $
-        pass1 ! (init ! 32 refl ((shr_slice_Lawful 𝓛 (named 0) κ f32).typed s (u ∷ []) is-s).0) $ pass1 ! (init ! 30 refl ((shr_Lawful 𝓛 (named 0) κ P).typed p (vp ∷ []) is-p).0) $ pass1 ! (init ! 28 refl ((shr_Lawful 𝓛 (named 0) κ Q).typed c (vc ∷ []) is_c).0) $ pass1 ! (init ! 26 refl ((shr_Lawful 𝓛 (named 0) κ D).typed d (vd ∷ []) is-d).0) $
-        pass1 ! (init ! 24 refl ((LL.lawful N.the_type N'.the_laws 𝓛).typed win _ is-win).0) $ pass1 ! (init ! 22 refl (tt, record { fits = gn })) $ pass0 ! $
+        pass1 ! (init ! 32 refl ((shr_slice_Lawful 𝓛 (named 0) κ f32).typed s (u ∷ []) is_s).0) $ pass1 ! (init ! 30 refl ((shr_Lawful 𝓛 (named 0) κ P).typed p (vp ∷ []) is_p).0) $ pass1 ! (init ! 28 refl ((shr_Lawful 𝓛 (named 0) κ Q).typed c (vc ∷ []) is_c).0) $ pass1 ! (init ! 26 refl ((shr_Lawful 𝓛 (named 0) κ D).typed d (vd ∷ []) is_d).0) $
+        pass1 ! (init ! 24 refl ((LL.lawful N.the_type N'.the_laws 𝓛).typed win _ is_win).0) $ pass1 ! (init ! 22 refl (tt, record { fits = gn })) $ pass0 ! $
         starts l₀ l₁ l₂ l₃ l₄ l₅ l₆ l₇ l₈ l₉ l₁₀ l₁₁ l₁₂ l₁₃ l₁₄ l₁₅ l₁₆ l₁₇))))))))))))))))))
 
 module _ {M : Type 1} {𝓤 : Ura M} (𝓛 : Logic 𝓤) (at_mem : Memory → SProp 𝓤) (run : Routine → Fun 𝓤) (𝓣 : Tables 𝓤 𝓛.H)
-    (known-fresh : Triple 𝓤 (𝓣.C #orient-tally·fresh) (Fresh 𝓛 at_mem run)) (known-run-at : Triple 𝓤 (𝓣.C #orient-gather·run-at) (RunAt 𝓛 at_mem run)) (known-cells-at : Triple 𝓤 (𝓣.C #orient-gather·cells-at) (CellsAt 𝓛 at_mem run))
-    (known-sample-at : Triple 𝓤 (𝓣.C #orient-tally·sample-at) (SampleAt 𝓛 at_mem run)) (known-add-sample : Triple 𝓤 (𝓣.C #orient-tally·add-sample) (AddSample 𝓛 at_mem run)) where
+    (known_fresh : Triple 𝓤 (𝓣.C #orient-tally·fresh) (Fresh 𝓛 at_mem run)) (known_run_at : Triple 𝓤 (𝓣.C #orient-gather·run-at) (RunAt 𝓛 at_mem run)) (known_cells_at : Triple 𝓤 (𝓣.C #orient-gather·cells-at) (CellsAt 𝓛 at_mem run))
+    (known_sample_at : Triple 𝓤 (𝓣.C #orient-tally·sample-at) (SampleAt 𝓛 at_mem run)) (known_add_sample : Triple 𝓤 (𝓣.C #orient-tally·add-sample) (AddSample 𝓛 at_mem run)) where
   open 𝓛 use {H}
 
-  gather-walks : Walks 𝓛 f.ended stayed (WpFn 𝓤 H 𝓣.C 𝓣.Λ code.function) (f.clauses 𝓛 at_mem run)
-  gather-walks = walked 𝓛 f.ended stayed (f.clauses 𝓛 at_mem run) (WpFn 𝓤 H 𝓣.C 𝓣.Λ code.function) (λ κs. (shr_slice_vals, (shr_vals, (shr_vals, (shr_vals, (LL.vals N.the_type N'.the_laws, (uint_vals w64, tt)))))))
+  gather_walks : Walks 𝓛 f.ended stayed (WpFn 𝓤 H 𝓣.C 𝓣.Λ code.function) (f.clauses 𝓛 at_mem run)
+  gather_walks = walked 𝓛 f.ended stayed (f.clauses 𝓛 at_mem run) (WpFn 𝓤 H 𝓣.C 𝓣.Λ code.function) (λ κs. (shr_slice_vals, (shr_vals, (shr_vals, (shr_vals, (LL.vals N.the_type N'.the_laws, (uint_vals w64, tt)))))))
       (λ κs. (shr_slice_Tells (named 0) κs.0 f32, (shr_Tells (named 0) κs.0 P, (shr_Tells (named 0) κs.0 Q, (shr_Tells (named 0) κs.0 D, (LL.tells N.the_type N'.the_laws, (uint_Tells w64, tt)))))))
-      (λ κs qs bounds a g are. needs 𝓤 ((a.1.0.now ≡ pairTable) × ((a.1.1.0.now ≡ cubicTable) × ((a.1.1.1.0.now ≡ turnTable) × (InRange a.0.now a.1.1.1.1.0 × (a.1.1.1.1.1.0 ≡ a.1.1.1.1.0.rows * a.1.1.1.1.0.cols))))) _ (λ asked.
+      (λ κs qs bounds a g are. needs 𝓤 ((a.1.0.now ≡ pair_table) × ((a.1.1.0.now ≡ cubic_table) × ((a.1.1.1.0.now ≡ turn_table) × (InRange a.0.now a.1.1.1.1.0 × (a.1.1.1.1.1.0 ≡ a.1.1.1.1.0.rows * a.1.1.1.1.0.cols))))) _ (λ asked.
       walk 𝓛 at_mem run κs.0 qs.0 a.0 a.1.0 a.1.1.0 a.1.1.1.0 a.1.1.1.1.0 a.1.1.1.1.1.0 are.0 are.1.0 are.1.1.0 are.1.1.1.0 are.1.1.1.1.0 are.1.1.1.1.1.0.1
-      asked.0 asked.1.0 asked.1.1.0 asked.1.1.1.0 asked.1.1.1.1 𝓣 known-fresh known-run-at known-cells-at known-sample-at known-add-sample))
+      asked.0 asked.1.0 asked.1.1.0 asked.1.1.1.0 asked.1.1.1.1 𝓣 known_fresh known_run_at known_cells_at known_sample_at known_add_sample))
 
-  gather-meets : Meets 𝓛 f.signature (WpFn 𝓤 H 𝓣.C 𝓣.Λ code.function) (f.spec 𝓛 at_mem run)
-  gather-meets =
+  gather_meets : Meets 𝓛 f.signature (WpFn 𝓤 H 𝓣.C 𝓣.Λ code.function) (f.spec 𝓛 at_mem run)
+  gather_meets =
       walk_Meets 𝓛 f.ended stayed (Goes-none_slice 𝓛 1 (0 ∷ []) tt (plain (λ _. f32)) yes, (Goes-none_ref 𝓛 1 (0 ∷ []) tt (ArrayOf (plain (λ _. u32)) (λ _. tt) 512) yes, (Goes-none_ref 𝓛 1 (0 ∷ []) tt (ArrayOf (plain (λ _. f64)) (λ _. tt) 256) yes, (Goes-none_ref 𝓛 1 (0 ∷ []) tt (ArrayOf (plain (λ _. f32)) (λ _. tt) 272) yes, (Goes-none 𝓛 1 (λ _. N.the_row) yes (λ κs x f. refl), (Goes-none 𝓛 1 (λ _. usize) yes (λ κs x f. refl), tt)))))) (f.clauses 𝓛 at_mem run)
-      (WpFn 𝓤 H 𝓣.C 𝓣.Λ code.function) (WpFn-mono 𝓤 H 𝓛.laws 𝓣 code.function) gather-walks
+      (WpFn 𝓤 H 𝓣.C 𝓣.Λ code.function) (WpFn-mono 𝓤 H 𝓛.laws 𝓣 code.function) gather_walks
 
 pub gather-spec : {M : Type 1} → stated.statement M
 unfolding code.routine tables_of
 gather-spec 𝓤 𝓛 𝓜 𝓡 =
     entered 𝓤 𝓛.H (triple_of 𝓛 f.signature (f.spec 𝓛 𝓜.mem 𝓡.run))
     (tables 𝓤 𝓛.H 𝓜 𝓡 code.env).C (tables 𝓤 𝓛.H 𝓜 𝓡 code.env).Λ #orient-gather·gather code.function (code.unfolded 𝓤 𝓛.H 𝓜 𝓡)
-    (gather-meets 𝓛 𝓜.mem 𝓡.run (tables_of 𝓤 𝓛.H 𝓜 (tables 𝓤 𝓛.H 𝓜 𝓡 code.env))
-    (cited 𝓤 𝓛.H (Fresh 𝓛 𝓜.mem 𝓡.run) 𝓜 𝓡 code.env #orient-tally·fresh fresh-def.routine code.calls-orient-tally::fresh (fresh-thm.met 𝓤 𝓛 𝓜 𝓡))
-    (cited 𝓤 𝓛.H (RunAt 𝓛 𝓜.mem 𝓡.run) 𝓜 𝓡 code.env #orient-gather·run-at run-at-def.routine code.calls-orient-gather::run-at (run-at-thm.met 𝓤 𝓛 𝓜 𝓡))
-    (cited 𝓤 𝓛.H (CellsAt 𝓛 𝓜.mem 𝓡.run) 𝓜 𝓡 code.env #orient-gather·cells-at cells-at-def.routine code.calls-orient-gather::cells-at (cells-at-thm.met 𝓤 𝓛 𝓜 𝓡))
-    (cited 𝓤 𝓛.H (SampleAt 𝓛 𝓜.mem 𝓡.run) 𝓜 𝓡 code.env #orient-tally·sample-at sample-at-def.routine code.calls-orient-tally::sample-at (sample-at-thm.met 𝓤 𝓛 𝓜 𝓡))
-    (cited 𝓤 𝓛.H (AddSample 𝓛 𝓜.mem 𝓡.run) 𝓜 𝓡 code.env #orient-tally·add-sample add-sample-def.routine code.calls-orient-tally::add-sample (add-sample-thm.met 𝓤 𝓛 𝓜 𝓡)))
+    (gather_meets 𝓛 𝓜.mem 𝓡.run (tables_of 𝓤 𝓛.H 𝓜 (tables 𝓤 𝓛.H 𝓜 𝓡 code.env))
+    (cited 𝓤 𝓛.H (Fresh 𝓛 𝓜.mem 𝓡.run) 𝓜 𝓡 code.env #orient-tally·fresh fresh_def.routine code.calls-orient-tally::fresh (fresh_thm.met 𝓤 𝓛 𝓜 𝓡))
+    (cited 𝓤 𝓛.H (RunAt 𝓛 𝓜.mem 𝓡.run) 𝓜 𝓡 code.env #orient-gather·run-at run_at_def.routine code.calls-orient-gather::run-at (run_at_thm.met 𝓤 𝓛 𝓜 𝓡))
+    (cited 𝓤 𝓛.H (CellsAt 𝓛 𝓜.mem 𝓡.run) 𝓜 𝓡 code.env #orient-gather·cells-at cells_at_def.routine code.calls-orient-gather::cells-at (cells_at_thm.met 𝓤 𝓛 𝓜 𝓡))
+    (cited 𝓤 𝓛.H (SampleAt 𝓛 𝓜.mem 𝓡.run) 𝓜 𝓡 code.env #orient-tally·sample-at sample_at_def.routine code.calls-orient-tally::sample-at (sample_at_thm.met 𝓤 𝓛 𝓜 𝓡))
+    (cited 𝓤 𝓛.H (AddSample 𝓛 𝓜.mem 𝓡.run) 𝓜 𝓡 code.env #orient-tally·add-sample add_sample_def.routine code.calls-orient-tally::add-sample (add_sample_thm.met 𝓤 𝓛 𝓜 𝓡)))

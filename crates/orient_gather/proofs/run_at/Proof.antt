@@ -1,6 +1,6 @@
 use native.Mathlib.Omega.{arith}
-use Rattle.orient_gather.specs.Runs.{runOf}
-use Rattle.orient_window.proofs.Cells.{at-cell}
+use Rattle.orient_gather.specs.Runs.{run_of}
+use Rattle.orient_window.proofs.Cells.{at_cell}
 use borrow.Author.Rules.{rules}
 use Rattle.orient_gather.proofs.run_at.Statement.{statement}
 use Rattle.orient_gather.proofs.run_at.Tie as tie
@@ -12,19 +12,19 @@ early-of-requires : tie.Need-early-of-requires
 early-of-requires c κs = search rules
 
 div-t5 : tie.Need-nonzero-div-t5
-div-t5 c = (at-cell c.before.before.args.win _ _ c.before.before.requires.1.1.0 c.before.before.requires.1.1.1).some
+div-t5 c = (at_cell c.before.before.args.win _ _ c.before.before.requires.1.1.0 c.before.before.requires.1.1.1).some
 
 add-t6 : tie.Need-overflow-add-t6
-add-t6 c = omega (arith, c.before.before.before.requires, at-cell c.before.before.before.args.win _ _ c.before.before.before.requires.1.1.0 c.before.before.before.requires.1.1.1)
+add-t6 c = omega (arith, c.before.before.before.requires, at_cell c.before.before.before.args.win _ _ c.before.before.before.requires.1.1.0 c.before.before.before.requires.1.1.1)
 
 rem-t7 : tie.Need-nonzero-rem-t7
-rem-t7 c = (at-cell c.before.before.before.before.args.win _ _ c.before.before.before.before.requires.1.1.0 c.before.before.before.before.requires.1.1.1).some
+rem-t7 c = (at_cell c.before.before.before.before.args.win _ _ c.before.before.before.before.requires.1.1.0 c.before.before.before.before.requires.1.1.1).some
 
 add-t8 : tie.Need-overflow-add-t8
-add-t8 c = omega (arith, c.before.before.before.before.before.requires, at-cell c.before.before.before.before.before.args.win _ _ c.before.before.before.before.before.requires.1.1.0 c.before.before.before.before.before.requires.1.1.1)
+add-t8 c = omega (arith, c.before.before.before.before.before.requires, at_cell c.before.before.before.before.before.args.win _ _ c.before.before.before.before.before.requires.1.1.0 c.before.before.before.before.before.requires.1.1.1)
 
 returns : tie.Need-returns
-unfolding runOf
+unfolding run_of
 returns c = rw c.before.before.before.before.early-of.ensures
 
 pub run-at-spec : {M : Type 1} → statement M

@@ -1,7 +1,7 @@
 use native.Mathlib.Nat.{mul-le-mul}
 use native.Mathlib.Omega.{arith}
-use Rattle.params.specs.Limits.{maxSide}
-use Rattle.orient_tally.specs.Tally.{gatheredOf}
+use Rattle.params.specs.Limits.{max_side}
+use Rattle.orient_tally.specs.Tally.{gathered_of}
 use Rattle.orient_window.proofs.Cells.{read_is}
 use borrow.Author.Rules.{rules}
 use Rattle.orient_gather.proofs.tally_of.Statement.{statement}
@@ -26,13 +26,13 @@ mul-n : tie.Need-overflow-mul-n
 mul-n c =
     let f = c.before.before.before.before.before.requires.fits in
     let w = c.before.before.before.before.before.args.win in
-    omega (arith, mul-le-mul {n₁ = w.rows} {m₁ = w.cols} {n₂ = maxSide} {m₂ = maxSide} (omega (arith, f)) (omega (arith, f)))
+    omega (arith, mul-le-mul {n₁ = w.rows} {m₁ = w.cols} {n₂ = max_side} {m₂ = max_side} (omega (arith, f)) (omega (arith, f)))
 
 gather-requires : tie.Need-gather-requires
 gather-requires c κs = search rules
 
 returns : tie.Need-returns
-unfolding gatheredOf
+unfolding gathered_of
 returns c = rw (c.gather.ensures, read_is)
 
 pub tally-of-spec : {M : Type 1} → statement M

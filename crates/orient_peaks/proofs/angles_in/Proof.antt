@@ -6,8 +6,8 @@ use lib.ListN.{length, replicate}
 use borrow.Author.Rules.{rules}
 use Rattle.ieee.specs.Numbers.{nought}
 use Rattle.orient_tally.specs.Sample.{bins}
-use Rattle.orient_peaks.specs.Peaks.{leastOf, peakOf}
-use Rattle.orient_peaks.proofs.Fill.{Filled, filled_none, filled_more, filled-pass, peak-short, peak-yes, peak-none, peaks-held}
+use Rattle.orient_peaks.specs.Peaks.{least_of, peak_of}
+use Rattle.orient_peaks.proofs.Fill.{Filled, filled_none, filled_more, filled_pass, peak_short, peak_yes, peak_none, peaks_held}
 use Rattle.orient_peaks.proofs.angles_in.Statement.{statement}
 use Rattle.orient_peaks.proofs.angles_in.Tie as tie
 use Rattle.orient_peaks.proofs.angles_in.Reads as reads
@@ -17,7 +17,7 @@ use Rattle.orient_peaks.proofs.least_of.Reads as least-of-reads
 use Rattle.orient_peaks.proofs.peak_angle.Reads as peak-angle-reads
 
 abbrev invariant-loop : tie.invariant-loop
-invariant-loop h least all₀ count₀ j₀ all count j = (j ≤ bins) × ((length all₀ ≡ bins) × ((all₀ ≡ replicate bins nought) × ((least ≡ leastOf h) × Filled (peakOf h least) j all₀ all count)))
+invariant-loop h least all₀ count₀ j₀ all count j = (j ≤ bins) × ((length all₀ ≡ bins) × ((all₀ ≡ replicate bins nought) × ((least ≡ least_of h) × Filled (peak_of h least) j all₀ all count)))
 
 abbrev decreases-loop : tie.decreases-loop
 decreases-loop h least all₀ count₀ j₀ all count j = bins - j
@@ -26,7 +26,7 @@ least-of-requires : tie.Need-least-of-requires invariant-loop decreases-loop
 least-of-requires c κs = search rules
 
 loop-holds : tie.Need-loop-init invariant-loop decreases-loop
-loop-holds c = (omega arith, (refl, (refl, (c.least-of.ensures, filled_none _ _ (peak-short _ _)))))
+loop-holds c = (omega arith, (refl, (refl, (c.least-of.ensures, filled_none _ _ (peak_short _ _)))))
 
 is-peak-requires : tie.Need-is-peak-requires invariant-loop decreases-loop
 is-peak-requires c κs = search rules
@@ -63,8 +63,8 @@ loop-again c =
           (
             l.invariant.1.1.1.0,
             ⊎_elim
-                (λ w. rw (w.2, w.3) (filled_more (peakOf h t) w.1.result l.invariant.1.1.1.1 (peak-yes h t l.j p.result w.1.result p.ensures w.0.taken w.1.ensures) (omega arith)))
-                (λ w. rw (w.1, w.2) (filled-pass (peakOf h t) l.invariant.1.1.1.1 (peak-none h t l.j p.result p.ensures w.0.left)))
+                (λ w. rw (w.2, w.3) (filled_more (peak_of h t) w.1.result l.invariant.1.1.1.1 (peak_yes h t l.j p.result w.1.result p.ensures w.0.taken w.1.ensures) (omega arith)))
+                (λ w. rw (w.1, w.2) (filled_pass (peak_of h t) l.invariant.1.1.1.1 (peak_none h t l.j p.result p.ensures w.0.left)))
                 c.if1.branch,
           ),
         ),
@@ -74,7 +74,7 @@ loop-again c =
 returns : tie.Need-returns invariant-loop decreases-loop
 returns c =
     let l = c.before.loop.invariant.1.1 in
-    peaks-held _ _ l.1.0 l.0 l.1.1 (omega arith)
+    peaks_held _ _ l.1.0 l.0 l.1.1 (omega arith)
 
 pub angles-in-spec : {M : Type 1} → statement M
 angles-in-spec =

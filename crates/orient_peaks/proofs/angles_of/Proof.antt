@@ -1,4 +1,4 @@
-use Rattle.orient_peaks.specs.Peaks.{anglesOf}
+use Rattle.orient_peaks.specs.Peaks.{angles_of}
 use borrow.Author.Rules.{rules}
 use Rattle.orient_peaks.proofs.angles_of.Statement.{statement}
 use Rattle.orient_peaks.proofs.angles_of.Tie as tie
@@ -14,7 +14,7 @@ angles-in-requires : tie.Need-angles-in-requires
 angles-in-requires c κs = search rules
 
 returns : tie.Need-returns
-unfolding anglesOf
+unfolding angles_of
 returns c = rw (← c.before.before.smooth.ensures) c.angles-in.ensures
 
 pub angles-of-spec : {M : Type 1} → statement M

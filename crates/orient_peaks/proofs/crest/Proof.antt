@@ -1,5 +1,5 @@
 use mathlib.Core.Path.{refl}
-use Rattle.orient_peaks.specs.Peaks.{crestOf}
+use Rattle.orient_peaks.specs.Peaks.{crest_of}
 use borrow.Author.Rules.{rules}
 use Rattle.orient_peaks.proofs.crest.Statement.{statement}
 use Rattle.orient_peaks.proofs.crest.Tie as tie
@@ -13,7 +13,7 @@ int-to-float-result : tie.Need-int-to-float-result
 int-to-float-result c = search rules
 
 returns : tie.Need-returns
-unfolding crestOf
+unfolding crest_of
 returns c = refl
 
 pub crest-spec : {M : Type 1} → statement M

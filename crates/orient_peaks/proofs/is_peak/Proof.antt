@@ -1,4 +1,4 @@
-use Rattle.orient_peaks.proofs.Steps.{peak-is}
+use Rattle.orient_peaks.proofs.Steps.{peak_is}
 use borrow.Author.Rules.{rules}
 use Rattle.orient_peaks.proofs.is_peak.Statement.{statement}
 use Rattle.orient_peaks.proofs.is_peak.Tie as tie
@@ -29,7 +29,7 @@ returns c =
     let l = c.before in
     let m = l.before in
     let a = m.before.args in
-    peak-is a.h.now a.least a.j _ _ _ m.bin-around.ensures l.bin-around2.ensures c.bin-around3.ensures
+    peak_is a.h.now a.least a.j _ _ _ m.bin-around.ensures l.bin-around2.ensures c.bin-around3.ensures
 
 pub is-peak-spec : {M : Type 1} → statement M
 is-peak-spec =

@@ -3,8 +3,8 @@ use mathlib.Core.Path.{◌≡◌, refl, ap, ◌∙◌}
 use native.Mathlib.Omega.{arith}
 use borrow.Author.Rules.{rules}
 use Rattle.orient_tally.specs.Sample.{bins}
-use Rattle.orient_peaks.specs.Peaks.{largestTo, leastOf}
-use Rattle.orient_peaks.proofs.Fill.{largest-next}
+use Rattle.orient_peaks.specs.Peaks.{largest_to, least_of}
+use Rattle.orient_peaks.proofs.Fill.{largest_next}
 use Rattle.orient_peaks.proofs.least_of.Statement.{statement}
 use Rattle.orient_peaks.proofs.least_of.Tie as tie
 use Rattle.orient_peaks.proofs.least_of.Reads as reads
@@ -12,7 +12,7 @@ use Rattle.orient_peaks.proofs.least_of.Lts as lts
 use Rattle.orient_peaks.proofs.larger.Reads as larger-reads
 
 abbrev invariant-loop : tie.invariant-loop
-invariant-loop h top₀ i₀ top i = (1 ≤ i) × ((i ≤ bins) × (top ≡ largestTo h (i - 1)))
+invariant-loop h top₀ i₀ top i = (1 ≤ i) × ((i ≤ bins) × (top ≡ largest_to h (i - 1)))
 
 abbrev decreases-loop : tie.decreases-loop
 decreases-loop h top₀ i₀ top i = bins - i
@@ -21,7 +21,7 @@ element-copy-out-top : tie.Need-element-copy-out-top invariant-loop decreases-lo
 element-copy-out-top c = search rules
 
 loop-holds : tie.Need-loop-init invariant-loop decreases-loop
-unfolding largestTo
+unfolding largest_to
 loop-holds c = (omega arith, (omega arith, refl))
 
 mul-larger : tie.Need-overflow-mul-larger invariant-loop decreases-loop
@@ -43,10 +43,10 @@ loop-again : tie.Need-loop-preserved invariant-loop decreases-loop
 loop-again c =
     let l = c.before.before.before.loop in
     let b = c.before.before.before.before.before in
-    (omega arith, (omega arith, largest-next b.args.h.now l.i l.top c.larger.result l.invariant.0 l.invariant.1.1 c.larger.ensures))
+    (omega arith, (omega arith, largest_next b.args.h.now l.i l.top c.larger.result l.invariant.0 l.invariant.1.1 c.larger.ensures))
 
 returns : tie.Need-returns invariant-loop decreases-loop
-unfolding leastOf
+unfolding least_of
 returns c =
     let z : c.before.loop.i ≡ bins = omega arith in
     rw (c.before.loop.invariant.1.1, z)

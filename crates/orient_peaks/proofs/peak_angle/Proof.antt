@@ -1,4 +1,4 @@
-use Rattle.orient_peaks.proofs.Steps.{angle-is}
+use Rattle.orient_peaks.proofs.Steps.{angle_is}
 use borrow.Author.Rules.{rules}
 use Rattle.orient_peaks.proofs.peak_angle.Statement.{statement}
 use Rattle.orient_peaks.proofs.peak_angle.Tie as tie
@@ -47,7 +47,7 @@ returns c =
     let m = r.before in
     let l = m.before in
     let a = l.before.args in
-    angle-is a.h.now a.j _ _ _ _ _ _ _ l.bin-around.ensures m.bin-around2.ensures r.bin-around3.ensures
+    angle_is a.h.now a.j _ _ _ _ _ _ _ l.bin-around.ensures m.bin-around2.ensures r.bin-around3.ensures
     b.crest.ensures c.before.before.back_in.ensures c.before.mul-add.ensures.0 c.Closed-at.ensures
 
 pub peak-angle-spec : {M : Type 1} → statement M

@@ -7,8 +7,8 @@ use native.Mathlib.Omega.{arith}
 use lib.ListN.{length}
 use borrow.Author.Rules.{rules}
 use Rattle.orient_tally.specs.Sample.{bins}
-use Rattle.orient_peaks.specs.Peaks.{smoothAt, smoothed}
-use Rattle.orient_peaks.proofs.Fill.{Filled, filled_none, filled_more, filled-all}
+use Rattle.orient_peaks.specs.Peaks.{smooth_at, smoothed}
+use Rattle.orient_peaks.proofs.Fill.{Filled, filled_none, filled_more, filled_all}
 use Rattle.orient_peaks.proofs.smooth.Statement.{statement}
 use Rattle.orient_peaks.proofs.smooth.Tie as tie
 use Rattle.orient_peaks.proofs.smooth.Reads as reads
@@ -16,7 +16,7 @@ use Rattle.orient_peaks.proofs.smooth.Lts as lts
 use Rattle.orient_peaks.proofs.smooth_at.Reads as smooth-at-reads
 
 abbrev invariant-loop : tie.invariant-loop
-invariant-loop b h₀ i₀ h i = (i ≤ bins) × ((length h₀ ≡ bins) × Filled (λ k. smoothAt b k ∷ []) i h₀ h i)
+invariant-loop b h₀ i₀ h i = (i ≤ bins) × ((length h₀ ≡ bins) × Filled (λ k. smooth_at b k ∷ []) i h₀ h i)
 
 abbrev decreases-loop : tie.decreases-loop
 decreases-loop b h₀ i₀ h i = bins - i
@@ -46,7 +46,7 @@ loop-again c =
 returns : tie.Need-returns invariant-loop decreases-loop
 unfolding smoothed
 returns c =
-    filled-all (smoothAt c.before.before.args.b.now) bins c.before.loop.invariant.1.1 (omega arith) c.before.loop.invariant.1.0
+    filled_all (smooth_at c.before.before.args.b.now) bins c.before.loop.invariant.1.1 (omega arith) c.before.loop.invariant.1.0
 
 pub smooth-spec : {M : Type 1} → statement M
 smooth-spec =

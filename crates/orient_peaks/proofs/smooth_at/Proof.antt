@@ -1,4 +1,4 @@
-use Rattle.orient_peaks.proofs.Steps.{smooth-is}
+use Rattle.orient_peaks.proofs.Steps.{smooth_is}
 use borrow.Author.Rules.{rules}
 use Rattle.orient_peaks.proofs.smooth_at.Statement.{statement}
 use Rattle.orient_peaks.proofs.smooth_at.Tie as tie
@@ -54,7 +54,7 @@ returns c =
     let q = l.before in
     let p = q.before in
     let a = p.before.args in
-    smooth-is a.b.now a.i _ _ _ _ _ _ _ p.bin-around.ensures q.bin-around2.ensures l.bin-around3.ensures r.bin-around4.ensures m.bin-around5.ensures
+    smooth_is a.b.now a.i _ _ _ _ _ _ _ p.bin-around.ensures q.bin-around2.ensures l.bin-around3.ensures r.bin-around4.ensures m.bin-around5.ensures
     c.before.add-part.ensures c.add-part2.ensures
 
 pub smooth-at-spec : {M : Type 1} → statement M

@@ -1,5 +1,5 @@
 use lib.Ieee.{of_bits}
-use Rattle.orient_tally.proofs.Values.{binned-in, found-high, found-low}
+use Rattle.orient_tally.proofs.Values.{binned_in, found_high, found_low}
 use borrow.Author.Rules.{rules}
 use Rattle.orient_tally.proofs.bin_of.Statement.{statement}
 use Rattle.orient_tally.proofs.bin_of.Tie as tie
@@ -14,7 +14,7 @@ angle-in-requires c κs = search rules
 -- src/lib.rt:129:14
 float-to-bits-b : tie.Need-float-to-bits-b
 unfolding of_bits
-float-to-bits-b c = rw c.angle-in.ensures (binned-in _ _ c.before.requires.1).fine
+float-to-bits-b c = rw c.angle-in.ensures (binned_in _ _ c.before.requires.1).fine
 
 -- src/lib.rt:129:13
 cast-b : tie.Need-overflow-cast-b
@@ -23,11 +23,11 @@ cast-b c = search rules
 -- src/lib.rt:124:1
 returns : tie.Need-returns
 unfolding of_bits
-returns c = found-high _ _ _ c.before.angle-in.ensures c.before.before.requires.1 c.if1.true
+returns c = found_high _ _ _ c.before.angle-in.ensures c.before.before.requires.1 c.if1.true
 
 returns-2 : tie.Need-returns-2
 unfolding of_bits
-returns-2 c = found-low _ _ _ c.before.angle-in.ensures c.before.before.requires.1 c.if1.false
+returns-2 c = found_low _ _ _ c.before.angle-in.ensures c.before.before.requires.1 c.if1.false
 
 pub bin-of-spec : {M : Type 1} → statement M
 bin-of-spec = tie.close (tie.spec angle-in-requires float-to-bits-b cast-b returns returns-2)

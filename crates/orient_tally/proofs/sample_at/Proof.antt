@@ -1,4 +1,4 @@
-use Rattle.orient_tally.specs.Runs.{sampleIn}
+use Rattle.orient_tally.specs.Runs.{sample_in}
 use borrow.Author.Rules.{rules}
 use Rattle.orient_tally.proofs.sample_at.Statement.{statement}
 use Rattle.orient_tally.proofs.sample_at.Tie as tie
@@ -25,7 +25,7 @@ bin-of-requires : tie.Need-bin-of-requires
 bin-of-requires c κs = let p = c.before.before.before.before.before.before.requires.1 in (p.1.0, rw c.before.slope-at.ensures p.1.1.slope)
 
 returns : tie.Need-returns
-unfolding sampleIn
+unfolding sample_in
 returns c =
     let b = c.bin-of.ensures in
     (rw (c.before.before.before.weight-at.ensures, c.before.magnitude-in.ensures, b.0, c.before.before.slope-at.ensures), b.1)

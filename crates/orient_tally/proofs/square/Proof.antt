@@ -1,4 +1,4 @@
-use Rattle.orient_tally.proofs.Squares.{sub-fits, mul-fits, squared}
+use Rattle.orient_tally.proofs.Squares.{sub_fits, mul_fits, squared}
 use borrow.Author.Rules.{rules}
 use Rattle.orient_tally.proofs.square.Statement.{statement}
 use Rattle.orient_tally.proofs.square.Tie as tie
@@ -12,10 +12,10 @@ cast-d-2 : tie.Need-overflow-cast-d-2
 cast-d-2 c = search rules
 
 sub-d : tie.Need-overflow-sub-d
-sub-d c = sub-fits _ _ c.requires.0 c.requires.1
+sub-d c = sub_fits _ _ c.requires.0 c.requires.1
 
 mul-result : tie.Need-overflow-mul-result
-mul-result c = mul-fits _ _ c.requires.0 c.requires.1
+mul-result c = mul_fits _ _ c.requires.0 c.requires.1
 
 returns : tie.Need-returns
 returns c = squared _ _ c.requires.0 c.requires.1

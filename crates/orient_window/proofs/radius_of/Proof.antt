@@ -1,6 +1,6 @@
 use Rattle.std.proofs.Common.{◌≡◌, rules}
-use Rattle.orient_window.specs.Window.{radiusOf}
-use Rattle.orient_window.proofs.Radius.{radius-cuts}
+use Rattle.orient_window.specs.Window.{radius_of}
+use Rattle.orient_window.proofs.Radius.{radius_cuts}
 use Rattle.orient_window.proofs.radius_of.Statement.{statement}
 use Rattle.orient_window.proofs.radius_of.Tie as tie
 use Rattle.orient_window.proofs.radius_of.Reads as reads
@@ -13,14 +13,14 @@ round-ties-even-requires c κs = search rules
 
 truncating-f32-to-u64-requires : tie.Need-truncating-f32-to-u64-requires
 truncating-f32-to-u64-requires c κs =
-    let r = radius-cuts c.before.args.scale c.before.requires in
+    let r = radius_cuts c.before.args.scale c.before.requires in
     rw c.round_ties_even.ensures (r.above, r.below)
 
 returns : tie.Need-returns
-unfolding radiusOf
+unfolding radius_of
 returns c =
-    let r = radius-cuts c.before.before.args.scale c.before.before.requires in
-    let e : c.truncating-f32-to-u64.result ≡ radiusOf c.before.before.args.scale = cc in
+    let r = radius_cuts c.before.before.args.scale c.before.before.requires in
+    let e : c.truncating-f32-to-u64.result ≡ radius_of c.before.before.args.scale = cc in
     (e, rw e r.size)
 
 pub radius-of-spec : {M : Type 1} → statement M

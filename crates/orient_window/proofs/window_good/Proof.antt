@@ -1,5 +1,5 @@
 use Rattle.std.proofs.Common.{sym, ◌∙◌, rules}
-use Rattle.orient_window.proofs.Round.{some-cells, area_in, area-window}
+use Rattle.orient_window.proofs.Round.{some_cells, area_in, area_window}
 use Rattle.orient_window.proofs.window_good.Statement.{statement}
 use Rattle.orient_window.proofs.window_good.Tie as tie
 use Rattle.orient_window.proofs.window_good.Reads as reads
@@ -16,14 +16,14 @@ add-t8 c = search rules
 area-good-requires : tie.Need-area-good-requires
 area-good-requires c κs =
     let w = c.before.before.before.before.before.before.args.win in
-    let p = some-cells w.rows w.cols c.before.before.if1.true in
+    let p = some_cells w.rows w.cols c.before.before.if1.true in
     area_in _ w c.before.before.before.before.before.before.requires p.0 p.1
 
 returns : tie.Need-returns
 returns c =
     let b = c.before.before.before.before.before.before.before.before in
-    let p = some-cells b.args.win.rows b.args.win.cols c.before.before.before.before.if1.true in
-    sym (area-window b.args.img.now b.args.win b.requires p.0 p.1 (sym c.before.area-good.ensures ∙ c.if2.true))
+    let p = some_cells b.args.win.rows b.args.win.cols c.before.before.before.before.if1.true in
+    sym (area_window b.args.img.now b.args.win b.requires p.0 p.1 (sym c.before.area-good.ensures ∙ c.if2.true))
 
 cells-good-requires : tie.Need-cells-good-requires
 cells-good-requires c κs = search rules

@@ -1,4 +1,4 @@
-use Rattle.orient_window.proofs.Spans.{window-is}
+use Rattle.orient_window.proofs.Spans.{window_is}
 use Rattle.std.proofs.Common.{rules}
 use Rattle.orient_window.proofs.window_of.Statement.{statement}
 use Rattle.orient_window.proofs.window_of.Tie as tie
@@ -44,7 +44,7 @@ returns c =
     let t = l.before in
     let r = t.before in
     let a = r.before.args in
-    window-is a.s a.row a.col a.scale _ _ _ _ _ _ _ _ r.radius-of.ensures.0 t.first-in.ensures l.first-in2.ensures d.past-in.ensures m.count.ensures p.past-in2.ensures n.count2.ensures c.falloff.ensures
+    window_is a.s a.row a.col a.scale _ _ _ _ _ _ _ _ r.radius-of.ensures.0 t.first-in.ensures l.first-in2.ensures d.past-in.ensures m.count.ensures p.past-in2.ensures n.count2.ensures c.falloff.ensures
 
 pub window-of-spec : {M : Type 1} → statement M
 window-of-spec =

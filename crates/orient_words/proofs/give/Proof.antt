@@ -1,4 +1,4 @@
-use Rattle.orient_words.proofs.Room.{given-done, given-short, left-done, left-short}
+use Rattle.orient_words.proofs.Room.{given_done, given_short, left_done, left_short}
 use borrow.Author.Rules.{rules}
 use Rattle.orient_words.proofs.give.Statement.{statement}
 use Rattle.orient_words.proofs.give.Tie as tie
@@ -19,12 +19,12 @@ returns : tie.Need-returns
 returns c =
     let a = c.before.before.before.before.before.before.before.before.before.args in
     let h = c.before.before.before.before.before.before.if1.true in
-    (given-done a.d _ h, left-done a.k a.d a.out.now _ h c.before.before.put_all.ensures)
+    (given_done a.d _ h, left_done a.k a.d a.out.now _ h c.before.before.put_all.ensures)
 
 returns-2 : tie.Need-returns-2
 returns-2 c =
     let a = c.before.before.before.args in
-    (given-short a.d _ c.if1.false, left-short a.k a.d a.out.now c.if1.false)
+    (given_short a.d _ c.if1.false, left_short a.k a.d a.out.now c.if1.false)
 
 pub give_spec : {M : Type 1} → statement M
 give_spec = tie.close (tie.spec mul-if1 put-all-requires same_length returns returns-2)

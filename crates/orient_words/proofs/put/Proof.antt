@@ -1,6 +1,6 @@
 use native.Mathlib.Omega.{arith}
 use lib.ListN.{length-set}
-use Rattle.orient_words.proofs.Words.{six-words}
+use Rattle.orient_words.proofs.Words.{six_words}
 use borrow.Author.Rules.{rules}
 use Rattle.orient_words.proofs.put.Statement.{statement}
 use Rattle.orient_words.proofs.put.Tie as tie
@@ -80,7 +80,7 @@ same_length c = search rules
 returns : tie.Need-returns
 returns c =
     let a = c.before.before.before.before.before.before.args in
-    six-words a.out.now a.at a.o _ _ _ _ _ c.before.before.before.before.bits-of.ensures c.before.before.before.bits-of2.ensures c.before.before.bits-of3.ensures c.before.bits-of4.ensures c.bits-of5.ensures
+    six_words a.out.now a.at a.o _ _ _ _ _ c.before.before.before.before.bits-of.ensures c.before.before.before.bits-of2.ensures c.before.before.bits-of3.ensures c.before.bits-of4.ensures c.bits-of5.ensures
     c.before.before.before.before.before.before.requires
 
 pub put_spec : {M : Type 1} → statement M

@@ -6,7 +6,7 @@ use mathlib.Core.Path.{◌≡◌}
 use native.Mathlib.Omega.{arith}
 use borrow.Author.Rules.{rules}
 use Rattle.lists.specs.Pasted.{pasted}
-use Rattle.orient_words.proofs.Words.{words_to, words-none, words_more, length-kept}
+use Rattle.orient_words.proofs.Words.{words_to, words_none, words_more, length_kept}
 use Rattle.orient_words.proofs.put_all.Statement.{statement}
 use Rattle.orient_words.proofs.put_all.Tie as tie
 use Rattle.orient_words.proofs.put_all.Reads as reads
@@ -21,7 +21,7 @@ abbrev decreases-loop : tie.decreases-loop
 decreases-loop k all count out₀ i₀ out i = count - i
 
 loop-holds : tie.Need-loop-init invariant-loop decreases-loop
-loop-holds c = (omega arith, words-none _ _ _)
+loop-holds c = (omega arith, words_none _ _ _)
 
 mul-put : tie.Need-overflow-mul-put invariant-loop decreases-loop
 mul-put c = omega arith
@@ -39,7 +39,7 @@ put-requires : tie.Need-put-requires invariant-loop decreases-loop
 put-requires c κs =
     let s = c.before.before.before.before.before.before in
     let l = c.before.before.before.before.loop in
-    let n : length l.out ≡ length s.args.out.now = ap length l.invariant.1 ∙ length-kept s.args.k s.args.all.now l.i s.args.out.now (omega arith) (omega arith) in
+    let n : length l.out ≡ length s.args.out.now = ap length l.invariant.1 ∙ length_kept s.args.k s.args.all.now l.i s.args.out.now (omega arith) (omega arith) in
     omega arith
 
 add-i : tie.Need-overflow-add-i invariant-loop decreases-loop
@@ -58,7 +58,7 @@ same_length : tie.Need-same-length invariant-loop decreases-loop
 same_length c =
     let s = c.before.before.before in
     let l = c.before.loop in
-    ap length l.invariant.1 ∙ length-kept s.args.k s.args.all.now l.i s.args.out.now (omega arith) (omega arith)
+    ap length l.invariant.1 ∙ length_kept s.args.k s.args.all.now l.i s.args.out.now (omega arith) (omega arith)
 
 returns : tie.Need-returns invariant-loop decreases-loop
 unfolding words_to

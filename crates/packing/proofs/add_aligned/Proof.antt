@@ -10,8 +10,8 @@ use lib.IntN.{pos}
 use lib.Ieee.{Float, fin, binary32, round, sum, of_bits, neg}
 use Rattle.packing.specs.Parts.{Sticky, Aligned}
 use Rattle.packing.proofs.Cases.{at_zero}
-use Rattle.packing.proofs.Sums.{sum_like, sum_more, sum_less, sum-none, diff-mul}
-use Rattle.packing.proofs.Aligned.{sticky-moved, plus, less, take, exact}
+use Rattle.packing.proofs.Sums.{sum_like, sum_more, sum_less, sum_none, diff_mul}
+use Rattle.packing.proofs.Aligned.{sticky_moved, plus, less, take, exact}
 use Rattle.packing.proofs.add_aligned.Statement.{statement}
 use Rattle.packing.proofs.add_aligned.Tie as tie
 use Rattle.packing.proofs.add_aligned.Reads as reads
@@ -19,16 +19,16 @@ use Rattle.packing.proofs.add_aligned.Lts as lts
 use Rattle.packing.proofs.shift_sticky.Reads as shift-sticky-reads
 use Rattle.packing.proofs.pack.Reads as pack-reads
 
-sticky-le : (b d r : ℕ) → b < 2 ^ 62 → Sticky b d r → r < 2 ^ 62
-sticky-le b d r h (inl e) = lt_of_le_of_lt (le_trans (le_of_eq (sym (mul-one r))) (mul-le-mul_left r (pow_pos d))) (subst (λ (x : ℕ). x < 2 ^ 62) (sym e) h)
-sticky-le b d r h (inr (i, o, lo, hi, l)) = omega arith
+sticky_le : (b d r : ℕ) → b < 2 ^ 62 → Sticky b d r → r < 2 ^ 62
+sticky_le b d r h (inl e) = lt_of_le_of_lt (le_trans (le_of_eq (sym (mul-one r))) (mul-le-mul_left r (pow_pos d))) (subst (λ (x : ℕ). x < 2 ^ 62) (sym e) h)
+sticky_le b d r h (inr (i, o, lo, hi, l)) = omega arith
 
 module _ (s : Bool) (a : ℕ) (t : Bool) (b d e r : ℕ) (w : Aligned a b d e) (j : Sticky b d r) where
   abbrev B : ℕ
   B = b * 2 ^ (e - d)
 
   j' : Sticky (b * 2 ^ (e - d)) e r
-  j' = sticky-moved b d e r w.down j
+  j' = sticky_moved b d e r w.down j
 
   like : beq s t ≡ true → round binary32 s ((a + r) * 2 ^ e) (2 ^ 1074) ≡ sum binary32 s (a * 2 ^ e) t (b * 2 ^ (e - d)) (2 ^ 1074)
   like h = sym (sum_like binary32 s (a * 2 ^ e) t B (2 ^ 1074) h ∙ plus s a B r e 1074 w.full w.even j')
@@ -43,17 +43,17 @@ module _ (s : Bool) (a : ℕ) (t : Bool) (b d e r : ℕ) (w : Aligned a b d e) (
   fewer h l =
       let q : r * 2 ^ e ≡ B = same (omega arith) in
       sym (sum_less binary32 s (a * 2 ^ e) t B (2 ^ 1074) h (subst (λ (x : ℕ). a * 2 ^ e < x) q (mul-lt-mul_of_pos_right l (pow_pos e)))
-      ∙ ap (λ (x : ℕ). round binary32 t x (2 ^ 1074)) (ap (λ (x : ℕ). x - a * 2 ^ e) (sym q) ∙ sym (diff-mul r a (2 ^ e))))
+      ∙ ap (λ (x : ℕ). round binary32 t x (2 ^ 1074)) (ap (λ (x : ℕ). x - a * 2 ^ e) (sym q) ∙ sym (diff_mul r a (2 ^ e))))
 
   none : beq s t ≡ false → a ≡ r → fin false 0 (pos 0) ≡ sum binary32 s (a * 2 ^ e) t (b * 2 ^ (e - d)) (2 ^ 1074)
   none h l =
-      sym (sum-none binary32 s (a * 2 ^ e) t B (2 ^ 1074) h (ap (λ (x : ℕ). x * 2 ^ e) l ∙ same (omega arith)) ∙ at_zero false)
+      sym (sum_none binary32 s (a * 2 ^ e) t B (2 ^ 1074) h (ap (λ (x : ℕ). x * 2 ^ e) l ∙ same (omega arith)) ∙ at_zero false)
 
 shift-sticky-requires : tie.Need-shift-sticky-requires
 shift-sticky-requires c κs = search rules
 
 add-pack : tie.Need-overflow-add-pack
-add-pack c = let a = c.before.before in omega (arith, sticky-le a.args.b a.args.d c.before.shift-sticky.result a.requires.b-in c.before.shift-sticky.ensures, a.requires.a_in)
+add-pack c = let a = c.before.before in omega (arith, sticky_le a.args.b a.args.d c.before.shift-sticky.result a.requires.b_in c.before.shift-sticky.ensures, a.requires.a_in)
 
 pack-requires : tie.Need-pack-requires
 pack-requires c κs = search rules

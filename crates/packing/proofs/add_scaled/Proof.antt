@@ -10,7 +10,7 @@ use lib.Ieee.{Float, binary32, round, sum}
 use lib.Ieee.Digits.{back}
 use lib.Ieee.Scale.{round_same}
 use Rattle.packing.specs.Parts.{Aligned, Normalized}
-use Rattle.packing.proofs.Sums.{sum_same, sum_comm, sum-zero-left, sum_zeros}
+use Rattle.packing.proofs.Sums.{sum_same, sum_comm, sum_zero_left, sum_zeros}
 use Rattle.packing.proofs.add_scaled.Statement.{statement}
 use Rattle.packing.proofs.add_scaled.Tie as tie
 use Rattle.packing.proofs.add_scaled.Reads as reads
@@ -26,8 +26,8 @@ over m x = ap (λ (y : ℕ). m * y * 2 ^ 298) (pow-add 2 x 776) ∙ ap (λ (y : 
 over_zero : (s : Bool) (x : ℕ) → round binary32 s (0 * 2 ^ x) (2 ^ 1074) ≡ round binary32 s 0 (2 ^ 298)
 over_zero s x = round_same binary32 s (0 * 2 ^ x) (2 ^ 1074) 0 (2 ^ 298) (pow_pos 1074) (pow_pos 298) (ap (λ (y : ℕ). y * 2 ^ 298) (zero-mul (2 ^ x)) ∙ zero-mul (2 ^ 298) ∙ sym (zero-mul (2 ^ 1074)))
 
-over-round : (s : Bool) (m x : ℕ) → round binary32 s (m * 2 ^ (x + 776)) (2 ^ 1074) ≡ round binary32 s (m * 2 ^ x) (2 ^ 298)
-over-round s m x = round_same binary32 s (m * 2 ^ (x + 776)) (2 ^ 1074) (m * 2 ^ x) (2 ^ 298) (pow_pos 1074) (pow_pos 298) (over m x)
+over_round : (s : Bool) (m x : ℕ) → round binary32 s (m * 2 ^ (x + 776)) (2 ^ 1074) ≡ round binary32 s (m * 2 ^ x) (2 ^ 298)
+over_round s m x = round_same binary32 s (m * 2 ^ (x + 776)) (2 ^ 1074) (m * 2 ^ x) (2 ^ 298) (pow_pos 1074) (pow_pos 298) (over m x)
 
 at_zero : (m x : ℕ) → m ≡ 0 → m * 2 ^ x ≡ 0
 at_zero m x e = ap (λ (y : ℕ). y * 2 ^ x) e ∙ zero-mul (2 ^ x)
@@ -40,7 +40,7 @@ module _ (s : Bool) (m x : ℕ) (t : Bool) (n y : ℕ) where
   both p q = over_zero (s && t) 0 ∙ sym (sum_zeros binary32 s t (2 ^ 298)) ∙ ap₂ (λ (a b : ℕ). sum binary32 s a t b (2 ^ 298)) (sym (at_zero m x p)) (sym (at_zero n y q))
 
   left : m ≡ 0 → (n ≡ 0 → ⊥) → round binary32 t (n * 2 ^ (y + 776)) (2 ^ 1074) ≡ sum binary32 s (m * 2 ^ x) t (n * 2 ^ y) (2 ^ 298)
-  left p q = over-round t n y ∙ sym (sum-zero-left binary32 s t (n * 2 ^ y) (2 ^ 298) (above_zero n y q)) ∙ ap (λ (a : ℕ). sum binary32 s a t (n * 2 ^ y) (2 ^ 298)) (sym (at_zero m x p))
+  left p q = over_round t n y ∙ sym (sum_zero_left binary32 s t (n * 2 ^ y) (2 ^ 298) (above_zero n y q)) ∙ ap (λ (a : ℕ). sum binary32 s a t (n * 2 ^ y) (2 ^ 298)) (sym (at_zero m x p))
 
 right : (s : Bool) (m x : ℕ) (t : Bool) (n y : ℕ) → (m ≡ 0 → ⊥) → n ≡ 0 → round binary32 s (m * 2 ^ (x + 776)) (2 ^ 1074) ≡ sum binary32 s (m * 2 ^ x) t (n * 2 ^ y) (2 ^ 298)
 right s m x t n y p q = left t n y s m x q p ∙ sum_comm binary32 t (n * 2 ^ y) s (m * 2 ^ x) (2 ^ 298)
@@ -67,7 +67,7 @@ module _ (m x n y z w : ℕ) (p : Normalized m z) (q : Normalized n w) (small : 
         a_in = p.high;
         even = omega (arith, tail m z p);
         some = omega (arith, q.low);
-        b-in = q.high;
+        b_in = q.high;
         spare = ap (λ (a : ℕ). a % 2 ^ 14) (tail n w q) ∙ mul-mod_left (n * 2 ^ (w - 14)) (2 ^ 14);
         down = omega arith;
         place = omega arith;
@@ -81,8 +81,8 @@ module _ (m x n y z w : ℕ) (p : Normalized m z) (q : Normalized n w) (small : 
       ∙ sum_same binary32 s (m * 2 ^ (x + 776)) t (n * 2 ^ (y + 776)) (2 ^ 1074) (m * 2 ^ x) (n * 2 ^ y) (2 ^ 298) (pow_pos 1074) (pow_pos 298) (over m x) (over n y)
 
   -- the same with the summands exchanged
-  added-other : (s t : Bool) (r : Float) → r ≡ sum binary32 s (m * 2 ^ z % 2 ^ 64 * 2 ^ (x + 776 - z)) t (n * 2 ^ w % 2 ^ 64 * 2 ^ (x + 776 - z - (x + 776 - z - (y + 776 - w)))) (2 ^ 1074) → r ≡ sum binary32 t (n * 2 ^ y) s (m * 2 ^ x) (2 ^ 298)
-  added-other s t r h = added s t r h ∙ sum_comm binary32 s (m * 2 ^ x) t (n * 2 ^ y) (2 ^ 298)
+  added_other : (s t : Bool) (r : Float) → r ≡ sum binary32 s (m * 2 ^ z % 2 ^ 64 * 2 ^ (x + 776 - z)) t (n * 2 ^ w % 2 ^ 64 * 2 ^ (x + 776 - z - (x + 776 - z - (y + 776 - w)))) (2 ^ 1074) → r ≡ sum binary32 t (n * 2 ^ y) s (m * 2 ^ x) (2 ^ 298)
+  added_other s t r h = added s t r h ∙ sum_comm binary32 s (m * 2 ^ x) t (n * 2 ^ y) (2 ^ 298)
 
 pack-requires : tie.Need-pack-requires
 pack-requires c κs = search rules
@@ -161,7 +161,7 @@ returns-5 : tie.Need-returns-5
 returns-5 c =
     let d = c.before in
     let a = d.before.before.before.before.before in
-    added-other a.args.n a.args.y a.args.m a.args.x d.before.normalizing-shift2.result d.before.before.normalizing-shift.result d.before.normalizing-shift2.ensures d.before.before.normalizing-shift.ensures a.requires.3 (le_of_lt d.if4.false) a.args.t a.args.s c.add-aligned2.result c.add-aligned2.ensures
+    added_other a.args.n a.args.y a.args.m a.args.x d.before.normalizing-shift2.result d.before.before.normalizing-shift.result d.before.normalizing-shift2.ensures d.before.before.normalizing-shift.ensures a.requires.3 (le_of_lt d.if4.false) a.args.t a.args.s c.add-aligned2.result c.add-aligned2.ensures
 
 pub add-scaled-spec : {M : Type 1} → statement M
 add-scaled-spec =

@@ -7,7 +7,7 @@ use native.Mathlib.Omega.{arith}
 use mathlib.Core.Logic.{inl, inr}
 use lib.Pow.{pow_pos}
 use lib.Ieee.Nearest.{closest}
-use Rattle.packing.proofs.Half.{closest-even, closest-tie, closest-up}
+use Rattle.packing.proofs.Half.{closest_even, closest_tie, closest_up}
 use Rattle.packing.proofs.half_even.Statement.{statement}
 use Rattle.packing.proofs.half_even.Tie as tie
 use Rattle.packing.proofs.half_even.Reads as reads
@@ -30,15 +30,15 @@ module _ (n sh : ℕ) (one : 1 ≤ sh) (fits : n < 2 ^ 64) where
   kept = mod-eq_of_lt (lt_of_le_of_lt (div-mul-le_self n (2 ^ (sh - 1))) fits)
 
   even : n / 2 ^ (sh - 1) % 2 ≡ 0 → n / 2 ^ (sh - 1) / 2 ≡ closest n (2 ^ sh)
-  even z = sym (closest-even n (2 ^ sh) (n / 2 ^ (sh - 1)) (2 ^ (sh - 1)) (n % 2 ^ (sh - 1)) half cut less z)
+  even z = sym (closest_even n (2 ^ sh) (n / 2 ^ (sh - 1)) (2 ^ (sh - 1)) (n % 2 ^ (sh - 1)) half cut less z)
 
   halfway : (n / 2 ^ (sh - 1) % 2 ≡ 0 → ⊥) → n / 2 ^ (sh - 1) * 2 ^ (sh - 1) % 2 ^ 64 ≡ n → n / 2 ^ (sh - 1) / 2 + n / 2 ^ (sh - 1) / 2 % 2 ≡ closest n (2 ^ sh)
   halfway z e =
-      sym (closest-tie n (2 ^ sh) (n / 2 ^ (sh - 1)) (2 ^ (sh - 1)) (n % 2 ^ (sh - 1)) half cut less (omega arith) (omega (arith, kept, cut)))
+      sym (closest_tie n (2 ^ sh) (n / 2 ^ (sh - 1)) (2 ^ (sh - 1)) (n % 2 ^ (sh - 1)) half cut less (omega arith) (omega (arith, kept, cut)))
 
   above : (n / 2 ^ (sh - 1) % 2 ≡ 0 → ⊥) → (n / 2 ^ (sh - 1) * 2 ^ (sh - 1) % 2 ^ 64 ≡ n → ⊥) → n / 2 ^ (sh - 1) / 2 + 1 ≡ closest n (2 ^ sh)
   above z e =
-      add-one (n / 2 ^ (sh - 1) / 2) ∙ sym (closest-up n (2 ^ sh) (n / 2 ^ (sh - 1)) (2 ^ (sh - 1)) (n % 2 ^ (sh - 1)) half cut less (omega arith) (omega (arith, kept, cut)))
+      add-one (n / 2 ^ (sh - 1) / 2) ∙ sym (closest_up n (2 ^ sh) (n / 2 ^ (sh - 1)) (2 ^ (sh - 1)) (n % 2 ^ (sh - 1)) half cut less (omega arith) (omega (arith, kept, cut)))
 
 sub-shorter : tie.Need-overflow-sub-shorter
 sub-shorter c = search rules

@@ -6,7 +6,7 @@ use mathlib.Core.Logic.{inl, inr}
 use lib.Count.{count_leading_zeros, leading_top}
 use lib.Dec.{lit≤}
 use lib.Pow.{pow-add, pow_mono, shl_lt}
-use Rattle.lists.proofs.Naturals.{le-or-lt}
+use Rattle.lists.proofs.Naturals.{le_or_lt}
 use Rattle.packing.specs.Parts.{Normalized}
 use Rattle.packing.proofs.normalizing_shift.Statement.{statement}
 use Rattle.packing.proofs.normalizing_shift.Tie as tie
@@ -14,7 +14,7 @@ use Rattle.packing.proofs.normalizing_shift.Reads as reads
 use Rattle.packing.proofs.normalizing_shift.Lts as lts
 
 below : (j m : ℕ) → 2 ^ j ≤ m → m < 2 ^ 48 → j < 48
-below j m a b = elim (le-or-lt 48 j) [ inl h ↦ absurd (lt_irrefl m (lt_of_lt_of_le b (le_trans (pow_mono h) a))) | inr h ↦ h ]
+below j m a b = elim (le_or_lt 48 j) [ inl h ↦ absurd (lt_irrefl m (lt_of_lt_of_le b (le_trans (pow_mono h) a))) | inr h ↦ h ]
 
 module _ (m : ℕ) (p : 0 < m) (h : m < 2 ^ 48) where
   highest : (j : ℕ) × (count_leading_zeros 64 m + suc j ≡ 64) × (2 ^ j ≤ m) × (m < 2 ^ suc j)

@@ -6,7 +6,7 @@ use native.Mathlib.Nat.{le_trans, le_of_eq, lt_of_lt_of_le, lt_of_le_of_lt, zero
 use native.Mathlib.Omega.{arith}
 use lib.Dec.{lit≤, lit<}
 use lib.Pow.{pow_mono, pow_pos, shr_lt, mod-mod-pow}
-use Rattle.lists.proofs.Naturals.{le-or-lt}
+use Rattle.lists.proofs.Naturals.{le_or_lt}
 use Rattle.packing.specs.Parts.{Sticky}
 use Rattle.packing.proofs.Aligned.{doubled}
 use Rattle.packing.proofs.shift_sticky.Statement.{statement}
@@ -59,7 +59,7 @@ module _ (b d : ℕ) (some : 0 < b) (in62 : b < 2 ^ 62) (spare : b % 2 ^ 14 ≡ 
       lost = omega (arith, kept, div-mul-le_self b (2 ^ d))
 
       small : b / 2 ^ d / 2 * 2 + 1 ≤ 2 ^ 48
-      small = elim (le-or-lt d 14) [
+      small = elim (le_or_lt d 14) [
         | inl l ↦ absurd (omega (arith, near l, lost))
         | inr l ↦ omega (arith, few l)
       ]

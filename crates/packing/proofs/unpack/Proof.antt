@@ -6,7 +6,7 @@ use native.Mathlib.Omega.{arith}
 use lib.Dec.{T}
 use lib.Pow.{pow_pos}
 use lib.Ieee.{Float, binary32, fits, to_bits}
-use Rattle.packing.proofs.Fields.{value_low, value-normal, field-ne, finite-no-nan}
+use Rattle.packing.proofs.Fields.{value_low, value_normal, field_ne, finite_no_nan}
 use Rattle.packing.proofs.unpack.Statement.{statement}
 use Rattle.packing.proofs.unpack.Tie as tie
 use Rattle.packing.proofs.unpack.Reads as reads
@@ -17,7 +17,7 @@ held : (c : tie.Start) → T (fits binary32 c.args.v)
 held c = subst T (sym c.well-formed.0.1) tt
 
 float-to-bits-b : tie.Need-float-to-bits-b
-float-to-bits-b c = finite-no-nan c.args.v c.requires
+float-to-bits-b c = finite_no_nan c.args.v c.requires
 
 cast-t9 : tie.Need-overflow-cast-t9
 cast-t9 c = search rules
@@ -42,9 +42,9 @@ returns-2 c =
     let b = to_bits binary32 a.args.v in
     let e = b % 2 ^ 31 / 2 ^ 23 in
     let up : e ≡ suc (e - 1) = omega (arith, c.if1.false) in
-    let ne : suc (e - 1) ≡ 255 → ⊥ = field-ne binary32 a.args.v (held a) a.requires (e - 1) up in
+    let ne : suc (e - 1) ≡ 255 → ⊥ = field_ne binary32 a.args.v (held a) a.requires (e - 1) up in
     record {
-      value = value-normal binary32 a.args.v (held a) a.requires (e - 1) up;
+      value = value_normal binary32 a.args.v (held a) a.requires (e - 1) up;
       digits = omega (arith, mod-lt b (pow_pos 23));
       place = omega (arith, mod-lt b (pow_pos 31), ne);
     }

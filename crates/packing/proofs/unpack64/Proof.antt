@@ -6,7 +6,7 @@ use native.Mathlib.Omega.{arith}
 use lib.Dec.{T}
 use lib.Pow.{pow_pos}
 use lib.Ieee.{Float, binary64, fits, to_bits}
-use Rattle.packing.proofs.Fields.{value_low, value-normal, field-ne, finite-no-nan}
+use Rattle.packing.proofs.Fields.{value_low, value_normal, field_ne, finite_no_nan}
 use Rattle.packing.proofs.unpack64.Statement.{statement}
 use Rattle.packing.proofs.unpack64.Tie as tie
 use Rattle.packing.proofs.unpack64.Reads as reads
@@ -17,7 +17,7 @@ held : (c : tie.Start) → T (fits binary64 c.args.v)
 held c = subst T (sym c.well-formed.0.1) tt
 
 float-to-bits-b : tie.Need-float-to-bits-b
-float-to-bits-b c = finite-no-nan c.args.v c.requires
+float-to-bits-b c = finite_no_nan c.args.v c.requires
 
 add-t9 : tie.Need-overflow-add-t9
 add-t9 c = search rules
@@ -39,9 +39,9 @@ returns-2 c =
     let b = to_bits binary64 a.args.v in
     let e = b % 2 ^ 63 / 2 ^ 52 in
     let up : e ≡ suc (e - 1) = omega (arith, c.if1.false) in
-    let ne : suc (e - 1) ≡ 2047 → ⊥ = field-ne binary64 a.args.v (held a) a.requires (e - 1) up in
+    let ne : suc (e - 1) ≡ 2047 → ⊥ = field_ne binary64 a.args.v (held a) a.requires (e - 1) up in
     record {
-      value = value-normal binary64 a.args.v (held a) a.requires (e - 1) up;
+      value = value_normal binary64 a.args.v (held a) a.requires (e - 1) up;
       digits = omega (arith, mod-lt b (pow_pos 52));
       place = omega (arith, mod-lt b (pow_pos 63), ne);
     }

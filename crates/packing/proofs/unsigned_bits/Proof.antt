@@ -7,7 +7,7 @@ use mathlib.Core.Bool.{Bool, true, false, not, cond}
 use lib.Count.{count_leading_zeros, leading_top, leading_le}
 use lib.Ieee.{Float, binary32, round, of_bits, top}
 use lib.Ieee.Nearest.{closest}
-use Rattle.packing.proofs.Cases.{normal-lt, kept-le, low-le, normal-case, large-case, low-case, tiny-case, zero-case}
+use Rattle.packing.proofs.Cases.{normal_lt, kept_le, low_le, normal_case, large_case, low_case, tiny_case, zero_case}
 use Rattle.packing.proofs.unsigned_bits.Statement.{statement}
 use Rattle.packing.proofs.unsigned_bits.Tie as tie
 use Rattle.packing.proofs.unsigned_bits.Reads as reads
@@ -23,13 +23,13 @@ Holds m x r = (s : Bool) → of_bits binary32 (cond s (top binary32) 0 + r) ≡ 
 
 module _ (m x : ℕ) (n : m ≡ 0 → ⊥) (h : m < 2 ^ 64) where
   shifted : m * 2 ^ count_leading_zeros 64 m % 2 ^ 64 ≡ m * 2 ^ count_leading_zeros 64 m
-  shifted = let t = topmost m n h in mod-eq_of_lt (normal-lt m (count_leading_zeros 64 m) t.0 t.3 t.1)
+  shifted = let t = topmost m n h in mod-eq_of_lt (normal_lt m (count_leading_zeros 64 m) t.0 t.3 t.1)
 
   large : 949 ≤ x + (64 - count_leading_zeros 64 m) → 254 ≤ x + (64 - count_leading_zeros 64 m) - 949 → Holds m x 2139095040
   large a b s =
       let t = topmost m n h in
       let k = x + (64 - count_leading_zeros 64 m) - 949 in
-      large-case m x (count_leading_zeros 64 m) t.0 t.2 t.3 t.1 s k (omega (arith, t.1)) b
+      large_case m x (count_leading_zeros 64 m) t.0 t.2 t.3 t.1 s k (omega (arith, t.1)) b
 
   normal : (r : ℕ) → 949 ≤ x + (64 - count_leading_zeros 64 m) → x + (64 - count_leading_zeros 64 m) - 949 < 254 → r ≡ closest (m * 2 ^ count_leading_zeros 64 m % 2 ^ 64) (2 ^ 40)
       → Holds m x ((x + (64 - count_leading_zeros 64 m) - 949) * 8388608 + r)
@@ -37,34 +37,34 @@ module _ (m x : ℕ) (n : m ≡ 0 → ⊥) (h : m < 2 ^ 64) where
       let t = topmost m n h in
       let k = x + (64 - count_leading_zeros 64 m) - 949 in
       ap (λ (y : ℕ). of_bits binary32 (cond s (top binary32) 0 + (k * 8388608 + y))) (e ∙ ap (λ (y : ℕ). closest y (2 ^ 40)) shifted)
-      ∙ normal-case m x (count_leading_zeros 64 m) t.0 t.2 t.3 t.1 s k (omega (arith, t.1)) b
+      ∙ normal_case m x (count_leading_zeros 64 m) t.0 t.2 t.3 t.1 s k (omega (arith, t.1)) b
 
   low : (r : ℕ) → x + (64 - count_leading_zeros 64 m) < 949 → r ≡ closest (m * 2 ^ count_leading_zeros 64 m % 2 ^ 64) (2 ^ (40 + (949 - (x + (64 - count_leading_zeros 64 m))))) → Holds m x r
   low r a e s =
       let t = topmost m n h in
       let d = 949 - (x + (64 - count_leading_zeros 64 m)) in
       ap (λ (y : ℕ). of_bits binary32 (cond s (top binary32) 0 + y)) (e ∙ ap (λ (y : ℕ). closest y (2 ^ (40 + d))) shifted)
-      ∙ low-case m x (count_leading_zeros 64 m) t.0 t.2 t.3 t.1 s d (omega (arith, t.1))
+      ∙ low_case m x (count_leading_zeros 64 m) t.0 t.2 t.3 t.1 s d (omega (arith, t.1))
 
   tiny : x + (64 - count_leading_zeros 64 m) < 949 → 24 < 949 - (x + (64 - count_leading_zeros 64 m)) → Holds m x 0
   tiny a b s =
       let t = topmost m n h in
-      tiny-case m x (count_leading_zeros 64 m) t.0 t.2 t.3 t.1 s (949 - (x + (64 - count_leading_zeros 64 m))) (omega (arith, t.1)) b
+      tiny_case m x (count_leading_zeros 64 m) t.0 t.2 t.3 t.1 s (949 - (x + (64 - count_leading_zeros 64 m))) (omega (arith, t.1)) b
 
-  normal-le : (r : ℕ) → r ≡ closest (m * 2 ^ count_leading_zeros 64 m % 2 ^ 64) (2 ^ 40) → r ≤ 2 ^ 24
-  normal-le r e =
+  normal_le : (r : ℕ) → r ≡ closest (m * 2 ^ count_leading_zeros 64 m % 2 ^ 64) (2 ^ 40) → r ≤ 2 ^ 24
+  normal_le r e =
       let t = topmost m n h in
-      subst (λ (y : ℕ). y ≤ 2 ^ 24) (sym (e ∙ ap (λ (y : ℕ). closest y (2 ^ 40)) shifted)) (kept-le (m * 2 ^ count_leading_zeros 64 m) (normal-lt m (count_leading_zeros 64 m) t.0 t.3 t.1))
+      subst (λ (y : ℕ). y ≤ 2 ^ 24) (sym (e ∙ ap (λ (y : ℕ). closest y (2 ^ 40)) shifted)) (kept_le (m * 2 ^ count_leading_zeros 64 m) (normal_lt m (count_leading_zeros 64 m) t.0 t.3 t.1))
 
   low_small : (r d : ℕ) → r ≡ closest (m * 2 ^ count_leading_zeros 64 m % 2 ^ 64) (2 ^ (40 + d)) → r ≤ 2 ^ 24
   low_small r d e =
       let t = topmost m n h in
-      subst (λ (y : ℕ). y ≤ 2 ^ 24) (sym (e ∙ ap (λ (y : ℕ). closest y (2 ^ (40 + d))) shifted)) (low-le (m * 2 ^ count_leading_zeros 64 m) (40 + d) (normal-lt m (count_leading_zeros 64 m) t.0 t.3 t.1) (omega arith))
+      subst (λ (y : ℕ). y ≤ 2 ^ 24) (sym (e ∙ ap (λ (y : ℕ). closest y (2 ^ (40 + d))) shifted)) (low_le (m * 2 ^ count_leading_zeros 64 m) (40 + d) (normal_lt m (count_leading_zeros 64 m) t.0 t.3 t.1) (omega arith))
 
 returns : tie.Need-returns
 returns c =
     let a = c.before in
-    (search rules, λ s. subst (λ (y : ℕ). of_bits binary32 (cond s (top binary32) 0 + 0) ≡ round binary32 s (y * 2 ^ a.args.x) (2 ^ 1074)) (sym c.if1.true) (zero-case a.args.x s))
+    (search rules, λ s. subst (λ (y : ℕ). of_bits binary32 (cond s (top binary32) 0 + 0) ≡ round binary32 s (y * 2 ^ a.args.x) (2 ^ 1074)) (sym c.if1.true) (zero_case a.args.x s))
 
 cast-n : tie.Need-overflow-cast-n
 cast-n c = omega (arith, leading_le 64 c.before.args.m)
@@ -85,13 +85,13 @@ half-even-requires : tie.Need-half-even-requires
 half-even-requires c κs = search rules
 
 cast-q : tie.Need-overflow-cast-q
-cast-q c = let a = c.before.before.before.before in omega (arith, normal-le a.args.m a.args.x c.before.before.before.if1.false a.ranges.m.fits c.half-even.result c.half-even.ensures)
+cast-q c = let a = c.before.before.before.before in omega (arith, normal_le a.args.m a.args.x c.before.before.before.if1.false a.ranges.m.fits c.half-even.result c.half-even.ensures)
 
 mul-result : tie.Need-overflow-mul-result
 mul-result c = search rules
 
 add-result : tie.Need-overflow-add-result
-add-result c = let a = c.before.before.before.before in omega (arith, normal-le a.args.m a.args.x c.before.before.before.if1.false a.ranges.m.fits c.half-even.result c.half-even.ensures)
+add-result c = let a = c.before.before.before.before in omega (arith, normal_le a.args.m a.args.x c.before.before.before.if1.false a.ranges.m.fits c.half-even.result c.half-even.ensures)
 
 sub-d : tie.Need-overflow-sub-d
 sub-d c = search rules
@@ -111,7 +111,7 @@ cast-result c = let a = c.before.before.before.before in omega (arith, low_small
 returns-4 : tie.Need-returns-4
 returns-4 c =
     let a = c.before.before.before.before in (
-      omega (arith, normal-le a.args.m a.args.x c.before.before.before.if1.false a.ranges.m.fits c.half-even.result c.half-even.ensures),
+      omega (arith, normal_le a.args.m a.args.x c.before.before.before.if1.false a.ranges.m.fits c.half-even.result c.half-even.ensures),
       normal a.args.m a.args.x c.before.before.before.if1.false a.ranges.m.fits c.half-even.result c.before.before.if2.true c.before.if3.false c.half-even.ensures,
     )
 

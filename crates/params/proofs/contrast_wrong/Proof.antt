@@ -1,4 +1,4 @@
-use Rattle.params.specs.Table.{contrastWrong}
+use Rattle.params.specs.Table.{contrast_wrong}
 use borrow.Author.Rules.{rules}
 use Rattle.params.proofs.contrast_wrong.Statement.{statement}
 use Rattle.params.proofs.contrast_wrong.Tie as tie
@@ -7,7 +7,7 @@ is-within-requires : tie.Need-is-within-requires
 is-within-requires c κs = search rules
 
 returns : tie.Need-returns
-unfolding contrastWrong
+unfolding contrast_wrong
 returns c = rw c.is_Within.ensures
 
 pub contrast-wrong-spec : {M : Type 1} → statement M

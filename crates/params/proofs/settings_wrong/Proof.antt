@@ -1,4 +1,4 @@
-use Rattle.params.specs.Table.{settingsWrong}
+use Rattle.params.specs.Table.{settings_wrong}
 use borrow.Author.Rules.{rules}
 use Rattle.params.proofs.settings_wrong.Statement.{statement}
 use Rattle.params.proofs.settings_wrong.Tie as tie
@@ -13,7 +13,7 @@ is-within-requires-2 : tie.Need-is-within-requires-2
 is-within-requires-2 c κs = search rules
 
 returns : tie.Need-returns
-unfolding settingsWrong
+unfolding settings_wrong
 returns c = rw (c.is-within2.ensures, c.before.is_Within.ensures, c.before.before.contrast-wrong.ensures)
 
 pub settings-wrong-spec : {M : Type 1} → statement M

@@ -1,12 +1,12 @@
 use mathlib.Core.Path.{refl}
-use Rattle.params.specs.Table.{shapeWrong}
+use Rattle.params.specs.Table.{shape_wrong}
 use Rattle.params.proofs.shape_wrong.Statement.{statement}
 use Rattle.params.proofs.shape_wrong.Tie as tie
 use Rattle.params.proofs.shape_wrong.Reads as reads
 use Rattle.params.proofs.shape_wrong.Lts as lts
 
 returns : tie.Need-returns
-unfolding shapeWrong
+unfolding shape_wrong
 returns c = refl
 
 pub shape-wrong-spec : {M : Type 1} → statement M

@@ -1,5 +1,5 @@
 use borrow.Author.Rules.{rules}
-use Rattle.picture.proofs.Slopes.{slope-of}
+use Rattle.picture.proofs.Slopes.{slope_of}
 use Rattle.picture.proofs.slope_at.Statement.{statement}
 use Rattle.picture.proofs.slope_at.Tie as tie
 use Rattle.picture.proofs.slope_at.Reads as reads
@@ -33,7 +33,7 @@ pixel-at-requires-4 c κs = search rules
 returns : tie.Need-returns
 returns c =
     let a = c.before.before.before.before.before.args in
-    slope-of a.img.now a.s.width a.r a.c c.before.before.before.pixel-at.ensures c.before.before.pixel-at2.ensures c.before.pixel-at3.ensures c.pixel-at4.ensures
+    slope_of a.img.now a.s.width a.r a.c c.before.before.before.pixel-at.ensures c.before.before.pixel-at2.ensures c.before.pixel-at3.ensures c.pixel-at4.ensures
 
 pub slope-at-spec : {M : Type 1} → statement M
 slope-at-spec =

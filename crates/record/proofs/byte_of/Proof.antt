@@ -1,6 +1,6 @@
 use Rattle.std.proofs.Common.{◌≤◌, true, false, le_trans, arith, lit≤, rules}
 use Rattle.ieee_laws.proofs.Wholes.{held}
-use Rattle.record.proofs.Bytes.{cut, inside_is, outside-is}
+use Rattle.record.proofs.Bytes.{cut, inside_is, outside_is}
 use Rattle.record.proofs.byte_of.Statement.{statement}
 use Rattle.record.proofs.byte_of.Tie as tie
 
@@ -31,7 +31,7 @@ returns-2 c =
     inside_is c.before.before.before.before.before.args.bits _ _ false c.before.before.before.before.of-bits.ensures t (rw t (cut _ c.before.before.before.if1.true).size) c.if2.false
 
 returns-3 : tie.Need-returns-3
-returns-3 c = outside-is c.before.before.args.bits _ c.before.of-bits.ensures c.if1.false
+returns-3 c = outside_is c.before.before.args.bits _ c.before.of-bits.ensures c.if1.false
 
 pub byte-of-spec : {M : Type 1} → statement M
 byte-of-spec =

@@ -1,5 +1,5 @@
 use Rattle.std.proofs.Common.{arith, length-set, rules}
-use Rattle.record.proofs.Puts.{front-is}
+use Rattle.record.proofs.Puts.{front_is}
 use Rattle.record.proofs.put_front.Statement.{statement}
 use Rattle.record.proofs.put_front.Tie as tie
 
@@ -54,7 +54,7 @@ same_length c = simp length-set
 returns : tie.Need-returns
 returns c =
     let a = c.before.before.before.before.before.before.before.before.before.args in
-    front-is a.k a.o a.out.now _ _ _ _ _ c.before.before.before.before.before.before.before.before.before.requires c.before.before.before.before.bits-of.ensures c.before.before.before.bits-of2.ensures c.before.before.bits-of3.ensures c.before.bits-of4.ensures c.bits-of5.ensures
+    front_is a.k a.o a.out.now _ _ _ _ _ c.before.before.before.before.before.before.before.before.before.requires c.before.before.before.before.bits-of.ensures c.before.before.before.bits-of2.ensures c.before.before.bits-of3.ensures c.before.bits-of4.ensures c.bits-of5.ensures
 
 pub put-front-spec : {M : Type 1} → statement M
 put-front-spec =

@@ -1,4 +1,4 @@
-use Rattle.record.proofs.Puts.{blank-is, record_is, record-long}
+use Rattle.record.proofs.Puts.{blank_is, record_is, record_long}
 use Rattle.std.proofs.Common.{rules}
 use Rattle.record.proofs.put_record.Statement.{statement}
 use Rattle.record.proofs.put_record.Tie as tie
@@ -18,12 +18,12 @@ slice-write-out c = search rules
 same_length : tie.Need-same-length
 same_length c =
     let s = c.before.before.before.before.before.before.before.before.before.before in
-    record-long s.args.k s.args.o s.args.values.now s.args.out.now _ _ s.args.samples s.requires.0 s.requires.1 c.before.before.before.before.before.before.put_front.ensures c.before.before.put-values.ensures _
+    record_long s.args.k s.args.o s.args.values.now s.args.out.now _ _ s.args.samples s.requires.0 s.requires.1 c.before.before.before.before.before.before.put_front.ensures c.before.before.put-values.ensures _
 
 returns : tie.Need-returns
 returns c =
     let s = c.before.before.before.before.before.before.before.before.before.before in
-    rw blank-is (record_is s.args.k s.args.o s.args.values.now s.args.out.now _ _ s.args.samples s.requires.0 s.requires.1 c.before.before.before.before.before.before.put_front.ensures c.before.before.put-values.ensures)
+    rw blank_is (record_is s.args.k s.args.o s.args.values.now s.args.out.now _ _ s.args.samples s.requires.0 s.requires.1 c.before.before.before.before.before.before.put_front.ensures c.before.before.put-values.ensures)
 
 pub put-record-spec : {M : Type 1} → statement M
 put-record-spec =

@@ -1,5 +1,5 @@
 use Rattle.std.proofs.Common.{arith, rules}
-use Rattle.record.proofs.Wrong.{wrong-keypoints, wrong-values, asked, rules-decide}
+use Rattle.record.proofs.Wrong.{wrong_keypoints, wrong_values, asked, rules_decide}
 use Rattle.record.proofs.record_wrong.Statement.{statement}
 use Rattle.record.proofs.record_wrong.Tie as tie
 
@@ -9,12 +9,12 @@ is-alike-requires c κs = search rules
 returns : tie.Need-returns
 returns c =
     let a = c.before.before.before.before.args in
-    wrong-keypoints a.k a.o a.values.now a.samples _ c.before.is-alike.ensures c.if1.true
+    wrong_keypoints a.k a.o a.values.now a.samples _ c.before.is-alike.ensures c.if1.true
 
 returns-2 : tie.Need-returns-2
 returns-2 c =
     let a = c.before.before.before.before.before.args in
-    wrong-values a.k a.o a.values.now a.samples c.if2.true
+    wrong_values a.k a.o a.values.now a.samples c.if2.true
 
 slice-aggregate-put-record : tie.Need-slice-aggregate-put-record
 slice-aggregate-put-record c = search rules
@@ -37,7 +37,7 @@ record-right-requires c κs =
 returns-3 : tie.Need-returns-3
 returns-3 c =
     let a = c.before.before.before.before.before.before.before.before.before.before.before.args in
-    rules-decide a.k a.o a.values.now a.samples _ c.before.before.before.before.before.before.before.before.is-alike.ensures c.before.before.before.before.before.before.before.if1.false c.before.before.before.before.before.before.if2.false _ _ _ c.before.before.edition-of.ensures.0 c.before.before.before.before.put_record.ensures c.record-right.ensures
+    rules_decide a.k a.o a.values.now a.samples _ c.before.before.before.before.before.before.before.before.is-alike.ensures c.before.before.before.before.before.before.before.if1.false c.before.before.before.before.before.before.if2.false _ _ _ c.before.before.edition-of.ensures.0 c.before.before.before.before.put_record.ensures c.record-right.ensures
 
 pub record-wrong-spec : {M : Type 1} → statement M
 record-wrong-spec =

@@ -1,14 +1,14 @@
 use Prim.Native.Nat.{◌≤◌, ◌-◌}
 use borrow.Author.Rules.{rules}
-use Rattle.params.specs.Limits.{valueCount}
+use Rattle.params.specs.Limits.{value_count}
 use Rattle.run_examples.proofs.not_zero.Statement.{statement}
 use Rattle.run_examples.proofs.not_zero.Tie as tie
 
 abbrev invariant-loop : tie.invariant-loop
-invariant-loop values n₀ i₀ n i = (i ≤ valueCount) × (n ≤ i)
+invariant-loop values n₀ i₀ n i = (i ≤ value_count) × (n ≤ i)
 
 abbrev decreases-loop : tie.decreases-loop
-decreases-loop values n₀ i₀ n i = valueCount - i
+decreases-loop values n₀ i₀ n i = value_count - i
 
 loop-holds : tie.Need-loop-init invariant-loop decreases-loop
 loop-holds c = search rules

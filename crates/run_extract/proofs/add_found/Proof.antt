@@ -1,11 +1,11 @@
 use Prim.Native.Nat.{◌-◌, ◌≤◌}
 use borrow.Author.Rules.{rules}
-use Rattle.run_extract.specs.Sizes.{mostRecords}
+use Rattle.run_extract.specs.Sizes.{most_records}
 use Rattle.run_extract.proofs.add_found.Statement.{statement}
 use Rattle.run_extract.proofs.add_found.Tie as tie
 
 abbrev invariant-loop : tie.invariant-loop
-invariant-loop pictures found count records₀ written all n₀ i₀ records n i = (i ≤ count) × (n ≤ mostRecords)
+invariant-loop pictures found count records₀ written all n₀ i₀ records n i = (i ≤ count) × (n ≤ most_records)
 
 abbrev decreases-loop : tie.decreases-loop
 decreases-loop pictures found count records₀ written all n₀ i₀ records n i = count - i

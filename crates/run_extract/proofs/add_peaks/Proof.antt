@@ -1,14 +1,14 @@
 use Prim.Native.Nat.{◌-◌, ◌≤◌}
 use borrow.Author.Rules.{rules}
-use Rattle.run_extract.specs.Sizes.{mostPeaks, mostRecords}
+use Rattle.run_extract.specs.Sizes.{most_peaks, most_records}
 use Rattle.run_extract.proofs.add_peaks.Statement.{statement}
 use Rattle.run_extract.proofs.add_peaks.Tie as tie
 
 abbrev invariant-loop : tie.invariant-loop
-invariant-loop picture k out peaks records₀ written all n₀ j₀ records n j = (j ≤ mostPeaks) × (n ≤ mostRecords)
+invariant-loop picture k out peaks records₀ written all n₀ j₀ records n j = (j ≤ most_peaks) × (n ≤ most_records)
 
 abbrev decreases-loop : tie.decreases-loop
-decreases-loop picture k out peaks records₀ written all n₀ j₀ records n j = mostPeaks - j
+decreases-loop picture k out peaks records₀ written all n₀ j₀ records n j = most_peaks - j
 
 loop-holds : tie.Need-loop-init invariant-loop decreases-loop
 loop-holds c = search rules

@@ -1,14 +1,14 @@
 use Prim.Native.Nat.{◌-◌, ◌≤◌}
 use borrow.Author.Rules.{rules}
-use Rattle.params.specs.Limits.{valueCount}
+use Rattle.params.specs.Limits.{value_count}
 use Rattle.run_extract.proofs.largest.Statement.{statement}
 use Rattle.run_extract.proofs.largest.Tie as tie
 
 abbrev invariant-loop : tie.invariant-loop
-invariant-loop row most₀ i₀ most i = i ≤ valueCount
+invariant-loop row most₀ i₀ most i = i ≤ value_count
 
 abbrev decreases-loop : tie.decreases-loop
-decreases-loop row most₀ i₀ most i = valueCount - i
+decreases-loop row most₀ i₀ most i = value_count - i
 
 loop-holds : tie.Need-loop-init invariant-loop decreases-loop
 loop-holds c = search rules

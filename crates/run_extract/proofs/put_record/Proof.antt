@@ -1,14 +1,14 @@
 use borrow.Author.Rules.{rules}
 use Prim.Native.Nat.{◌-◌, ◌≤◌}
-use Rattle.sheet.specs.Words.{readWords}
+use Rattle.sheet.specs.Words.{read_words}
 use Rattle.run_extract.proofs.put_record.Statement.{statement}
 use Rattle.run_extract.proofs.put_record.Tie as tie
 
 abbrev invariant-loop : tie.invariant-loop
-invariant-loop records₀ at made i₀ records i = i ≤ readWords
+invariant-loop records₀ at made i₀ records i = i ≤ read_words
 
 abbrev decreases-loop : tie.decreases-loop
-decreases-loop records₀ at made i₀ records i = readWords - i
+decreases-loop records₀ at made i₀ records i = read_words - i
 
 loop-holds : tie.Need-loop-init invariant-loop decreases-loop
 loop-holds c = search rules

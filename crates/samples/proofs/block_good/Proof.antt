@@ -4,8 +4,8 @@ use mathlib.Core.Bool.{◌&&◌}
 use native.Mathlib.Omega.{arith}
 use lib.ListN.{length}
 use borrow.Author.Rules.{rules}
-use Rattle.samples.specs.Samples.{goodFrom}
-use Rattle.samples.proofs.Runs.{good_more, good-over}
+use Rattle.samples.specs.Samples.{good_from}
+use Rattle.samples.proofs.Runs.{good_more, good_over}
 use Rattle.samples.proofs.block_good.Statement.{statement}
 use Rattle.samples.proofs.block_good.Tie as tie
 use Rattle.samples.proofs.block_good.Reads as reads
@@ -13,7 +13,7 @@ use Rattle.samples.proofs.block_good.Lts as lts
 use Rattle.samples.proofs.good_sample.Reads as good-sample-reads
 
 abbrev invariant-loop : tie.invariant-loop
-invariant-loop d from to ok₀ i₀ ok i = (i ≤ to) × ((ok && goodFrom i to d) ≡ goodFrom from to d)
+invariant-loop d from to ok₀ i₀ ok i = (i ≤ to) × ((ok && good_from i to d) ≡ good_from from to d)
 
 abbrev decreases-loop : tie.decreases-loop
 decreases-loop d from to ok₀ i₀ ok i = to - i
@@ -44,7 +44,7 @@ returns : tie.Need-returns invariant-loop decreases-loop
 returns c =
     let a = c.before.before.before.args in
     let e : c.before.loop.i ≡ a.to = omega arith in
-    good-over a.d.now a.to _ _ (rw e at c.before.loop.invariant.1)
+    good_over a.d.now a.to _ _ (rw e at c.before.loop.invariant.1)
 
 pub block-good-spec : {M : Type 1} → statement M
 block-good-spec =

@@ -1,5 +1,5 @@
-use Rattle.picture.specs.Picture.{fourAt}
-use Rattle.samples.proofs.Runs.{four-good}
+use Rattle.picture.specs.Picture.{four_at}
+use Rattle.samples.proofs.Runs.{four_good}
 use borrow.Author.Rules.{rules}
 use Rattle.samples.proofs.four_good.Statement.{statement}
 use Rattle.samples.proofs.four_good.Tie as tie
@@ -45,9 +45,9 @@ good-sample-requires-4 : tie.Need-good-sample-requires-4
 good-sample-requires-4 c κs = search rules
 
 returns : tie.Need-returns
-unfolding fourAt
+unfolding four_at
 returns c = rw (c.good-sample4.ensures, c.before.pixel-at4.ensures, c.before.before.good-sample3.ensures, c.before.before.before.pixel-at3.ensures, c.before.before.before.before.good-sample2.ensures, c.before.before.before.before.before.pixel-at2.ensures, c.before.before.before.before.before.before.good-sample.ensures, c.before.before.before.before.before.before.before.pixel-at.ensures)
-    (four-good _ _ _ _)
+    (four_good _ _ _ _)
 
 pub four-good-spec : {M : Type 1} → statement M
 four-good-spec =

@@ -1,7 +1,7 @@
 use mathlib.Core.Bool.{and-true}
 use borrow.Author.Rules.{rules}
 use Rattle.sheet.specs.Pack.{sound}
-use Rattle.sheet.proofs.Lawful.{angled-edition}
+use Rattle.sheet.proofs.Lawful.{angled_edition}
 use Rattle.sheet_fields.proofs.floats_right.Statement.{statement}
 use Rattle.sheet_fields.proofs.floats_right.Tie as tie
 
@@ -24,7 +24,7 @@ returns : tie.Need-returns
 unfolding sound
 returns c =
     rw (
-      angled-edition c.before.before.before.before.before.args.e.number,
+      angled_edition c.before.before.before.before.before.args.e.number,
       c.between5.ensures,
       c.before.between4.ensures,
       c.before.before.between3.ensures,

@@ -4,7 +4,7 @@ use native.Mathlib.Omega.{arith}
 use borrow.Author.Rules.{rules}
 use lib.ListN.{get_or, take, drop}
 use Rattle.sheet.specs.Pack.{bytes, value}
-use Rattle.sheet.proofs.Cut.{get_value, get-lt, get-fits}
+use Rattle.sheet.proofs.Cut.{get_value, get_lt, get_fits}
 use Rattle.sheet_fields.proofs.get.Statement.{statement}
 use Rattle.sheet_fields.proofs.get.Tie as tie
 
@@ -21,7 +21,7 @@ loop-holds c = search rules
 mul-acc : tie.Need-overflow-mul-acc invariant-loop decreases-loop
 mul-acc c =
     let l = c.before.loop in
-    omega (arith, get-fits l.acc l.i l.invariant.2 (omega arith))
+    omega (arith, get_fits l.acc l.i l.invariant.2 (omega arith))
 
 add-wide-byte : tie.Need-overflow-add-wide-byte invariant-loop decreases-loop
 add-wide-byte c = search rules
@@ -37,7 +37,7 @@ add-acc c =
     let l = c.before.before.before.loop in
     let s = c.before.before.before.before.before in
     let b : c.wide-byte.result < 256 = omega (arith, c.before.shared-slice-known2.given (s.args.at + l.i)) in
-    omega (arith, get-fits l.acc l.i l.invariant.2 (omega arith))
+    omega (arith, get_fits l.acc l.i l.invariant.2 (omega arith))
 
 add-i : tie.Need-overflow-add-i invariant-loop decreases-loop
 add-i c = search rules
@@ -52,7 +52,7 @@ loop-again c =
     let b : c.wide-byte.result < 256 = omega (arith, c.before.shared-slice-known2.given (s.args.at + l.i)) in
     let e = get_value s.args.bytes.now s.args.at l.i (omega arith) in
     let q : l.acc * 256 + c.wide-byte.result ≡ value (take l.i (drop s.args.at s.args.bytes.now)) * 256 + get_or s.args.bytes.now (s.args.at + l.i) 0 = cc in
-    (omega arith, q ∙ e, get-lt l.acc c.wide-byte.result l.i l.invariant.2 b)
+    (omega arith, q ∙ e, get_lt l.acc c.wide-byte.result l.i l.invariant.2 b)
 
 returns : tie.Need-returns invariant-loop decreases-loop
 returns c =

@@ -1,9 +1,9 @@
 use mathlib.Core.Bool.{and-true}
 use borrow.Author.Rules.{rules}
 use Rattle.sheet.specs.Pack.{sound}
-use Rattle.sheet_edition.specs.Edition.{layoutFor}
-use Rattle.sheet_edition.proofs.Layouts.{marks-are, marks-pos}
-use Rattle.sheet_fields.proofs.Joined.{mark-top}
+use Rattle.sheet_edition.specs.Edition.{layout_for}
+use Rattle.sheet_edition.proofs.Layouts.{marks_are, marks_pos}
+use Rattle.sheet_fields.proofs.Joined.{mark_top}
 use Rattle.sheet_fields.proofs.head_right.Statement.{statement}
 use Rattle.sheet_fields.proofs.head_right.Tie as tie
 
@@ -29,7 +29,7 @@ between-requires-5 : tie.Need-between-requires-5
 between-requires-5 c κs = search rules
 
 sub-between-3 : tie.Need-overflow-sub-between-3
-sub-between-3 c = let s = c.before.before.before.before.before.before in marks-pos s.args.e s.requires.0
+sub-between-3 c = let s = c.before.before.before.before.before.before in marks_pos s.args.e s.requires.0
 
 between-requires-6 : tie.Need-between-requires-6
 between-requires-6 c κs = search rules
@@ -50,8 +50,8 @@ returns c =
       c.before.before.before.before.before.between3.ensures,
       c.before.before.before.before.before.before.between2.ensures,
       c.before.before.before.before.before.before.before.between.ensures,
-      marks-are e s.requires.0,
-      mark-top (layoutFor e),
+      marks_are e s.requires.0,
+      mark_top (layout_for e),
       and-true,
     )
 

@@ -1,6 +1,6 @@
 use borrow.Author.Rules.{rules}
 use Rattle.sheet.specs.Pack.{unpack}
-use Rattle.sheet.specs.Sheet.{headerIn}
+use Rattle.sheet.specs.Sheet.{header_in}
 use Rattle.sheet_fields.proofs.header_in.Statement.{statement}
 use Rattle.sheet_fields.proofs.header_in.Tie as tie
 
@@ -11,7 +11,7 @@ cut-header-requires : tie.Need-cut-header-requires
 cut-header-requires c κs = search rules
 
 returns : tie.Need-returns
-unfolding headerIn unpack
+unfolding header_in unpack
 returns c = (rw c.before.get.ensures at c.cut-header.ensures.0, c.cut-header.ensures.1)
 
 pub header-in-spec : {M : Type 1} → statement M

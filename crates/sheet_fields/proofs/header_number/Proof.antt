@@ -2,47 +2,47 @@ use Prim.Native.Nat.{ℕ, ◌*◌, ◌^◌, ◌<◌}
 use mathlib.Core.Path.{refl, subst}
 use native.Mathlib.Omega.{arith}
 use Rattle.sheet.specs.Pack.{number}
-use Rattle.sheet.specs.Layout.{headerSlots}
+use Rattle.sheet.specs.Layout.{header_slots}
 use Rattle.sheet.proofs.Packed.{number_lt}
-use Rattle.sheet.proofs.Lawful.{lawful-edition, header-bits}
-use Rattle.sheet_edition.specs.Edition.{layoutFor, Known}
+use Rattle.sheet.proofs.Lawful.{lawful_edition, header_bits}
+use Rattle.sheet_edition.specs.Edition.{layout_for, Known}
 use Rattle.sheet_edition.specs.declared.Edition.{Edition}
-use Rattle.sheet_edition.proofs.Layouts.{sides-are, marks-are, spare_low}
+use Rattle.sheet_edition.proofs.Layouts.{sides_are, marks_are, spare_low}
 use Rattle.sheet_fields.specs.declared.Header.{Header}
-use Rattle.sheet_fields.specs.Fields.{headerList, HeaderFits}
-use Rattle.sheet_fields.proofs.Joined.{first-stands, next-stands, step_fits, all-joined, spare-header}
+use Rattle.sheet_fields.specs.Fields.{header_list, HeaderFits}
+use Rattle.sheet_fields.proofs.Joined.{first_stands, next_stands, step_fits, all_joined, spare_header}
 use Rattle.sheet_fields.proofs.header_number.Statement.{statement}
 use Rattle.sheet_fields.proofs.header_number.Tie as tie
 
 -- all bits are 64, and so no step is more than a u64 holds
-small : (e : Edition) → Known e → (h : Header) → HeaderFits (layoutFor e) h → number (headerSlots (layoutFor e)) (headerList h) < 2 ^ 64
-small e k h f = subst (λ (n : ℕ). number (headerSlots (layoutFor e)) (headerList h) < 2 ^ n) (header-bits (layoutFor e) (lawful-edition e.number)) (number_lt f)
+small : (e : Edition) → Known e → (h : Header) → HeaderFits (layout_for e) h → number (header_slots (layout_for e)) (header_list h) < 2 ^ 64
+small e k h f = subst (λ (n : ℕ). number (header_slots (layout_for e)) (header_list h) < 2 ^ n) (header_bits (layout_for e) (lawful_edition e.number)) (number_lt f)
 
 behind-requires : tie.Need-behind-requires
 behind-requires c κs =
     let s = c in
     let k = s.requires.0 in
     let e = s.args.e in
-    let t1 = first-stands _ s.requires.1 in
-    step_fits t1 e.sides (sides-are e k) (2 ^ 64) (small e k s.args.h s.requires.1)
+    let t1 = first_stands _ s.requires.1 in
+    step_fits t1 e.sides (sides_are e k) (2 ^ 64) (small e k s.args.h s.requires.1)
 
 behind-requires-2 : tie.Need-behind-requires-2
 behind-requires-2 c κs =
     let s = c.before in
     let k = s.requires.0 in
     let e = s.args.e in
-    let t1 = first-stands _ s.requires.1 in
-    let t2 = next-stands t1 e.sides (sides-are e k) c.behind.result c.behind.ensures in
-    step_fits t2 e.sides (sides-are e k) (2 ^ 64) (small e k s.args.h s.requires.1)
+    let t1 = first_stands _ s.requires.1 in
+    let t2 = next_stands t1 e.sides (sides_are e k) c.behind.result c.behind.ensures in
+    step_fits t2 e.sides (sides_are e k) (2 ^ 64) (small e k s.args.h s.requires.1)
 
 behind-requires-3 : tie.Need-behind-requires-3
 behind-requires-3 c κs =
     let s = c.before.before in
     let k = s.requires.0 in
     let e = s.args.e in
-    let t1 = first-stands _ s.requires.1 in
-    let t2 = next-stands t1 e.sides (sides-are e k) c.before.behind.result c.before.behind.ensures in
-    let t3 = next-stands t2 e.sides (sides-are e k) c.behind2.result c.behind2.ensures in
+    let t1 = first_stands _ s.requires.1 in
+    let t2 = next_stands t1 e.sides (sides_are e k) c.before.behind.result c.before.behind.ensures in
+    let t3 = next_stands t2 e.sides (sides_are e k) c.behind2.result c.behind2.ensures in
     step_fits t3 16 refl (2 ^ 64) (small e k s.args.h s.requires.1)
 
 behind-requires-4 : tie.Need-behind-requires-4
@@ -50,10 +50,10 @@ behind-requires-4 c κs =
     let s = c.before.before.before in
     let k = s.requires.0 in
     let e = s.args.e in
-    let t1 = first-stands _ s.requires.1 in
-    let t2 = next-stands t1 e.sides (sides-are e k) c.before.before.behind.result c.before.before.behind.ensures in
-    let t3 = next-stands t2 e.sides (sides-are e k) c.before.behind2.result c.before.behind2.ensures in
-    let t4 = next-stands t3 16 refl c.behind3.result c.behind3.ensures in
+    let t1 = first_stands _ s.requires.1 in
+    let t2 = next_stands t1 e.sides (sides_are e k) c.before.before.behind.result c.before.before.behind.ensures in
+    let t3 = next_stands t2 e.sides (sides_are e k) c.before.behind2.result c.before.behind2.ensures in
+    let t4 = next_stands t3 16 refl c.behind3.result c.behind3.ensures in
     step_fits t4 1048576 refl (2 ^ 64) (small e k s.args.h s.requires.1)
 
 behind-requires-5 : tie.Need-behind-requires-5
@@ -61,12 +61,12 @@ behind-requires-5 c κs =
     let s = c.before.before.before.before in
     let k = s.requires.0 in
     let e = s.args.e in
-    let t1 = first-stands _ s.requires.1 in
-    let t2 = next-stands t1 e.sides (sides-are e k) c.before.before.before.behind.result c.before.before.before.behind.ensures in
-    let t3 = next-stands t2 e.sides (sides-are e k) c.before.before.behind2.result c.before.before.behind2.ensures in
-    let t4 = next-stands t3 16 refl c.before.behind3.result c.before.behind3.ensures in
-    let t5 = next-stands t4 1048576 refl c.behind4.result c.behind4.ensures in
-    step_fits t5 e.marks (marks-are e k) (2 ^ 64) (small e k s.args.h s.requires.1)
+    let t1 = first_stands _ s.requires.1 in
+    let t2 = next_stands t1 e.sides (sides_are e k) c.before.before.before.behind.result c.before.before.before.behind.ensures in
+    let t3 = next_stands t2 e.sides (sides_are e k) c.before.before.behind2.result c.before.before.behind2.ensures in
+    let t4 = next_stands t3 16 refl c.before.behind3.result c.before.behind3.ensures in
+    let t5 = next_stands t4 1048576 refl c.behind4.result c.behind4.ensures in
+    step_fits t5 e.marks (marks_are e k) (2 ^ 64) (small e k s.args.h s.requires.1)
 
 mul-behind : tie.Need-overflow-mul-behind
 mul-behind c = let l = spare_low c.before.before.before.before.before.before.args.e c.before.before.before.before.before.before.requires.0 in omega arith
@@ -76,27 +76,27 @@ behind-requires-6 c κs =
     let s = c.before.before.before.before.before.before in
     let k = s.requires.0 in
     let e = s.args.e in
-    let t1 = first-stands _ s.requires.1 in
-    let t2 = next-stands t1 e.sides (sides-are e k) c.before.before.before.before.before.behind.result c.before.before.before.before.before.behind.ensures in
-    let t3 = next-stands t2 e.sides (sides-are e k) c.before.before.before.before.behind2.result c.before.before.before.before.behind2.ensures in
-    let t4 = next-stands t3 16 refl c.before.before.before.behind3.result c.before.before.before.behind3.ensures in
-    let t5 = next-stands t4 1048576 refl c.before.before.behind4.result c.before.before.behind4.ensures in
-    let t6 = next-stands t5 e.marks (marks-are e k) c.before.behind5.result c.before.behind5.ensures in
-    step_fits t6 (e.spare * 16) (spare-header e k) (2 ^ 64) (small e k s.args.h s.requires.1)
+    let t1 = first_stands _ s.requires.1 in
+    let t2 = next_stands t1 e.sides (sides_are e k) c.before.before.before.before.before.behind.result c.before.before.before.before.before.behind.ensures in
+    let t3 = next_stands t2 e.sides (sides_are e k) c.before.before.before.before.behind2.result c.before.before.before.before.behind2.ensures in
+    let t4 = next_stands t3 16 refl c.before.before.before.behind3.result c.before.before.before.behind3.ensures in
+    let t5 = next_stands t4 1048576 refl c.before.before.behind4.result c.before.before.behind4.ensures in
+    let t6 = next_stands t5 e.marks (marks_are e k) c.before.behind5.result c.before.behind5.ensures in
+    step_fits t6 (e.spare * 16) (spare_header e k) (2 ^ 64) (small e k s.args.h s.requires.1)
 
 returns : tie.Need-returns
 returns c =
     let s = c.before.before.before.before.before.before.before in
     let k = s.requires.0 in
     let e = s.args.e in
-    let t1 = first-stands _ s.requires.1 in
-    let t2 = next-stands t1 e.sides (sides-are e k) c.before.before.before.before.before.before.behind.result c.before.before.before.before.before.before.behind.ensures in
-    let t3 = next-stands t2 e.sides (sides-are e k) c.before.before.before.before.before.behind2.result c.before.before.before.before.before.behind2.ensures in
-    let t4 = next-stands t3 16 refl c.before.before.before.before.behind3.result c.before.before.before.before.behind3.ensures in
-    let t5 = next-stands t4 1048576 refl c.before.before.before.behind4.result c.before.before.before.behind4.ensures in
-    let t6 = next-stands t5 e.marks (marks-are e k) c.before.before.behind5.result c.before.before.behind5.ensures in
-    let t7 = next-stands t6 (e.spare * 16) (spare-header e k) c.behind6.result c.behind6.ensures in
-    all-joined t7
+    let t1 = first_stands _ s.requires.1 in
+    let t2 = next_stands t1 e.sides (sides_are e k) c.before.before.before.before.before.before.behind.result c.before.before.before.before.before.before.behind.ensures in
+    let t3 = next_stands t2 e.sides (sides_are e k) c.before.before.before.before.before.behind2.result c.before.before.before.before.before.behind2.ensures in
+    let t4 = next_stands t3 16 refl c.before.before.before.before.behind3.result c.before.before.before.before.behind3.ensures in
+    let t5 = next_stands t4 1048576 refl c.before.before.before.behind4.result c.before.before.before.behind4.ensures in
+    let t6 = next_stands t5 e.marks (marks_are e k) c.before.before.behind5.result c.before.before.behind5.ensures in
+    let t7 = next_stands t6 (e.spare * 16) (spare_header e k) c.behind6.result c.behind6.ensures in
+    all_joined t7
 
 pub header-number-spec : {M : Type 1} → statement M
 header-number-spec =

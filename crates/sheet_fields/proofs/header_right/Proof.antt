@@ -1,7 +1,7 @@
 use mathlib.Core.Bool.{and-true}
 use borrow.Author.Rules.{rules}
 use Rattle.sheet.specs.Pack.{sound}
-use Rattle.sheet_edition.proofs.Layouts.{number_is, sides-are, sides-pos}
+use Rattle.sheet_edition.proofs.Layouts.{number_is, sides_are, sides_pos}
 use Rattle.sheet_fields.proofs.header_right.Statement.{statement}
 use Rattle.sheet_fields.proofs.header_right.Tie as tie
 
@@ -9,13 +9,13 @@ between-requires : tie.Need-between-requires
 between-requires c κs = search rules
 
 sub-between : tie.Need-overflow-sub-between
-sub-between c = let s = c.before.before in sides-pos s.args.e s.requires
+sub-between c = let s = c.before.before in sides_pos s.args.e s.requires
 
 between-requires-2 : tie.Need-between-requires-2
 between-requires-2 c κs = search rules
 
 sub-between-2 : tie.Need-overflow-sub-between-2
-sub-between-2 c = let s = c.before.before.before.before in sides-pos s.args.e s.requires
+sub-between-2 c = let s = c.before.before.before.before in sides_pos s.args.e s.requires
 
 between-requires-3 : tie.Need-between-requires-3
 between-requires-3 c κs = search rules
@@ -45,7 +45,7 @@ returns c =
       c.before.before.before.before.between3.ensures,
       c.before.before.before.before.before.before.between2.ensures,
       c.before.before.before.before.before.before.before.before.between.ensures,
-      sides-are e s.requires,
+      sides_are e s.requires,
       ← number_is e s.requires,
       and-true,
     )

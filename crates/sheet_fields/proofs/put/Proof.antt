@@ -5,7 +5,7 @@ use borrow.Author.Rules.{rules}
 use lib.ListN.{length}
 use Rattle.lists.specs.Pasted.{pasted}
 use Rattle.sheet.specs.Pack.{bytes}
-use Rattle.sheet.proofs.Steps.{put-turn, put-end}
+use Rattle.sheet.proofs.Steps.{put_turn, put_end}
 use Rattle.sheet_fields.proofs.put.Statement.{statement}
 use Rattle.sheet_fields.proofs.put.Tie as tie
 
@@ -38,7 +38,7 @@ loop-again c =
     let l = c.before.loop in
     let a = c.before.before.args in
     let room : a.at + l.i ≤ length l.out = omega arith in
-    (omega arith, search rules, put-turn a.at l.i l.m l.out c.loop-test.true room ∙ l.invariant.2)
+    (omega arith, search rules, put_turn a.at l.i l.m l.out c.loop-test.true room ∙ l.invariant.2)
 
 same_length : tie.Need-same-length invariant-loop decreases-loop
 same_length c = search rules
@@ -46,7 +46,7 @@ same_length c = search rules
 returns : tie.Need-returns invariant-loop decreases-loop
 returns c =
     let l = c.before.loop in
-    sym (put-end c.before.before.args.at l.m l.i l.out c.loop-test.false) ∙ l.invariant.2
+    sym (put_end c.before.before.args.at l.m l.i l.out c.loop-test.false) ∙ l.invariant.2
 
 pub put_spec : {M : Type 1} → statement M
 put_spec =

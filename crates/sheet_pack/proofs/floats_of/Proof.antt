@@ -1,7 +1,7 @@
 use native.Mathlib.Omega.{arith}
 use borrow.Author.Rules.{rules}
-use Rattle.sheet.specs.Words.{headWords}
-use Rattle.sheet_pack.proofs.Written.{five-are}
+use Rattle.sheet.specs.Words.{head_words}
+use Rattle.sheet_pack.proofs.Written.{five_are}
 use Rattle.sheet_pack.proofs.floats_of.Statement.{statement}
 use Rattle.sheet_pack.proofs.floats_of.Tie as tie
 
@@ -38,7 +38,7 @@ wide-requires-5 c κs = search rules
 returns : tie.Need-returns
 returns c =
     let s = c.before.before.before.before.before.before.before.before.before.before.before in
-    five-are s.args.words.now headWords _ _ _ _ _ (omega arith) c.before.before.before.before.before.before.before.before.wide.ensures c.before.before.before.before.before.before.wide2.ensures c.before.before.before.before.wide3.ensures c.before.before.wide4.ensures c.wide5.ensures
+    five_are s.args.words.now head_words _ _ _ _ _ (omega arith) c.before.before.before.before.before.before.before.before.wide.ensures c.before.before.before.before.before.before.wide2.ensures c.before.before.before.before.wide3.ensures c.before.before.wide4.ensures c.wide5.ensures
 
 pub floats-of-spec : {M : Type 1} → statement M
 floats-of-spec =

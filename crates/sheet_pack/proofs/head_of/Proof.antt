@@ -1,5 +1,5 @@
 use borrow.Author.Rules.{rules}
-use Rattle.sheet_pack.proofs.Written.{head-are}
+use Rattle.sheet_pack.proofs.Written.{head_are}
 use Rattle.sheet_pack.proofs.head_of.Statement.{statement}
 use Rattle.sheet_pack.proofs.head_of.Tie as tie
 
@@ -39,7 +39,7 @@ blank-of-requires c κs = search rules
 returns : tie.Need-returns
 returns c =
     let s = c.before.before.before.before.before.before.before.before.before.before.before.before in
-    head-are s.args.words.now _ _ _ _ _ _ s.requires c.before.before.before.before.before.before.before.before.before.wide.ensures c.before.before.before.before.before.before.before.wide2.ensures c.before.before.before.before.before.wide3.ensures c.before.before.before.wide4.ensures c.before.wide5.ensures c.blank_of.ensures
+    head_are s.args.words.now _ _ _ _ _ _ s.requires c.before.before.before.before.before.before.before.before.before.wide.ensures c.before.before.before.before.before.before.before.wide2.ensures c.before.before.before.before.before.wide3.ensures c.before.before.before.wide4.ensures c.before.wide5.ensures c.blank_of.ensures
 
 pub head-of-spec : {M : Type 1} → statement M
 head-of-spec =

@@ -5,23 +5,23 @@ use native.Mathlib.Omega.{arith}
 use borrow.Author.Rules.{rules}
 use lib.ListN.{length, take, drop}
 use Rattle.lists.specs.Pasted.{pasted}
-use Rattle.lists.proofs.Pasted.{pasted-none}
-use Rattle.params.specs.Limits.{valueCount}
-use Rattle.sheet.specs.Words.{frontWords}
-use Rattle.sheet.proofs.Steps.{copy-turn}
+use Rattle.lists.proofs.Pasted.{pasted_none}
+use Rattle.params.specs.Limits.{value_count}
+use Rattle.sheet.specs.Words.{front_words}
+use Rattle.sheet.proofs.Steps.{copy_turn}
 use Rattle.sheet_pack.proofs.put_values.Statement.{statement}
 use Rattle.sheet_pack.proofs.put_values.Tie as tie
 
 abbrev invariant-loop : tie.invariant-loop
 invariant-loop words out₀ at i₀ out i =
-    (i ≤ valueCount) × (length out ≡ length out₀)
-    × (pasted (at + i) (take (valueCount - i) (drop (frontWords + i) words)) out ≡ pasted at (take valueCount (drop frontWords words)) out₀)
+    (i ≤ value_count) × (length out ≡ length out₀)
+    × (pasted (at + i) (take (value_count - i) (drop (front_words + i) words)) out ≡ pasted at (take value_count (drop front_words words)) out₀)
 
 abbrev decreases-loop : tie.decreases-loop
-decreases-loop words out₀ at i₀ out i = valueCount - i
+decreases-loop words out₀ at i₀ out i = value_count - i
 
 loop-holds : tie.Need-loop-init invariant-loop decreases-loop
-loop-holds c = (search rules, refl, ap (λ (n : ℕ). pasted n (take valueCount (drop frontWords c.args.words.now)) c.args.out.now) (add-zero c.args.at))
+loop-holds c = (search rules, refl, ap (λ (n : ℕ). pasted n (take value_count (drop front_words c.args.words.now)) c.args.out.now) (add-zero c.args.at))
 
 add-out : tie.Need-overflow-add-out invariant-loop decreases-loop
 add-out c = search rules
@@ -51,10 +51,10 @@ loop-again : tie.Need-loop-preserved invariant-loop decreases-loop
 loop-again c =
     let l = c.before.before.loop in
     let s = c.before.before.before in
-    let room : s.args.at + valueCount ≤ length l.out = omega arith in (
+    let room : s.args.at + value_count ≤ length l.out = omega arith in (
       omega arith,
       search rules,
-      copy-turn valueCount l.i s.args.at frontWords s.args.words.now l.out c.before.loop-test.true s.requires.0 room ∙ l.invariant.2,
+      copy_turn value_count l.i s.args.at front_words s.args.words.now l.out c.before.loop-test.true s.requires.0 room ∙ l.invariant.2,
     )
 
 same_length : tie.Need-same-length invariant-loop decreases-loop
@@ -64,8 +64,8 @@ returns : tie.Need-returns invariant-loop decreases-loop
 returns c =
     let l = c.before.loop in
     let s = c.before.before in
-    let e : valueCount - l.i ≡ 0 = omega arith in
-    sym (pasted-none (s.args.at + l.i) l.out) ∙ rw e at l.invariant.2
+    let e : value_count - l.i ≡ 0 = omega arith in
+    sym (pasted_none (s.args.at + l.i) l.out) ∙ rw e at l.invariant.2
 
 pub put-values-spec : {M : Type 1} → statement M
 put-values-spec =

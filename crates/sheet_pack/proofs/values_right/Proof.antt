@@ -3,19 +3,19 @@ use Prim.Native.Nat.{◌+◌, ◌-◌, ◌≤◌}
 use native.Mathlib.Omega.{arith}
 use borrow.Author.Rules.{rules}
 use lib.ListN.{take, drop, replicate}
-use Rattle.params.specs.Limits.{valueCount}
+use Rattle.params.specs.Limits.{value_count}
 use Rattle.sheet.specs.Pack.{slot, sound}
-use Rattle.sheet.specs.Layout.{valueSlots}
-use Rattle.sheet.specs.Words.{frontWords}
-use Rattle.sheet.proofs.Steps.{values-good, values-bad}
+use Rattle.sheet.specs.Layout.{value_slots}
+use Rattle.sheet.specs.Words.{front_words}
+use Rattle.sheet.proofs.Steps.{values_good, values_bad}
 use Rattle.sheet_pack.proofs.values_right.Statement.{statement}
 use Rattle.sheet_pack.proofs.values_right.Tie as tie
 
 abbrev invariant-loop : tie.invariant-loop
-invariant-loop words i₀ i = (i ≤ valueCount) × (sound (replicate (valueCount - i) (slot 8 0 255)) (take (valueCount - i) (drop (frontWords + i) words)) ≡ sound valueSlots (take valueCount (drop frontWords words)))
+invariant-loop words i₀ i = (i ≤ value_count) × (sound (replicate (value_count - i) (slot 8 0 255)) (take (value_count - i) (drop (front_words + i) words)) ≡ sound value_slots (take value_count (drop front_words words)))
 
 abbrev decreases-loop : tie.decreases-loop
-decreases-loop words i₀ i = valueCount - i
+decreases-loop words i₀ i = value_count - i
 
 loop-holds : tie.Need-loop-init invariant-loop decreases-loop
 loop-holds c = (search rules, refl)
@@ -33,7 +33,7 @@ returns : tie.Need-returns invariant-loop decreases-loop
 returns c =
     let l = c.before.before.before.loop in
     let s = c.before.before.before.before in
-    sym (values-bad valueCount l.i frontWords (slot 8 0 255) s.args.words.now (omega arith) s.requires c.if1.true) ∙ l.invariant.1
+    sym (values_bad value_count l.i front_words (slot 8 0 255) s.args.words.now (omega arith) s.requires c.if1.true) ∙ l.invariant.1
 
 add-i : tie.Need-overflow-add-i invariant-loop decreases-loop
 add-i c = search rules
@@ -45,13 +45,13 @@ loop-again : tie.Need-loop-preserved invariant-loop decreases-loop
 loop-again c =
     let l = c.before.before.before.loop in
     let s = c.before.before.before.before in
-    (omega arith, values-good valueCount l.i frontWords (slot 8 0 255) s.args.words.now (omega arith) s.requires (omega arith) c.if1.false ∙ l.invariant.1)
+    (omega arith, values_good value_count l.i front_words (slot 8 0 255) s.args.words.now (omega arith) s.requires (omega arith) c.if1.false ∙ l.invariant.1)
 
 returns-2 : tie.Need-returns-2 invariant-loop decreases-loop
 unfolding sound
 returns-2 c =
     let l = c.before.loop in
-    let e : valueCount - l.i ≡ 0 = omega arith in
+    let e : value_count - l.i ≡ 0 = omega arith in
     rw e at l.invariant.1
 
 pub values-right-spec : {M : Type 1} → statement M

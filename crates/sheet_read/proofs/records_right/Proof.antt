@@ -4,22 +4,22 @@ use native.Mathlib.Omega.{arith}
 use borrow.Author.Rules.{rules}
 use borrow.Author.Tests.{not-true, not-false}
 use lib.ListN.{length, take, drop, length-take, length-drop}
-use Rattle.sheet.specs.Layout.{headerSize, recordSize}
-use Rattle.sheet.specs.Sheet.{parts, allPass}
+use Rattle.sheet.specs.Layout.{header_size, record_size}
+use Rattle.sheet.specs.Sheet.{parts, all_pass}
 use Rattle.sheet.specs.Writes.{frame_of}
-use Rattle.sheet.proofs.Steps.{pass-good, pass-bad, pass-end, pass-start}
-use Rattle.sheet_edition.specs.Edition.{layoutFor}
-use Rattle.sheet_edition.proofs.Layouts.{bytes-are}
-use Rattle.sheet_fields.specs.Fields.{recordBytesRight}
-use Rattle.sheet_read.proofs.Taken.{record-inside, record-at}
+use Rattle.sheet.proofs.Steps.{pass_good, pass_bad, pass_end, pass_start}
+use Rattle.sheet_edition.specs.Edition.{layout_for}
+use Rattle.sheet_edition.proofs.Layouts.{bytes_are}
+use Rattle.sheet_fields.specs.Fields.{record_bytes_right}
+use Rattle.sheet_read.proofs.Taken.{record_inside, record_at}
 use Rattle.sheet_read.proofs.records_right.Statement.{statement}
 use Rattle.sheet_read.proofs.records_right.Tie as tie
 
 abbrev invariant-loop : tie.invariant-loop
 invariant-loop e width height layers sheet n i₀ i =
     (i ≤ n)
-    × (allPass (recordBytesRight (layoutFor e) (frame_of width height layers)) (parts (recordSize (layoutFor e)) (n - i) (drop (recordSize (layoutFor e) * i) (drop headerSize sheet)))
-    ≡ allPass (recordBytesRight (layoutFor e) (frame_of width height layers)) (parts (recordSize (layoutFor e)) n (drop headerSize sheet)))
+    × (all_pass (record_bytes_right (layout_for e) (frame_of width height layers)) (parts (record_size (layout_for e)) (n - i) (drop (record_size (layout_for e) * i) (drop header_size sheet)))
+    ≡ all_pass (record_bytes_right (layout_for e) (frame_of width height layers)) (parts (record_size (layout_for e)) n (drop header_size sheet)))
 
 abbrev decreases-loop : tie.decreases-loop
 decreases-loop e width height layers sheet n i₀ i = n - i
@@ -27,14 +27,14 @@ decreases-loop e width height layers sheet n i₀ i = n - i
 loop-holds : tie.Need-loop-init invariant-loop decreases-loop
 loop-holds c =
     let s = c.before in
-    (search rules, pass-start (recordBytesRight (layoutFor s.args.e) (frame_of s.args.width s.args.height s.args.layers)) (recordSize (layoutFor s.args.e)) s.args.n (drop headerSize s.args.sheet.now))
+    (search rules, pass_start (record_bytes_right (layout_for s.args.e) (frame_of s.args.width s.args.height s.args.layers)) (record_size (layout_for s.args.e)) s.args.n (drop header_size s.args.sheet.now))
 
 inside : (c : tie.In-loop invariant-loop decreases-loop) →
     let s = c.before.before.before in
-    headerSize + s.args.e.bytes * c.before.loop.i + s.args.e.bytes ≤ length s.args.sheet.now
+    header_size + s.args.e.bytes * c.before.loop.i + s.args.e.bytes ≤ length s.args.sheet.now
 inside c =
     let s = c.before.before.before in
-    record-inside s.args.e s.requires.0 s.args.n c.before.loop.i (length s.args.sheet.now) s.requires.1.1 c.loop-test.true
+    record_inside s.args.e s.requires.0 s.args.n c.before.loop.i (length s.args.sheet.now) s.requires.1.1 c.loop-test.true
 
 mul-from : tie.Need-overflow-mul-from invariant-loop decreases-loop
 mul-from c = omega (arith, inside c.before)
@@ -57,23 +57,23 @@ part-record-right-end c = omega (arith, inside c.before.before)
 record-right-requires : tie.Need-record-right-requires invariant-loop decreases-loop
 record-right-requires c κs =
     let s = c.before.before.before.before.before.before in
-    (s.requires.0, (s.requires.1.0, rw (length-take, length-drop) (omega (arith, inside c.before.before.before, bytes-are s.args.e s.requires.0))))
+    (s.requires.0, (s.requires.1.0, rw (length-take, length-drop) (omega (arith, inside c.before.before.before, bytes_are s.args.e s.requires.0))))
 
 -- what was said of the record at i
 found : (c : tie.After-record-right invariant-loop decreases-loop) →
     let s = c.before.before.before.before.before.before.before in
-    let l = layoutFor s.args.e in
-    recordBytesRight l (frame_of s.args.width s.args.height s.args.layers) (take (recordSize l) (drop (recordSize l * c.before.before.before.before.before.loop.i) (drop headerSize s.args.sheet.now)))
+    let l = layout_for s.args.e in
+    record_bytes_right l (frame_of s.args.width s.args.height s.args.layers) (take (record_size l) (drop (record_size l * c.before.before.before.before.before.loop.i) (drop header_size s.args.sheet.now)))
     ≡ c.record-right.result
 found c =
     let s = c.before.before.before.before.before.before.before in
-    sym (c.record-right.ensures ∙ ap (recordBytesRight (layoutFor s.args.e) (frame_of s.args.width s.args.height s.args.layers)) (record-at s.args.e s.requires.0 s.args.sheet.now c.before.before.before.before.before.loop.i))
+    sym (c.record-right.ensures ∙ ap (record_bytes_right (layout_for s.args.e) (frame_of s.args.width s.args.height s.args.layers)) (record_at s.args.e s.requires.0 s.args.sheet.now c.before.before.before.before.before.loop.i))
 
 returns : tie.Need-returns invariant-loop decreases-loop
 returns c =
     let l = c.before.before.before.before.before.before.loop in
     let s = c.before.before.before.before.before.before.before.before in
-    sym (pass-bad (recordBytesRight (layoutFor s.args.e) (frame_of s.args.width s.args.height s.args.layers)) (recordSize (layoutFor s.args.e)) s.args.n l.i (drop headerSize s.args.sheet.now) c.before.before.before.before.before.loop-test.true (found c.before ∙ not-true _ c.if1.true))
+    sym (pass_bad (record_bytes_right (layout_for s.args.e) (frame_of s.args.width s.args.height s.args.layers)) (record_size (layout_for s.args.e)) s.args.n l.i (drop header_size s.args.sheet.now) c.before.before.before.before.before.loop-test.true (found c.before ∙ not-true _ c.if1.true))
     ∙ l.invariant.1
 
 add-i : tie.Need-overflow-add-i invariant-loop decreases-loop
@@ -87,7 +87,7 @@ loop-again c =
     let l = c.before.before.before.before.before.before.loop in
     let s = c.before.before.before.before.before.before.before.before in (
       omega arith,
-      pass-good (recordBytesRight (layoutFor s.args.e) (frame_of s.args.width s.args.height s.args.layers)) (recordSize (layoutFor s.args.e)) s.args.n l.i (drop headerSize s.args.sheet.now) c.before.before.before.before.before.loop-test.true (found c.before ∙ not-false _ c.if1.false)
+      pass_good (record_bytes_right (layout_for s.args.e) (frame_of s.args.width s.args.height s.args.layers)) (record_size (layout_for s.args.e)) s.args.n l.i (drop header_size s.args.sheet.now) c.before.before.before.before.before.loop-test.true (found c.before ∙ not-false _ c.if1.false)
           ∙ l.invariant.1,
     )
 
@@ -95,7 +95,7 @@ returns-2 : tie.Need-returns-2 invariant-loop decreases-loop
 returns-2 c =
     let l = c.before.loop in
     let s = c.before.before.before in
-    sym (pass-end (recordBytesRight (layoutFor s.args.e) (frame_of s.args.width s.args.height s.args.layers)) (recordSize (layoutFor s.args.e)) s.args.n l.i (drop headerSize s.args.sheet.now) c.loop-test.false) ∙ l.invariant.1
+    sym (pass_end (record_bytes_right (layout_for s.args.e) (frame_of s.args.width s.args.height s.args.layers)) (record_size (layout_for s.args.e)) s.args.n l.i (drop header_size s.args.sheet.now) c.loop-test.false) ∙ l.invariant.1
 
 pub records-right-spec : {M : Type 1} → statement M
 records-right-spec =

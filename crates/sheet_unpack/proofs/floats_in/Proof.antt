@@ -1,9 +1,9 @@
 use native.Mathlib.Omega.{arith}
 use Rattle.sheet.specs.Pack.{Bytes}
-use Rattle.sheet.proofs.Lawful.{lawful-edition, angled-edition}
-use Rattle.sheet_edition.specs.Edition.{layoutFor}
+use Rattle.sheet.proofs.Lawful.{lawful_edition, angled_edition}
+use Rattle.sheet_edition.specs.Edition.{layout_for}
 use Rattle.sheet_edition.proofs.Layouts.{size_is}
-use Rattle.sheet_unpack.proofs.Taken.{got-fits, floats-are}
+use Rattle.sheet_unpack.proofs.Taken.{got_fits, floats_are}
 use Rattle.sheet_unpack.proofs.floats_in.Statement.{statement}
 use Rattle.sheet_unpack.proofs.floats_in.Tie as tie
 
@@ -34,13 +34,13 @@ returns c =
     let size = c.before.before.get3.ensures in
     let response = c.before.get4.ensures in
     let angle = c.get5.ensures in (
-      floats-are (layoutFor e) (lawful-edition e.number) (angled-edition e.number) bs s.requires.1 g _ x y size response angle,
+      floats_are (layout_for e) (lawful_edition e.number) (angled_edition e.number) bs s.requires.1 g _ x y size response angle,
       record {
-        x = got-fits bs 6 _ g (omega arith) x;
-        y = got-fits bs 10 _ g (omega arith) y;
-        size = got-fits bs 14 _ g (omega arith) size;
-        response = got-fits bs 18 _ g (omega arith) response;
-        angle = got-fits bs 22 _ g (omega arith) angle;
+        x = got_fits bs 6 _ g (omega arith) x;
+        y = got_fits bs 10 _ g (omega arith) y;
+        size = got_fits bs 14 _ g (omega arith) size;
+        response = got_fits bs 18 _ g (omega arith) response;
+        angle = got_fits bs 22 _ g (omega arith) angle;
       },
     )
 

@@ -1,7 +1,7 @@
 use native.Mathlib.Omega.{arith}
 use Rattle.sheet.specs.Pack.{unpack}
-use Rattle.sheet.specs.Layout.{headSize}
-use Rattle.sheet.proofs.Cut.{value-fits}
+use Rattle.sheet.specs.Layout.{head_size}
+use Rattle.sheet.proofs.Cut.{value_fits}
 use Rattle.sheet_edition.proofs.Layouts.{size_is}
 use Rattle.sheet_unpack.proofs.head_in.Statement.{statement}
 use Rattle.sheet_unpack.proofs.head_in.Tie as tie
@@ -12,7 +12,7 @@ get-requires c κs = omega (arith, size_is c.before.args.e)
 cut-head-requires : tie.Need-cut-head-requires
 cut-head-requires c κs =
     let s = c.before.before in
-    (s.requires.0, rw c.get.ensures (value-fits s.args.bytes.now 0 headSize (λ i. (c.before.shared-slice-known.given i).fits) (omega (arith, size_is s.args.e))))
+    (s.requires.0, rw c.get.ensures (value_fits s.args.bytes.now 0 head_size (λ i. (c.before.shared-slice-known.given i).fits) (omega (arith, size_is s.args.e))))
 
 returns : tie.Need-returns
 unfolding unpack

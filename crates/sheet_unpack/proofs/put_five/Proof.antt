@@ -1,6 +1,6 @@
 use native.Mathlib.Omega.{arith}
 use borrow.Author.Rules.{rules}
-use Rattle.sheet.proofs.Steps.{five-set}
+use Rattle.sheet.proofs.Steps.{five_set}
 use lib.ListN.{length-set}
 use Rattle.sheet_unpack.proofs.put_five.Statement.{statement}
 use Rattle.sheet_unpack.proofs.put_five.Tie as tie
@@ -51,7 +51,7 @@ same_length : tie.Need-same-length
 same_length c = search rules
 
 returns : tie.Need-returns
-returns c = five-set c.args.to c.args.five.a c.args.five.b c.args.five.c c.args.five.d c.args.five.e c.args.out.now c.requires
+returns c = five_set c.args.to c.args.five.a c.args.five.b c.args.five.c c.args.five.d c.args.five.e c.args.out.now c.requires
 
 pub put-five-spec : {M : Type 1} → statement M
 put-five-spec =

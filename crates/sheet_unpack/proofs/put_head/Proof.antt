@@ -1,15 +1,15 @@
 use Prim.Native.Nat.{ℕ, ◌^◌, ◌<◌}
 use borrow.Author.Rules.{rules}
 use lib.ListN.{get_or}
-use Rattle.sheet.proofs.Lawful.{lawful-edition}
-use Rattle.sheet_edition.specs.Edition.{layoutFor}
-use Rattle.sheet_fields.specs.Fields.{headValues}
-use Rattle.sheet_unpack.proofs.Taken.{head-word}
+use Rattle.sheet.proofs.Lawful.{lawful_edition}
+use Rattle.sheet_edition.specs.Edition.{layout_for}
+use Rattle.sheet_fields.specs.Fields.{head_values}
+use Rattle.sheet_unpack.proofs.Taken.{head_word}
 use Rattle.sheet_unpack.proofs.put_head.Statement.{statement}
 use Rattle.sheet_unpack.proofs.put_head.Tie as tie
 
-room : (s : tie.Start) (i : ℕ) → get_or (headValues s.args.h) i 0 < 2 ^ 32
-room s i = head-word (layoutFor s.args.e) (lawful-edition s.args.e.number) s.args.h s.requires.1.1 i
+room : (s : tie.Start) (i : ℕ) → get_or (head_values s.args.h) i 0 < 2 ^ 32
+room s i = head_word (layout_for s.args.e) (lawful_edition s.args.e.number) s.args.h s.requires.1.1 i
 
 cast-t6 : tie.Need-overflow-cast-t6
 cast-t6 c = record { fits = room c.before.before 0 }

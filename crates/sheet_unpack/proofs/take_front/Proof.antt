@@ -2,10 +2,10 @@ use mathlib.Core.Path.{ap, ◌∙◌}
 use Prim.Native.Nat.{◌+◌}
 use borrow.Author.Rules.{rules}
 use Rattle.lists.specs.Pasted.{pasted}
-use Rattle.sheet.specs.Words.{headWords}
-use Rattle.sheet_edition.specs.Edition.{layoutFor}
-use Rattle.sheet_fields.specs.Fields.{floatValues}
-use Rattle.sheet_unpack.proofs.Taken.{front-set}
+use Rattle.sheet.specs.Words.{head_words}
+use Rattle.sheet_edition.specs.Edition.{layout_for}
+use Rattle.sheet_fields.specs.Fields.{float_values}
+use Rattle.sheet_unpack.proofs.Taken.{front_set}
 use Rattle.sheet_unpack.proofs.take_front.Statement.{statement}
 use Rattle.sheet_unpack.proofs.take_front.Tie as tie
 
@@ -33,8 +33,8 @@ returns c =
     let h = c.before.before.before.before.before.before.before.before.head_in in
     let x = c.before.before.before.floats-in in
     c.before.before.put-floats.ensures
-    ∙ ap (pasted (s.args.to + headWords) (floatValues x.result)) c.before.before.before.before.before.before.before.put-head.ensures
-    ∙ front-set (layoutFor s.args.e) s.args.bytes.now h.result h.ensures.0 x.result x.ensures.0 s.args.to s.args.out.now s.requires.1.1
+    ∙ ap (pasted (s.args.to + head_words) (float_values x.result)) c.before.before.before.before.before.before.before.put-head.ensures
+    ∙ front_set (layout_for s.args.e) s.args.bytes.now h.result h.ensures.0 x.result x.ensures.0 s.args.to s.args.out.now s.requires.1.1
 
 pub take-front-spec : {M : Type 1} → statement M
 take-front-spec =

@@ -5,12 +5,12 @@ use lib.ListN.{set, drop, length-set}
 use borrow.Author.Rules.{rules}
 use Rattle.lists.specs.Pasted.{pasted}
 use Rattle.sheet.specs.Pack.{Bytes}
-use Rattle.sheet.specs.Layout.{frontSize}
-use Rattle.sheet.specs.Words.{plainWords, frontWords}
-use Rattle.sheet.proofs.Lawful.{lawful-edition, angled-edition}
-use Rattle.sheet_edition.specs.Edition.{layoutFor}
-use Rattle.sheet_fields.specs.Fields.{bytesFront}
-use Rattle.sheet_unpack.proofs.Taken.{words-set}
+use Rattle.sheet.specs.Layout.{front_size}
+use Rattle.sheet.specs.Words.{plain_words, front_words}
+use Rattle.sheet.proofs.Lawful.{lawful_edition, angled_edition}
+use Rattle.sheet_edition.specs.Edition.{layout_for}
+use Rattle.sheet_fields.specs.Fields.{bytes_front}
+use Rattle.sheet_unpack.proofs.Taken.{words_set}
 use Rattle.sheet_unpack.proofs.take_record.Statement.{statement}
 use Rattle.sheet_unpack.proofs.take_record.Tie as tie
 
@@ -42,15 +42,15 @@ returns : tie.Need-returns
 returns c =
     let s = c.before.before.before.before.before.before.before.before.before.before.before in
     let e = s.args.e in
-    let l = layoutFor e in
+    let l = layout_for e in
     let bs = s.args.bytes.now in
     let to = s.args.to in
     let g : Bytes bs = (λ i. (c.before.before.before.before.before.before.before.before.before.before.shared-slice-known.given i).fits) in
     let b = c.before.before.before.before.before.before.before.before.blank-in in
-    let d = c.before.before.take-values.ensures ∙ ap (pasted (to + frontWords) (drop (frontSize l) bs)) c.before.before.before.before.before.before.take-front.ensures in
-    ap (λ (x : List ℕ). set x (to + plainWords) b.result) d
-    ∙ ap (set (pasted (to + frontWords) (drop (frontSize l) bs) (pasted to (bytesFront l bs) s.args.out.now)) (to + plainWords)) b.ensures
-    ∙ words-set l (lawful-edition e.number) (angled-edition e.number) bs s.requires.1.0 g to s.args.out.now s.requires.1.1
+    let d = c.before.before.take-values.ensures ∙ ap (pasted (to + front_words) (drop (front_size l) bs)) c.before.before.before.before.before.before.take-front.ensures in
+    ap (λ (x : List ℕ). set x (to + plain_words) b.result) d
+    ∙ ap (set (pasted (to + front_words) (drop (front_size l) bs) (pasted to (bytes_front l bs) s.args.out.now)) (to + plain_words)) b.ensures
+    ∙ words_set l (lawful_edition e.number) (angled_edition e.number) bs s.requires.1.0 g to s.args.out.now s.requires.1.1
 
 pub take-record-spec : {M : Type 1} → statement M
 take-record-spec =

@@ -1,4 +1,4 @@
-use Rattle.thin.proofs.Keeps.{whole-short, whole-done}
+use Rattle.thin.proofs.Keeps.{whole_short, whole_done}
 use mathlib.Core.Path.{refl}
 use native.Mathlib.Omega.{arith}
 use borrow.Author.Rules.{rules}
@@ -23,7 +23,7 @@ returns c = search rules
 
 -- src/lib.rt:79:9
 returns-2 : tie.Need-returns-2
-returns-2 c = whole-short _ _ _ _ _ refl c.before.before.before.before.requires.1.1 (omega arith) _ c.if2.true
+returns-2 c = whole_short _ _ _ _ _ refl c.before.before.before.before.requires.1.1 (omega arith) _ c.if2.true
 
 -- src/lib.rt:81:5
 list-all-requires : tie.Need-list-all-requires
@@ -35,7 +35,7 @@ same-length-2 c = search rules
 
 -- src/lib.rt:68:1
 returns-3 : tie.Need-returns-3
-returns-3 c = whole-done _ _ _ _ _ refl c.before.before.before.before.before.before.before.before.requires.1.1 (omega arith) _ _ (omega arith) c.before.before.list_all.ensures.0 c.before.before.list_all.ensures.1
+returns-3 c = whole_done _ _ _ _ _ refl c.before.before.before.before.before.before.before.before.requires.1.1 (omega arith) _ _ (omega arith) c.before.before.list_all.ensures.0 c.before.before.list_all.ensures.1
 
 pub keep_spec : {M : Type 1} → statement M
 keep_spec =

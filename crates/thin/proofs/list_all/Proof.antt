@@ -1,6 +1,6 @@
 use Prim.Native.Nat.{◌-◌}
 use native.Mathlib.Omega.{arith}
-use Rattle.thin.proofs.Listing.{Listing, list-start, list-turn, list-end}
+use Rattle.thin.proofs.Listing.{Listing, list_start, list_turn, list_end}
 use Rattle.thin.proofs.list_all.Statement.{statement}
 use Rattle.thin.proofs.list_all.Tie as tie
 use Rattle.thin.proofs.list_all.Reads as reads
@@ -14,7 +14,7 @@ decreases-loop out₀ n k₀ out k = n - k
 
 -- src/lib.rt:111:5
 loop-holds : tie.Need-loop-init invariant-loop decreases-loop
-loop-holds c = list-start _ _
+loop-holds c = list_start _ _
 
 -- src/lib.rt:112:18
 cast-out : tie.Need-overflow-cast-out invariant-loop decreases-loop
@@ -38,7 +38,7 @@ loop-less c = omega arith
 
 -- src/lib.rt:111:5
 loop-again : tie.Need-loop-preserved invariant-loop decreases-loop
-loop-again c = list-turn _ _ _ _ c.before.loop.invariant c.loop-test.true c.before.before.requires.0
+loop-again c = list_turn _ _ _ _ c.before.loop.invariant c.loop-test.true c.before.before.requires.0
 
 -- src/lib.rt:105:1
 same_length : tie.Need-same-length invariant-loop decreases-loop
@@ -46,7 +46,7 @@ same_length c = c.before.loop.invariant.beside.length
 
 -- src/lib.rt:105:1
 returns : tie.Need-returns invariant-loop decreases-loop
-returns c = list-end _ _ _ _ c.before.loop.invariant c.loop-test.false
+returns c = list_end _ _ _ _ c.before.loop.invariant c.loop-test.false
 
 pub list-all-spec : {M : Type 1} → statement M
 list-all-spec =

@@ -3,8 +3,8 @@ use mathlib.Core.Path.{sym, ◌∙◌}
 use mathlib.Core.Bool.{false≢true}
 use native.Mathlib.Omega.{arith}
 use borrow.Author.Tests.{not-true, not-false}
-use Rattle.lists.proofs.Every.{every-stop}
-use Rattle.thin.proofs.Faults.{Checked, point-is, check-start, check-turn, check-end}
+use Rattle.lists.proofs.Every.{every_stop}
+use Rattle.thin.proofs.Faults.{Checked, point_is, check_start, check_turn, check_end}
 use Rattle.thin.proofs.points_right.Statement.{statement}
 use Rattle.thin.proofs.points_right.Tie as tie
 use Rattle.thin.proofs.points_right.Reads as reads
@@ -24,7 +24,7 @@ sides-of-requires c κs = c.before.requires
 
 -- src/lib.rt:176:5
 loop-holds : tie.Need-loop-init invariant-loop decreases-loop
-loop-holds c = check-start _ _ _ _
+loop-holds c = check_start _ _ _ _
 
 -- src/lib.rt:177:13
 point-right-requires : tie.Need-point-right-requires invariant-loop decreases-loop
@@ -32,7 +32,7 @@ point-right-requires c κs = omega arith
 
 -- src/lib.rt:178:13
 returns : tie.Need-returns invariant-loop decreases-loop
-returns c = (sym (every-stop _ _ _ c.before.before.loop-test.true (point-is _ _ _ _ _ _ c.before.before.before.before.sides-of.ensures c.before.point-right.ensures.0 ∙ not-true _ c.if1.true)), λ e. absurd (false≢true e))
+returns c = (sym (every_stop _ _ _ c.before.before.loop-test.true (point_is _ _ _ _ _ _ c.before.before.before.before.sides-of.ensures c.before.point-right.ensures.0 ∙ not-true _ c.if1.true)), λ e. absurd (false≢true e))
 
 -- src/lib.rt:180:9
 add-i : tie.Need-overflow-add-i invariant-loop decreases-loop
@@ -44,11 +44,11 @@ loop-less c = omega arith
 
 -- src/lib.rt:176:5
 loop-again : tie.Need-loop-preserved invariant-loop decreases-loop
-loop-again c = check-turn _ _ _ _ _ c.before.before.before.loop.invariant c.before.before.loop-test.true (point-is _ _ _ _ _ _ c.before.before.before.before.sides-of.ensures c.before.point-right.ensures.0 ∙ not-false _ c.if1.false) c.before.point-right.ensures.1
+loop-again c = check_turn _ _ _ _ _ c.before.before.before.loop.invariant c.before.before.loop-test.true (point_is _ _ _ _ _ _ c.before.before.before.before.sides-of.ensures c.before.point-right.ensures.0 ∙ not-false _ c.if1.false) c.before.point-right.ensures.1
 
 -- src/lib.rt:163:1
 returns-2 : tie.Need-returns-2 invariant-loop decreases-loop
-returns-2 c = check-end _ _ _ _ _ c.before.loop.invariant c.loop-test.false
+returns-2 c = check_end _ _ _ _ _ c.before.loop.invariant c.loop-test.false
 
 pub points-right-spec : {M : Type 1} → statement M
 points-right-spec =

@@ -1,4 +1,4 @@
-use Rattle.thin.proofs.Keeps.{frame_refused, frame-asks, frame-kept}
+use Rattle.thin.proofs.Keeps.{frame_refused, frame_asks, frame_kept}
 use borrow.Author.Rules.{rules}
 use Rattle.thin.proofs.thin_frame.Statement.{statement}
 use Rattle.thin.proofs.thin_frame.Tie as tie
@@ -22,7 +22,7 @@ frame-of-requires c κs = let a = c.before.fault.ensures.1 c.if1.false in (a.ord
 
 -- src/lib.rt:179:5
 keep-requires : tie.Need-keep-requires
-keep-requires c κs = frame-asks _ _ _ _ _ c.before.frame-of.ensures (c.before.before.before.fault.ensures.1 c.before.before.if1.false)
+keep-requires c κs = frame_asks _ _ _ _ _ c.before.frame-of.ensures (c.before.before.before.fault.ensures.1 c.before.before.if1.false)
 
 -- src/lib.rt:164:1
 same_length : tie.Need-same-length
@@ -30,7 +30,7 @@ same_length c = search rules
 
 -- src/lib.rt:164:1
 returns-2 : tie.Need-returns-2
-returns-2 c = frame-kept _ _ _ _ _ _ _ _ _ _ c.before.before.before.before.before.before.fault.ensures.0 c.before.before.before.before.before.if1.false c.before.before.before.before.frame-of.ensures c.before.before.keep.ensures
+returns-2 c = frame_kept _ _ _ _ _ _ _ _ _ _ c.before.before.before.before.before.before.fault.ensures.0 c.before.before.before.before.before.if1.false c.before.before.before.before.frame-of.ensures c.before.before.keep.ensures
 
 pub thin-frame-spec : {M : Type 1} → statement M
 thin-frame-spec =

@@ -1,6 +1,6 @@
 use mathlib.Core.Path.{refl}
 use native.Mathlib.Omega.{arith}
-use Rattle.thin_region.proofs.Turns.{covers-whole}
+use Rattle.thin_region.proofs.Turns.{covers_whole}
 use borrow.Author.Rules.{rules}
 use Rattle.thin_region.proofs.thin_all.Statement.{statement}
 use Rattle.thin_region.proofs.thin_all.Tie as tie
@@ -19,7 +19,7 @@ slice-aggregate-thin c = search rules
 
 -- src/lib.rt:79:5
 thin-requires : tie.Need-thin-requires
-thin-requires c κs = (c.before.before.before.before.before.requires.0, ((covers-whole _ _ _ _ refl, c.before.before.reach_of.ensures), (c.before.before.before.before.before.requires.1, omega arith)))
+thin-requires c κs = (c.before.before.before.before.before.requires.0, ((covers_whole _ _ _ _ refl, c.before.before.reach_of.ensures), (c.before.before.before.before.before.requires.1, omega arith)))
 
 -- src/lib.rt:68:1
 same_length : tie.Need-same-length

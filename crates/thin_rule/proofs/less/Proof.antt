@@ -1,5 +1,5 @@
 use native.Mathlib.Omega.{arith}
-use Rattle.thin_rule.proofs.Lesser.{less-is}
+use Rattle.thin_rule.proofs.Lesser.{less_is}
 use borrow.Author.Rules.{rules}
 use Rattle.thin_rule.proofs.less.Statement.{statement}
 use Rattle.thin_rule.proofs.less.Tie as tie
@@ -29,7 +29,7 @@ sub-result-2 c = search rules
 
 -- src/lib.rt:116:1
 returns : tie.Need-returns
-returns c = less-is c.before.before.args.a c.before.before.args.b _ (λ l. let x = c.before.index.ensures in let y = c.index2.ensures in omega arith) (λ l. let x = c.before.index.ensures in let y = c.index2.ensures in omega arith)
+returns c = less_is c.before.before.args.a c.before.before.args.b _ (λ l. let x = c.before.index.ensures in let y = c.index2.ensures in omega arith) (λ l. let x = c.before.index.ensures in let y = c.index2.ensures in omega arith)
 
 pub less-spec : {M : Type 1} → statement M
 less-spec =

@@ -1,5 +1,5 @@
 use native.Mathlib.Omega.{arith}
-use Rattle.thin_order.proofs.Signs.{place-low, place-high}
+use Rattle.thin_order.proofs.Signs.{place_low, place_high}
 use borrow.Author.Rules.{rules}
 use Rattle.thin_rule.proofs.place_of.Statement.{statement}
 use Rattle.thin_rule.proofs.place_of.Tie as tie
@@ -25,11 +25,11 @@ sub-result c = search rules
 
 -- src/lib.rt:94:1
 returns : tie.Need-returns
-returns c = (cc (place-low c.before.before.args.w c.before.if1.true), omega arith)
+returns c = (cc (place_low c.before.before.args.w c.before.if1.true), omega arith)
 
 -- src/lib.rt:94:1
 returns-2 : tie.Need-returns-2
-returns-2 c = (cc (place-high c.before.before.args.w (omega arith)), omega arith)
+returns-2 c = (cc (place_high c.before.before.args.w (omega arith)), omega arith)
 
 pub place-of-spec : {M : Type 1} → statement M
 place-of-spec =

@@ -1,6 +1,6 @@
 use Prim.Native.Nat.{◌^◌, ◌-◌, ◌<◌}
 use native.Mathlib.Omega.{arith}
-use Rattle.thin_source.proofs.Cutting.{Halving, halving-start, halving-found, halving-up, halving-down, halving-end}
+use Rattle.thin_source.proofs.Cutting.{Halving, halving_start, halving_found, halving_up, halving_down, halving_end}
 use Rattle.thin_source.proofs.halve.Statement.{statement}
 use Rattle.thin_source.proofs.halve.Tie as tie
 use Rattle.thin_source.proofs.halve.Reads as reads
@@ -15,7 +15,7 @@ decreases-loop words r q s c lo₀ hi₀ lo hi = hi - lo
 
 -- src/lib.rt:144:5
 loop-holds : tie.Need-loop-init invariant-loop decreases-loop
-loop-holds c = (omega arith, halving-start _ _ _ _ c.before.before.requires.1.0.1 c.before.before.requires.1.1.0 c.before.before.requires.1.1.1)
+loop-holds c = (omega arith, halving_start _ _ _ _ c.before.before.requires.1.0.1 c.before.before.requires.1.1.0 c.before.before.requires.1.1.1)
 
 -- src/lib.rt:145:26
 sub-mid : tie.Need-overflow-sub-mid invariant-loop decreases-loop
@@ -39,7 +39,7 @@ tally-requires c κs = ((c.before.before.before.before.requires.0.0, c.before.be
 
 -- src/lib.rt:148:13
 returns : tie.Need-returns invariant-loop decreases-loop
-returns c = halving-found _ _ _ _ _ _ _ c.before.before.before.before.before.before.requires.1.0.0 c.before.tally.ensures c.if1.true
+returns c = halving_found _ _ _ _ _ _ _ c.before.before.before.before.before.before.requires.1.0.0 c.before.tally.ensures c.if1.true
 
 -- src/lib.rt:144:5
 loop-less : tie.Need-loop-smaller invariant-loop decreases-loop
@@ -47,7 +47,7 @@ loop-less c = omega arith
 
 -- src/lib.rt:144:5
 loop-again : tie.Need-loop-preserved invariant-loop decreases-loop
-loop-again c = (omega arith, halving-up _ _ _ _ _ _ _ _ _ c.before.before.before.before.before.before.before.requires.1.0.0 c.before.before.tally.ensures (omega arith) c.before.before.before.before.loop.invariant.1)
+loop-again c = (omega arith, halving_up _ _ _ _ _ _ _ _ _ c.before.before.before.before.before.before.before.requires.1.0.0 c.before.before.tally.ensures (omega arith) c.before.before.before.before.loop.invariant.1)
 
 -- src/lib.rt:153:18
 sub-hi : tie.Need-overflow-sub-hi invariant-loop decreases-loop
@@ -59,11 +59,11 @@ loop-less-2 c = omega arith
 
 -- src/lib.rt:144:5
 loop-again-2 : tie.Need-loop-preserved-2 invariant-loop decreases-loop
-loop-again-2 c = (omega arith, halving-down _ _ _ _ _ _ _ _ _ c.before.before.before.before.before.before.before.requires.1.0.0 c.before.before.tally.ensures (omega arith) (omega arith) c.before.before.before.before.loop.invariant.1)
+loop-again-2 c = (omega arith, halving_down _ _ _ _ _ _ _ _ _ c.before.before.before.before.before.before.before.requires.1.0.0 c.before.before.tally.ensures (omega arith) (omega arith) c.before.before.before.before.loop.invariant.1)
 
 -- src/lib.rt:136:1
 returns-2 : tie.Need-returns-2 invariant-loop decreases-loop
-returns-2 c = halving-end _ _ _ _ _ c.before.before.before.before.requires.0.1 (omega arith) c.before.loop.invariant.1
+returns-2 c = halving_end _ _ _ _ _ c.before.before.before.before.requires.0.1 (omega arith) c.before.loop.invariant.1
 
 pub halve-spec : {M : Type 1} → statement M
 halve-spec =

@@ -2,8 +2,8 @@ use borrow.Author.Rules.{rules}
 use native.Mathlib.Omega.{arith}
 use Prim.Native.Nat.{◌-◌}
 use Rattle.thin_source.specs.Sources.{candidate}
-use Rattle.thin_source.proofs.Sources.{weighed, stands-lt}
-use Rattle.thin_source.proofs.Adding.{Adding, add_start, add_turn, add-strong-within, add-strong}
+use Rattle.thin_source.proofs.Sources.{weighed, stands_lt}
+use Rattle.thin_source.proofs.Adding.{Adding, add_start, add_turn, add_strong_within, add_strong}
 use Rattle.thin_source.proofs.put.Statement.{statement}
 use Rattle.thin_source.proofs.put.Tie as tie
 use Rattle.thin_source.proofs.put.Reads as reads
@@ -34,11 +34,11 @@ candidate-at-requires c κs = λ e. let h = c.before.before.before.before.before
 
 -- src/lib.rt:125:13
 is-strong-requires : tie.Need-is-strong-requires invariant-loop decreases-loop
-is-strong-requires c κs = (stands-lt _ _ _ _ _ c.before.before.before.before.before.before.before.requires.1.0 c.before.before.loop.invariant.low c.before.loop-test.true c.candidate-at.ensures, c.before.before.before.before.before.before.before.requires.0.1.few)
+is-strong-requires c κs = (stands_lt _ _ _ _ _ c.before.before.before.before.before.before.before.requires.1.0 c.before.before.loop.invariant.low c.before.loop-test.true c.candidate-at.ensures, c.before.before.before.before.before.before.before.requires.0.1.few)
 
 -- src/lib.rt:126:9
 put-if-requires : tie.Need-put-if-requires invariant-loop decreases-loop
-put-if-requires c κs = let h = stands-lt _ _ _ _ _ c.before.before.before.before.before.before.before.before.before.requires.1.0 c.before.before.before.before.loop.invariant.low c.before.before.before.loop-test.true c.before.before.candidate-at.ensures in let n = c.before.before.before.before.before.before.before.before.before.requires.0.1.few in omega arith
+put-if-requires c κs = let h = stands_lt _ _ _ _ _ c.before.before.before.before.before.before.before.before.before.requires.1.0 c.before.before.before.before.loop.invariant.low c.before.before.before.loop-test.true c.before.before.candidate-at.ensures in let n = c.before.before.before.before.before.before.before.before.before.requires.0.1.few in omega arith
 
 -- src/lib.rt:127:14
 one-requires : tie.Need-one-requires invariant-loop decreases-loop
@@ -58,7 +58,7 @@ loop-again c = add_turn _ _ _ _ _ _ _ _ _ _ _ _ _ c.before.before.before.before.
 
 -- src/lib.rt:127:9
 add-m : tie.Need-overflow-add-m invariant-loop decreases-loop
-add-m c = let h = add-strong-within _ _ _ _ _ _ c.before.before.before.before.before.before.before.before.before.before.before.before.before.requires.0.1 c.before.before.before.before.before.before.before.before.before.before.before.before.before.requires.0.0 c.before.before.before.before.before.before.before.before.before.before.before.before.before.requires.1.0 c.before.before.before.before.before.before.before.before.before.edges-of.ensures _ _ _ _ _ (loop-again c) in omega arith
+add-m c = let h = add_strong_within _ _ _ _ _ _ c.before.before.before.before.before.before.before.before.before.before.before.before.before.requires.0.1 c.before.before.before.before.before.before.before.before.before.before.before.before.before.requires.0.0 c.before.before.before.before.before.before.before.before.before.before.before.before.before.requires.1.0 c.before.before.before.before.before.before.before.before.before.edges-of.ensures _ _ _ _ _ (loop-again c) in omega arith
 
 -- src/lib.rt:112:1
 same_length : tie.Need-same-length invariant-loop decreases-loop
@@ -66,7 +66,7 @@ same_length c = c.before.loop.invariant.beside.length
 
 -- src/lib.rt:112:1
 returns : tie.Need-returns invariant-loop decreases-loop
-returns c = add-strong _ _ _ _ _ _ c.before.before.before.before.before.before.requires.0.1 c.before.before.before.before.before.before.requires.0.0 c.before.before.before.before.before.before.requires.1.0 c.before.before.edges-of.ensures _ _ _ _ _ c.before.loop.invariant c.loop-test.false
+returns c = add_strong _ _ _ _ _ _ c.before.before.before.before.before.before.requires.0.1 c.before.before.before.before.before.before.requires.0.0 c.before.before.before.before.before.before.requires.1.0 c.before.before.edges-of.ensures _ _ _ _ _ c.before.loop.invariant c.loop-test.false
 
 pub put_spec : {M : Type 1} → statement M
 put_spec =

@@ -1,7 +1,7 @@
 use borrow.Author.Rules.{rules}
 use native.Mathlib.Omega.{arith}
 use Prim.Native.Nat.{◌-◌}
-use Rattle.thin_source.proofs.Sources.{Reaching, reach-start, reach-turn, reach-end}
+use Rattle.thin_source.proofs.Sources.{Reaching, reach_start, reach_turn, reach_end}
 use Rattle.thin_source.proofs.reach_of.Statement.{statement}
 use Rattle.thin_source.proofs.reach_of.Tie as tie
 use Rattle.thin_source.proofs.reach_of.Reads as reads
@@ -18,7 +18,7 @@ decreases-loop words n low₀ high₀ i₀ low high i = n - i
 
 -- src/lib.rt:213:5
 loop-holds : tie.Need-loop-init invariant-loop decreases-loop
-loop-holds c = reach-start _ _ _
+loop-holds c = reach_start _ _ _
 
 -- src/lib.rt:214:13
 strength-of-requires : tie.Need-strength-of-requires invariant-loop decreases-loop
@@ -42,11 +42,11 @@ loop-less c = omega arith
 
 -- src/lib.rt:213:5
 loop-again : tie.Need-loop-preserved invariant-loop decreases-loop
-loop-again c = reach-turn _ _ _ _ _ _ _ c.before.before.before.before.loop.invariant c.before.before.strength-of.ensures c.before.lesser.ensures.0 c.before.lesser.ensures.1 c.larger.ensures.0 c.larger.ensures.1
+loop-again c = reach_turn _ _ _ _ _ _ _ c.before.before.before.before.loop.invariant c.before.before.strength-of.ensures c.before.lesser.ensures.0 c.before.lesser.ensures.1 c.larger.ensures.0 c.larger.ensures.1
 
 -- src/lib.rt:205:1
 returns : tie.Need-returns invariant-loop decreases-loop
-returns c = reach-end _ _ _ _ c.before.loop.invariant c.loop-test.false
+returns c = reach_end _ _ _ _ c.before.loop.invariant c.loop-test.false
 
 pub reach-of-spec : {M : Type 1} → statement M
 reach-of-spec =

@@ -1,5 +1,5 @@
 use native.Mathlib.Omega.{arith}
-use Rattle.thin_source.proofs.Sources.{source-part}
+use Rattle.thin_source.proofs.Sources.{source_part}
 use Rattle.thin_source.specs.Sources.{source_of}
 use borrow.Author.Rules.{rules}
 use Rattle.thin_source.proofs.source_of.Statement.{statement}
@@ -27,7 +27,7 @@ returns c = rw c.if1.true
 
 -- src/lib.rt:177:1
 returns-2 : tie.Need-returns-2
-returns-2 c = source-part _ _ _ _ _ _ c.before.before.if1.false c.before.bound_of.ensures c.bound-of2.ensures (omega arith)
+returns-2 c = source_part _ _ _ _ _ _ c.before.before.if1.false c.before.bound_of.ensures c.bound-of2.ensures (omega arith)
 
 pub source-of-spec : {M : Type 1} → statement M
 source-of-spec =

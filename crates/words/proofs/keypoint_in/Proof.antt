@@ -4,19 +4,19 @@ use mathlib.Core.List.{List}
 use lib.ListN.{length}
 use mathlib.Core.Bool.{Bool, cond}
 use borrow.Author.Tests.{eq-eqb, ne_eqb}
-use Rattle.params.specs.Limits.{keypointWords}
-use Rattle.words.specs.Keypoint.{words_in, broken, keypointIn}
+use Rattle.params.specs.Limits.{keypoint_words}
+use Rattle.words.specs.Keypoint.{words_in, broken, keypoint_in}
 use borrow.Author.Rules.{rules}
 use Rattle.words.proofs.keypoint_in.Statement.{statement}
 use Rattle.words.proofs.keypoint_in.Tie as tie
 
-whole_is : (k : List ℕ) → length k ≡ keypointWords → words_in k ≡ keypointIn k
-unfolding keypointIn
-whole_is k h = sym (ap (λ (b : Bool). cond b (words_in k) broken) (eq-eqb (length k) keypointWords h))
+whole_is : (k : List ℕ) → length k ≡ keypoint_words → words_in k ≡ keypoint_in k
+unfolding keypoint_in
+whole_is k h = sym (ap (λ (b : Bool). cond b (words_in k) broken) (eq-eqb (length k) keypoint_words h))
 
-broken-is : (k : List ℕ) → (length k ≡ keypointWords → ⊥) → broken ≡ keypointIn k
-unfolding keypointIn
-broken-is k h = sym (ap (λ (b : Bool). cond b (words_in k) broken) (ne_eqb (length k) keypointWords h))
+broken_is : (k : List ℕ) → (length k ≡ keypoint_words → ⊥) → broken ≡ keypoint_in k
+unfolding keypoint_in
+broken_is k h = sym (ap (λ (b : Bool). cond b (words_in k) broken) (ne_eqb (length k) keypoint_words h))
 
 whole-keypoint-requires : tie.Need-whole-keypoint-requires
 whole-keypoint-requires c κs = search rules
@@ -28,7 +28,7 @@ returns : tie.Need-returns
 returns c = c.whole-keypoint.ensures ∙ whole_is _ c.before.if1.true
 
 returns-2 : tie.Need-returns-2
-returns-2 c = c.broken-keypoint.ensures ∙ broken-is _ c.before.if1.false
+returns-2 c = c.broken-keypoint.ensures ∙ broken_is _ c.before.if1.false
 
 pub keypoint-in-spec : {M : Type 1} → statement M
 keypoint-in-spec =

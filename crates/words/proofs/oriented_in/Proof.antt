@@ -4,19 +4,19 @@ use mathlib.Core.List.{List}
 use lib.ListN.{length}
 use mathlib.Core.Bool.{Bool, cond}
 use borrow.Author.Tests.{eq-eqb, ne_eqb}
-use Rattle.orient_words.specs.Oriented.{orientedWords}
-use Rattle.words.specs.Oriented.{sixIn, unoriented, orientedIn}
+use Rattle.orient_words.specs.Oriented.{oriented_words}
+use Rattle.words.specs.Oriented.{six_in, unoriented, oriented_in}
 use borrow.Author.Rules.{rules}
 use Rattle.words.proofs.oriented_in.Statement.{statement}
 use Rattle.words.proofs.oriented_in.Tie as tie
 
-whole_is : (o : List ℕ) → length o ≡ orientedWords → sixIn o ≡ orientedIn o
-unfolding orientedIn
-whole_is o h = sym (ap (λ (b : Bool). cond b (sixIn o) unoriented) (eq-eqb (length o) orientedWords h))
+whole_is : (o : List ℕ) → length o ≡ oriented_words → six_in o ≡ oriented_in o
+unfolding oriented_in
+whole_is o h = sym (ap (λ (b : Bool). cond b (six_in o) unoriented) (eq-eqb (length o) oriented_words h))
 
-unoriented-is : (o : List ℕ) → (length o ≡ orientedWords → ⊥) → unoriented ≡ orientedIn o
-unfolding orientedIn
-unoriented-is o h = sym (ap (λ (b : Bool). cond b (sixIn o) unoriented) (ne_eqb (length o) orientedWords h))
+unoriented_is : (o : List ℕ) → (length o ≡ oriented_words → ⊥) → unoriented ≡ oriented_in o
+unfolding oriented_in
+unoriented_is o h = sym (ap (λ (b : Bool). cond b (six_in o) unoriented) (ne_eqb (length o) oriented_words h))
 
 whole-oriented-requires : tie.Need-whole-oriented-requires
 whole-oriented-requires c κs = search rules
@@ -28,7 +28,7 @@ returns : tie.Need-returns
 returns c = c.whole-oriented.ensures ∙ whole_is _ c.before.if1.true
 
 returns-2 : tie.Need-returns-2
-returns-2 c = c.unoriented-keypoint.ensures ∙ unoriented-is _ c.before.if1.false
+returns-2 c = c.unoriented-keypoint.ensures ∙ unoriented_is _ c.before.if1.false
 
 pub oriented-in-spec : {M : Type 1} → statement M
 oriented-in-spec =

@@ -1,4 +1,4 @@
-use Rattle.words.proofs.Inputs.{four-out}
+use Rattle.words.proofs.Inputs.{four_out}
 use borrow.Author.Rules.{rules}
 use Rattle.words.proofs.put_inputs.Statement.{statement}
 use Rattle.words.proofs.put_inputs.Tie as tie
@@ -34,7 +34,7 @@ same_length : tie.Need-same-length
 same_length c = search rules
 
 returns : tie.Need-returns
-returns c = let a = c.before.before.before.before.before.args in four-out a.i a.out.now _ _ _ _ c.before.before.before.before.before.requires c.before.before.before.bits-of.ensures c.before.before.bits-of2.ensures c.before.bits-of3.ensures c.bits-of4.ensures
+returns c = let a = c.before.before.before.before.before.args in four_out a.i a.out.now _ _ _ _ c.before.before.before.before.before.requires c.before.before.before.bits-of.ensures c.before.before.bits-of2.ensures c.before.bits-of3.ensures c.bits-of4.ensures
 
 pub put-inputs-spec : {M : Type 1} → statement M
 put-inputs-spec =

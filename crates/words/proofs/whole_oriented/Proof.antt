@@ -1,5 +1,5 @@
 use lib.ListN.{get_or}
-use Rattle.words.specs.Oriented.{sixIn}
+use Rattle.words.specs.Oriented.{six_in}
 use borrow.Author.Rules.{rules}
 use Rattle.words.proofs.whole_oriented.Statement.{statement}
 use Rattle.words.proofs.whole_oriented.Tie as tie
@@ -41,7 +41,7 @@ of-bits-requires-5 : tie.Need-of-bits-requires-5
 of-bits-requires-5 c κs = search rules
 
 returns : tie.Need-returns
-unfolding sixIn
+unfolding six_in
 returns c =
     λ i. record {
       x = c.before.before.before.before.before.before.before.before.before.of-bits.ensures i;

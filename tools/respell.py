@@ -150,7 +150,8 @@ def chain(code, at):
 
 
 def all_antt():
-    return sorted(f for part in ('specs', 'proofs') for f in glob.glob(f'crates/*/{part}/**/*.antt', recursive=True))
+    # answers and invariants are named by Rattle, and written in today's spelling
+    return sorted(f for part in ('specs', 'proofs') for f in glob.glob(f'crates/*/{part}/**/*.antt', recursive=True) if not re.search(r'/proofs/.+/(Answers|Invariants)\.antt$', f))
 
 
 def module_of(path):
@@ -340,6 +341,8 @@ def main():
         foreign = {n.strip() for m in GHOST_USE.finditer(text) if m[2] not in homes for n in (m[3] or '').split(',')}
         ghost = set().union(*(set(TOKEN.findall(s)) for k, s in rust_parts(text) if k == 'ghost'), set())
         names = {n: new[n] for n in ghost & set(new) - foreign}
+        aliases = {n.partition(' as ')[2].strip() for m in GHOST_USE.finditer(text) for n in (m[3] or '').split(',')}
+        names.update((n, respelled(n)) for n in aliases if n and old(n))
         told = {}
         for n in sorted(ghost | rust_names(text)):
             to = names.get(n, n)

@@ -1,5 +1,5 @@
 -- A fraction with a sign, by the part above zero and the part below; a sum of two is the rounding of one. For both formats. Assumes nothing.
-use Prim.Native.Nat.{ℕ, zero, suc, ◌+◌, ◌-◌, ◌*◌, ◌<◌}
+use Prim.Native.Nat.{ℕ, ◌+◌, ◌-◌, ◌*◌, ◌<◌}
 use mathlib.Core.Path.{◌≡◌, refl, sym, ◌∙◌}
 use mathlib.Core.Bool.{Bool, true, false, cond}
 use native.Mathlib.Nat.{zero-mul}
@@ -7,7 +7,7 @@ use native.Mathlib.Omega.{arith}
 use borrow.Author.Tests.{ltb-true, ltb-false}
 use lib.Dec.{ltb}
 use lib.IntN.{pos}
-use lib.Ieee.{Float, fin, Format, binary32, binary64, round, sum}
+use lib.Ieee.{fin, Format, binary32, binary64, round, sum}
 use lib.Ieee.Scale.{round_same}
 
 -- ---- zero

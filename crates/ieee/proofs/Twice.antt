@@ -1,15 +1,15 @@
 -- A fraction that is rounded to an f64 first and then to an f32 is rounded as it would be at once, as long as the f64 is in the f32's normal range and lies not
 -- in the middle between two f32s. Assumes nothing.
 use mathlib.Core.Path.{◌≡◌, refl, sym, ap, ap₂, ◌∙◌, subst}
-use mathlib.Core.Logic.{◌⊎◌, inl, inr}
-use Prim.Native.Nat.{ℕ, zero, suc, ◌+◌, ◌-◌, ◌*◌, ◌/◌, ◌%◌, ◌^◌, ◌≤◌, ◌<◌}
-use native.Mathlib.Nat.{le_refl, le_trans, le_of_eq, le_of_lt, lt_of_lt_of_le, lt_of_le_of_lt, lt_of_not-le, zero-lt-suc, mul-one, mul_comm, mul_assoc, mul-pos, suc-mul, add-mul, mul-le-mul_right, mul-lt-mul_of_pos_right, mod-lt, pow-suc, eq-or-lt_of_le, eq_of_mul-eq-mul_right}
+use mathlib.Core.Logic.{inl, inr}
+use Prim.Native.Nat.{ℕ, suc, ◌+◌, ◌-◌, ◌*◌, ◌/◌, ◌%◌, ◌^◌, ◌≤◌, ◌<◌}
+use native.Mathlib.Nat.{le_refl, le_trans, le_of_eq, mul_comm, mul_assoc, mul-pos, suc-mul, add-mul, mul-lt-mul_of_pos_right, pow-suc, eq-or-lt_of_le, eq_of_mul-eq-mul_right}
 use native.Mathlib.Omega.{arith}
-use mathlib.Core.Bool.{Bool, true, false, not, cond, beq}
-use lib.Dec.{T, ltb, lit<, lit≤}
+use mathlib.Core.Bool.{Bool, false, cond, beq}
+use lib.Dec.{ltb, lit<, lit≤}
 use lib.Arith.{le→nltb}
-use lib.Pow.{pow-add, pow_pos, pow_mono}
-use lib.Ieee.{Float, nan, inf, fin, Format, binary32, binary64, prec, emax, low, up, down, odd, units, round, sum, of_bits, top}
+use lib.Pow.{pow_pos}
+use lib.Ieee.{Float, nan, inf, fin, Format, binary32, binary64, prec, low, down, odd, units, round, sum, of_bits, top}
 use lib.Ieee.Fits.{round_is, down_pos}
 use lib.Ieee.Bits.{cond_no}
 use lib.Ieee.Exact.{HasValue, units_val}
@@ -19,7 +19,7 @@ use lib.Ieee.Nearest.{closest}
 use Rattle.lists.proofs.Naturals.{le_or_lt}
 use Rattle.packing.proofs.Half.{closest_even, closest_up}
 use Rattle.ieee.proofs.Nearby.{nearest_up, nearest_down, even_or_odd}
-use Rattle.packing.proofs.Open.{Between, round_open}
+use Rattle.packing.proofs.Open.{round_open}
 use Rattle.packing.proofs.Units.{units_bits}
 use Rattle.packing.proofs.Cases.{at_normal}
 use Rattle.packing.proofs.Sums.{order, like_or_not, sum_like, sum_more, sum_less, sum_none}

@@ -1,7 +1,7 @@
 -- binary32's operations by short names: the one set that every definition above this crate is written in. Each is the operation of `lib.Ieee`, or of the
 -- pages beside this one, at binary32. Definitions only.
 use Rattle.std.specs.Prelude.{ℕ, Bool, false, ℤ, pos, Float}
-use Rattle.std.specs.Float.{nan, inf, fin, binary32, binary64}
+use Rattle.std.specs.Float.{nan, inf, fin, binary32}
 use Rattle.std.specs.Float.Ieee.{of_bits, to_bits, to_signed, of_int, add, sub, mul, div, lt, le, eq}
 use Rattle.ieee.specs.Fused.{fma, convert}
 use Rattle.ieee.specs.Root.{sqrt}

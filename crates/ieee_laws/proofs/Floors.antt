@@ -1,6 +1,5 @@
 -- The whole part of a number above zero, downward, is the integer that a cast gives: `std::num`'s casts work `floor` out. Over either format. Assumes nothing.
-use Rattle.std.proofs.Common.{◌≡◌, ℕ, zero, suc, ◌+◌, ◌-◌, ◌*◌, ◌/◌, ◌^◌, ◌<◌, ◌≤◌, min, Bool, true, false, cond, T, eqb, ltb, ℤ, pos, sym, refl, ap, ◌∙◌, zero-le, mul_comm, div-lt_iff_lt-mul, one-mul, zero-mul, mul-one, arith, eqb→eq, ltb→lt, pow_pos}
-use native.Mathlib.Nat.{div-eq_of_lt, zero-div}
+use Rattle.std.proofs.Common.{◌≡◌, ℕ, ◌-◌, ◌*◌, ◌/◌, ◌^◌, ◌<◌, min, true, false, T, eqb, pos, sym, refl, ap, ◌∙◌, zero-le, div-lt_iff_lt-mul, one-mul, zero-mul, mul-one, arith, eqb→eq, ltb→lt}
 use lib.Ieee.{Float, nan, inf, fin, Format, up, down, round, lt, eq, fits, of_int, to_unsigned}
 use lib.Ieee.Fits.{down_pos, and_l, round-fits}
 use lib.Ieee.Back.{round_whole, whole_unique}

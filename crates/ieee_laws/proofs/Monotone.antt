@@ -1,5 +1,5 @@
 -- The operations keep the order of their operands. For both formats, and for finite operands, whose results may be infinite. Assumes nothing.
-use Rattle.std.proofs.Common.{◌≡◌, ℕ, suc, ◌+◌, ◌-◌, ◌*◌, ◌/◌, ◌^◌, ◌<◌, ◌≤◌, min, Bool, true, false, not, T, eqb, ltb, ◌⊎◌, ℤ, pos, sym, refl, ap, inl, inr, ⊎_elim, le_trans, le_of_eq, le_refl, mul-le-mul_right, mod-lt, mul_assoc, suc-mul, mul_comm, div-lt_iff_lt-mul, add-mul, eq-zero-or-pos, mul-pos, mul-zero, div-add-mod', zero-mul, mul_right_comm, le_of_mul-le-mul_right, mul_left_comm, arith, ltb-false, ltb-true, ne_eqb}
+use Rattle.std.proofs.Common.{◌≡◌, ℕ, suc, ◌+◌, ◌-◌, ◌*◌, ◌/◌, ◌^◌, ◌<◌, ◌≤◌, min, Bool, true, false, not, T, eqb, ◌⊎◌, ℤ, pos, sym, refl, ap, inl, inr, ⊎_elim, le_trans, le_of_eq, le_refl, mul-le-mul_right, mod-lt, mul_assoc, suc-mul, mul_comm, div-lt_iff_lt-mul, add-mul, eq-zero-or-pos, mul-pos, mul-zero, div-add-mod', zero-mul, mul_right_comm, le_of_mul-le-mul_right, mul_left_comm, arith, ne_eqb}
 use mathlib.Core.Bool.{false≢true}
 use lib.Ieee.{Float, nan, inf, fin, Format, up, down, unlike, round, sum, neg, add, sub, mul, div, lt, le, is_nan, of_int, to_unsigned}
 use lib.Ieee.Fits.{up_pos, down_pos}

@@ -1,7 +1,7 @@
 -- The short paths and the general path agree: whatever meets the contract of the one and whatever meets that of the other are the same float. So which path a call of
 -- `mul_add` or `narrow` takes is a matter of time alone. Each premise is a contract of the code, as its comment names it. Assumes nothing.
 use Rattle.std.proofs.Common.{◌≡◌, ℕ, ◌+◌, ◌*◌, ◌^◌, Bool, T, sym, ap, ◌∙◌, subst}
-use lib.Ieee.{Float, binary32, binary64, unlike, round, sum, add, mul, fits, to_bits, of_bits}
+use lib.Ieee.{Float, binary32, binary64, unlike, round, sum, mul, fits, to_bits, of_bits}
 use lib.Ieee.Fits.{add-fits}
 use lib.Ieee.Bits.{of_bits-to_bits}
 use Rattle.packing.specs.Parts.{Splits}

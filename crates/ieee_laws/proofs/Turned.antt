@@ -1,11 +1,10 @@
 -- Sign symmetry of the operations of `lib.Ieee`: with operands turned, the result is turned, up to the sign of a zero. For both formats. Assumes nothing.
-use Rattle.std.proofs.Common.{◌≡◌, ℕ, zero, suc, ◌+◌, ◌-◌, ◌*◌, ◌^◌, ◌<◌, Bool, true, false, cond, not, ◌&&◌, ◌||◌, eqb, ltb, ◌⊎◌, pos, sym, refl, ap, ◌∙◌, inl, inr, ⊎_elim, add-zero, eq-zero-or-pos, add_comm, mul-pos, mul-zero, zero-add, zero-mul, arith, ltb-false, ltb-true, le-ltb, eq-eqb, ne_eqb, eqb-true}
+use Rattle.std.proofs.Common.{◌≡◌, ℕ, zero, suc, ◌+◌, ◌-◌, ◌*◌, ◌^◌, ◌<◌, Bool, true, false, cond, not, ◌&&◌, eqb, ltb, ◌⊎◌, sym, refl, ap, ◌∙◌, inl, inr, ⊎_elim, add-zero, eq-zero-or-pos, add_comm, mul-pos, mul-zero, zero-add, zero-mul, arith, ltb-false, ltb-true, le-ltb, eq-eqb, ne_eqb, eqb-true}
 use mathlib.Core.Bool.{beq}
 use borrow.Author.Tests.{eqb-false, not-true}
-use lib.Ieee.{Float, nan, inf, fin, Format, prec, emax, low, binary32, binary64, up, down, unlike, odd, units, round, neg, sum, add, sub, mul, div}
+use lib.Ieee.{Float, nan, inf, fin, Format, prec, emax, low, up, down, unlike, odd, units, round, neg, sum, add, sub, mul, div}
 use lib.Ieee.{below, level, lt, eq, le}
 use lib.Ieee.Fits.{up_pos, down_pos}
-use lib.Ieee.Scale.{round_same}
 use Rattle.lists.proofs.Bools.{and_false, not_not, or_true}
 use Rattle.ieee.proofs.SignedParts.{round_zero}
 use Rattle.ieee_laws.specs.Sign.{turn, Signs, turned, no_sign, Turned, of_nan, of_inf, of_fin}

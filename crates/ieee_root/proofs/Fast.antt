@@ -1,15 +1,15 @@
 -- A root to the nearest whole number is the digits of the rounded root. Assumes nothing.
 use mathlib.Core.Path.{◌≡◌, refl, sym, ap, ap₂, ◌∙◌, subst}
-use mathlib.Core.Logic.{◌⊎◌, inl, inr}
+use mathlib.Core.Logic.{inl, inr}
 use Prim.Native.Nat.{Ordering}
-use Prim.Native.Nat.{ℕ, zero, suc, ◌+◌, ◌-◌, ◌*◌, ◌/◌, ◌%◌, ◌^◌, ◌≤◌, ◌<◌, zero-le}
-use native.Mathlib.Nat.{le_refl, le_trans, le_of_eq, le_of_lt, lt_of_lt_of_le, lt_of_le_of_lt, mul_comm, mul_assoc, mul_left_comm, mul-le-mul, mul-le-mul_left, mul-le-mul_right, add-mul, mul-add, mul-one, zero-add, suc-mul, mul-suc, mod-eq_of_lt, mul-lt-mul_of_pos_right}
+use Prim.Native.Nat.{ℕ, suc, ◌+◌, ◌-◌, ◌*◌, ◌/◌, ◌%◌, ◌^◌, ◌≤◌, ◌<◌}
+use native.Mathlib.Nat.{lt_of_lt_of_le, lt_of_le_of_lt, mul_assoc, mul-le-mul, mul-le-mul_left, zero-add, suc-mul, mul-suc, mod-eq_of_lt, mul-lt-mul_of_pos_right}
 use native.Mathlib.Omega.{arith}
-use mathlib.Core.Bool.{Bool, true, false, cond}
-use lib.Dec.{lit<, lit≤}
+use mathlib.Core.Bool.{false}
+use lib.Dec.{lit<}
 use lib.Pow.{pow-add, pow_pos, pow_mono}
-use lib.Ieee.{Float, binary32, round, of_bits}
-use lib.Ieee.Nearest.{closest, closest_same}
+use lib.Ieee.{binary32, round, of_bits}
+use lib.Ieee.Nearest.{closest}
 use Rattle.lists.proofs.Naturals.{le_or_lt}
 use Rattle.ieee.specs.Root.{halves}
 use Rattle.packing.proofs.Half.{closest_is, cmp_lt, cmp_gt}

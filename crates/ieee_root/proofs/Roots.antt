@@ -1,15 +1,15 @@
 -- The whole root of a number, and the square root of a value by a root of 63 digits. Assumes nothing.
-use mathlib.Core.Path.{◌≡◌, refl, sym, ap, ap₂, ◌∙◌, subst}
+use mathlib.Core.Path.{◌≡◌, refl, sym, ap, ◌∙◌, subst}
 use mathlib.Core.Logic.{◌⊎◌, inl, inr}
-use Prim.Native.Nat.{ℕ, zero, suc, ◌+◌, ◌-◌, ◌*◌, ◌/◌, ◌%◌, ◌^◌, ◌≤◌, ◌<◌, zero-le}
-use native.Mathlib.Nat.{le_refl, le_trans, le_of_eq, le_of_lt, lt_of_lt_of_le, lt_of_le_of_lt, lt_of_not-le, not-le_of_lt, le_antisymm, le_of_suc-le-suc, zero-lt-suc, add-zero, mul_comm, mul_assoc, mul_left_comm, mul_right_comm, mul-pos, mul-le-mul, mul-le-mul_left, mul-le-mul_right, mul-lt-mul_of_pos_right, mul-div_cancel, pow-suc, pow-le-pow_left, div-lt_iff_lt-mul, eq-zero-or-pos}
+use Prim.Native.Nat.{ℕ, zero, suc, ◌+◌, ◌*◌, ◌/◌, ◌^◌, ◌≤◌, ◌<◌, zero-le}
+use native.Mathlib.Nat.{le_trans, le_of_eq, le_of_lt, lt_of_lt_of_le, lt_of_le_of_lt, lt_of_not-le, not-le_of_lt, le_antisymm, zero-lt-suc, add-zero, mul_comm, mul_assoc, mul_left_comm, mul_right_comm, mul-pos, mul-le-mul, mul-le-mul_left, mul-lt-mul_of_pos_right, mul-div_cancel, pow-suc, pow-le-pow_left, div-lt_iff_lt-mul}
 use native.Mathlib.Numerals.{add-one}
 use native.Mathlib.Omega.{arith}
 use mathlib.Core.Bool.{Bool, true, false, not, cond}
-use lib.Dec.{T, leb, eqb, leb→le, nleb→lt, eqb→eq, T_not}
+use lib.Dec.{T, leb, eqb, leb→le, nleb→lt, eqb→eq}
 use lib.Arith.{lt_of_le-ne}
-use lib.Pow.{pow-add, pow_pos, pow_mono}
-use lib.Ieee.{Float, nan, inf, fin, Format, binary32, low, up, down, size, round}
+use lib.Pow.{pow-add, pow_pos}
+use lib.Ieee.{Float, nan, inf, fin, binary32, up, down, size, round}
 use lib.Ieee.Digits.{size-lt}
 use lib.Ieee.Fits.{down_pos, eq→eqb}
 use lib.Ieee.Scale.{round_same}
@@ -17,7 +17,7 @@ use lib.Ieee.Positive.{positive}
 use lib.Ieee.Exact.{HasValue}
 use Rattle.lists.proofs.Naturals.{le_or_lt}
 use Rattle.ieee.specs.Root.{root_in, root, halves, sqrt}
-use Rattle.packing.proofs.Open.{Between, round_sticky}
+use Rattle.packing.proofs.Open.{round_sticky}
 
 -- ---- squares
 pub twice_square : (x : ℕ) → 2 * x * (2 * x) ≡ 4 * (x * x)

@@ -1,6 +1,6 @@
 -- A float gone to a whole number, and that as a signed integer, of a value m * 2 ^ x / 2 ^ 149. Assumes nothing.
 use mathlib.Core.Path.{◌≡◌, refl, sym, ap, ◌∙◌}
-use Prim.Native.Nat.{ℕ, suc, ◌+◌, ◌-◌, ◌*◌, ◌/◌, ◌^◌, ◌≤◌, ◌<◌}
+use Prim.Native.Nat.{ℕ, ◌+◌, ◌-◌, ◌*◌, ◌/◌, ◌^◌, ◌≤◌, ◌<◌}
 use native.Mathlib.Nat.{le_of_lt, lt_of_lt_of_le, zero-lt-suc, div-one, mul-one, mul_right_comm, eq_of_mul-eq-mul_right}
 use native.Mathlib.Omega.{arith}
 use mathlib.Core.Bool.{Bool, true, false}
@@ -10,9 +10,9 @@ use lib.Dec.{T}
 use lib.Ieee.Fits.{down_pos, round-fits}
 use lib.Ieee.Exact.{HasValue, round_exact}
 use lib.Ieee.Back.{round_whole, whole_unique}
-use lib.Ieee.Nearest.{closest, div_same}
+use lib.Ieee.Nearest.{div_same}
 use lib.Ieee.Scale.{finite}
-use mathlib.Core.Logic.{◌⊎◌, inl, inr}
+use mathlib.Core.Logic.{inl, inr}
 use Rattle.lists.proofs.Naturals.{le_or_lt}
 use Rattle.ieee_whole.specs.declared.Way.{Way}
 use Rattle.ieee_whole.specs.declared.Way.TheVariants.{Zero}

@@ -1,10 +1,10 @@
 -- The whole parts of equal fractions are equal. Assumes nothing.
-use mathlib.Core.Path.{◌≡◌, refl, sym, ap, ap₂, ◌∙◌, subst}
+use mathlib.Core.Path.{◌≡◌, refl, sym, ap, ◌∙◌}
 use Prim.Native.Nat.{Ordering}
-use Prim.Native.Nat.{ℕ, zero, suc, ◌+◌, ◌-◌, ◌*◌, ◌/◌, ◌%◌, ◌^◌, ◌≤◌, ◌<◌, min, zero-le, suc-le-suc}
-use native.Mathlib.Nat.{le_refl, le_trans, le_of_eq, le_of_lt, le_antisymm, le_of_suc-le-suc, lt_of_lt_of_le, lt_of_le_of_lt, zero-lt-suc, add-zero, zero-add, zero-mul, one-mul, div-one, suc-mul, mul-one, mul_comm, mul_assoc, mul_right_comm, mul-le-mul, mul-le-mul_right, le_of_mul-le-mul_right, div-lt_iff_lt-mul, div-eq_of_lt, eq_of_mul-eq-mul_right}
+use Prim.Native.Nat.{ℕ, zero, suc, ◌+◌, ◌-◌, ◌*◌, ◌/◌, ◌^◌, ◌≤◌, ◌<◌, min, zero-le, suc-le-suc}
+use native.Mathlib.Nat.{le_refl, le_trans, le_of_eq, le_of_lt, le_antisymm, le_of_suc-le-suc, lt_of_lt_of_le, zero-lt-suc, add-zero, zero-mul, one-mul, div-one, suc-mul, mul-one, mul_comm, mul_assoc, mul_right_comm, mul-le-mul, mul-le-mul_right, le_of_mul-le-mul_right, div-lt_iff_lt-mul, div-eq_of_lt}
 use native.Mathlib.Omega.{arith}
-use mathlib.Core.Bool.{Bool, true, false, cond, true≢false}
+use mathlib.Core.Bool.{Bool, true, false, true≢false}
 use lib.IntN.{ℤ, pos, neg_ℤ}
 use lib.Arith.{le-zero}
 use lib.Pow.{pow-add, pow_pos, pow_mono}
@@ -13,7 +13,7 @@ use lib.Ieee.Digits.{back}
 use lib.Ieee.Fits.{down_pos}
 use lib.Ieee.Exact.{HasValue}
 use lib.Ieee.Nearest.{closest, closest_same, closest_mono, div_same}
-use lib.Ieee.Scale.{round_same, finite}
+use lib.Ieee.Scale.{finite}
 use Rattle.packing.proofs.Half.{closest_is}
 use Rattle.ieee_whole.specs.declared.Way.{Way}
 use Rattle.ieee_whole.specs.declared.Way.TheVariants.{Zero, Down, Near}

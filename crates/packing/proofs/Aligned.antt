@@ -1,16 +1,15 @@
 -- A sum or a difference of an exact number and one with a sticky last digit rounds as that of the exact ones. Assumes nothing.
-use mathlib.Core.Path.{◌≡◌, refl, sym, ap, ap₂, ◌∙◌, subst}
-use mathlib.Core.Logic.{◌⊎◌, inl, inr}
-use Prim.Native.Nat.{ℕ, zero, suc, ◌+◌, ◌-◌, ◌*◌, ◌/◌, ◌%◌, ◌^◌, ◌≤◌, ◌<◌}
-use native.Mathlib.Nat.{le_trans, le_of_eq, lt_of_lt_of_le, lt_of_le_of_lt, add-mul, suc-mul, mul_comm, mul_assoc, mul-lt-mul_of_pos_right, mul-sub, pow-suc}
+use mathlib.Core.Path.{◌≡◌, sym, ap, ◌∙◌, subst}
+use mathlib.Core.Logic.{inl, inr}
+use Prim.Native.Nat.{ℕ, suc, ◌+◌, ◌-◌, ◌*◌, ◌/◌, ◌%◌, ◌^◌, ◌≤◌, ◌<◌}
+use native.Mathlib.Nat.{add-mul, suc-mul, mul_comm, mul_assoc, mul-lt-mul_of_pos_right, pow-suc}
 use native.Mathlib.Omega.{arith}
 use mathlib.Core.Bool.{Bool}
-use lib.Dec.{lit≤}
 use lib.Pow.{pow-add, pow_pos}
-use lib.Ieee.{Float, binary32, round}
+use lib.Ieee.{binary32, round}
 use lib.Ieee.Digits.{back}
 use Rattle.packing.specs.Parts.{Sticky}
-use Rattle.packing.proofs.Open.{Between, round_sticky}
+use Rattle.packing.proofs.Open.{round_sticky}
 use Rattle.packing.proofs.Sums.{diff_mul}
 
 -- ---- a number with a sticky last digit, at a lower place

@@ -1,16 +1,15 @@
 -- What `unsigned_bits` returns, by the case of its code: m has its highest digit at place j, and z zeros above it. Assumes nothing.
 use mathlib.Core.Path.{◌≡◌, refl, sym, ap, ◌∙◌, subst}
-use mathlib.Core.Logic.{◌⊎◌, inl, inr}
-use Prim.Native.Nat.{ℕ, zero, suc, ◌+◌, ◌-◌, ◌*◌, ◌/◌, ◌%◌, ◌^◌, ◌≤◌, ◌<◌}
-use native.Mathlib.Nat.{le_refl, le_trans, le_of_eq, le_of_lt, le_antisymm, lt_of_lt_of_le, lt_of_le_of_lt, zero-mul, zero-add, zero-div, add_comm, mul_comm, mul_assoc, mul_right_comm, mul-le-mul_right, mul-le-mul_left, mul-le-mul, mul-lt-mul_of_pos_right}
+use mathlib.Core.Logic.{inl, inr}
+use Prim.Native.Nat.{ℕ, suc, ◌+◌, ◌-◌, ◌*◌, ◌/◌, ◌^◌, ◌≤◌, ◌<◌}
+use native.Mathlib.Nat.{le_refl, le_trans, le_of_eq, le_of_lt, lt_of_lt_of_le, zero-mul, zero-add, add_comm, mul-le-mul_right, mul-le-mul, mul-lt-mul_of_pos_right}
 use native.Mathlib.Omega.{arith}
 use mathlib.Core.Bool.{Bool, true, false, cond}
 use lib.IntN.{pos}
 use lib.Arith.{le-zero}
-use lib.Pow.{pow-add, pow_pos, pow_mono, pow-lt, shl_lt}
-use lib.Ieee.{Float, fin, inf, binary32, size, units, round, of_bits, top}
+use lib.Pow.{pow-add, pow_pos, pow_mono, shl_lt}
+use lib.Ieee.{fin, binary32, size, units, round, of_bits, top}
 use lib.Ieee.Nearest.{closest, closest_mono}
-use Rattle.lists.proofs.Naturals.{le_or_lt}
 use Rattle.packing.proofs.Size.{size_frac}
 use Rattle.packing.proofs.Scaled.{round_shift}
 use Rattle.packing.proofs.Units.{units_bits, units_inf, inf_bits, zero_bits}

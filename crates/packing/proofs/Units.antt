@@ -1,16 +1,16 @@
 -- The bit pattern of q * 2 ^ k units of an f32 is k * 2 ^ 23 + q, also where q has been rounded up to 2 ^ 24. Assumes nothing.
 use mathlib.Core.Path.{◌≡◌, refl, sym, ap, ◌∙◌, subst}
 use mathlib.Core.Logic.{◌⊎◌, inl, inr}
-use Prim.Native.Nat.{ℕ, zero, suc, ◌+◌, ◌-◌, ◌*◌, ◌/◌, ◌%◌, ◌^◌, ◌≤◌, ◌<◌}
-use native.Mathlib.Nat.{le_refl, le_trans, le_of_eq, le_of_lt, le_antisymm, le_of_suc-le-suc, le_of_mul-le-mul_right, mul-le-mul_left, lt_irrefl, lt_of_lt_of_le, lt_of_le_of_lt, zero-lt-suc, zero-mul, zero-add, add_assoc, mul-one, mul_comm, mul_assoc, mul-le-mul_right, mul-div_cancel, div-one, eq-or-lt_of_le}
+use Prim.Native.Nat.{ℕ, zero, suc, ◌+◌, ◌-◌, ◌*◌, ◌/◌, ◌^◌, ◌≤◌, ◌<◌}
+use native.Mathlib.Nat.{le_refl, le_trans, le_of_eq, le_antisymm, le_of_suc-le-suc, le_of_mul-le-mul_right, mul-le-mul_left, lt_irrefl, lt_of_le_of_lt, zero-lt-suc, add_assoc, mul-one, mul-le-mul_right, mul-div_cancel, eq-or-lt_of_le}
 use native.Mathlib.Omega.{arith}
-use mathlib.Core.Bool.{Bool, true, false, not, cond}
+use mathlib.Core.Bool.{Bool, true, false, cond}
 use lib.IntN.{ℤ, pos}
-use lib.Dec.{T, ltb, lt→ltb, le→leb, lit<, lit≤}
+use lib.Dec.{T, ltb, lt→ltb, lit<}
 use lib.Arith.{le→nltb}
 use lib.Count.{count_trailing_zeros}
 use lib.Pow.{pow-add, pow_pos, pow_mono, pow-lt, shl_lt}
-use lib.Ieee.{Float, inf, fin, Format, binary32, prec, emax, low, up, down, minus, size, odd, units, round, to_bits, of_bits, top, hid, fits}
+use lib.Ieee.{inf, fin, Format, binary32, prec, low, up, down, minus, size, odd, units, to_bits, of_bits, top, hid}
 use lib.Ieee.Digits.{Equals, odd_val, size-le}
 use lib.Ieee.Fits.{down_pos, odd-fits}
 use lib.Ieee.Bits.{of_bits-to_bits, cond_no}

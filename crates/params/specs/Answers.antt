@@ -1,5 +1,5 @@
 -- What an answer says as a number and a count, which answer an entry gives, and what it leaves in the lent list: rules A14, A16, A17 and A19. Definitions only.
-use Rattle.std.specs.Prelude.{ℕ, zero, suc, Bool, cond, List, leb}
+use Rattle.std.specs.Prelude.{ℕ, zero, suc, cond, List, leb}
 use Rattle.lists.specs.Pasted.{pasted}
 use Rattle.params.specs.declared.Answer.{Answer}
 use Rattle.params.specs.declared.Answer.TheVariants.{Done, Short, Refused}

@@ -1,5 +1,5 @@
 -- The table of refusals, rules A2 and A3: the tests by their numbers, and the first that fails. Definitions only.
-use Rattle.std.specs.Prelude.{ℕ, ◌+◌, ◌*◌, Bool, true, false, ◌&&◌, ◌||◌, not, List, [], ◌∷◌, eqb, leb, ltb, Float}
+use Rattle.std.specs.Prelude.{ℕ, ◌+◌, Bool, true, false, ◌&&◌, ◌||◌, not, List, [], ◌∷◌, eqb, leb, ltb, Float}
 use Rattle.std.specs.Float.Ieee.{le, neg}
 use Rattle.params.specs.Limits.{max_side, max_layers, max_planes, max_octave, sample_limit, contrast_low, contrast_high, edge_low, edge_high, sigma_low, sigma_high}
 use Rattle.params.specs.declared.Settings.{Settings}

@@ -1,6 +1,6 @@
 -- The index of a place lies below the length, and no step of working it out wraps. Assumes nothing.
-use Prim.Native.Nat.{ℕ, ◌+◌, ◌-◌, ◌*◌, ◌<◌, ◌≤◌}
-use native.Mathlib.Nat.{mul-le-mul_right, suc-mul, le-mul_of_pos_right}
+use Prim.Native.Nat.{ℕ, ◌+◌, ◌*◌, ◌<◌, ◌≤◌}
+use native.Mathlib.Nat.{le-mul_of_pos_right}
 use native.Mathlib.Omega.{arith}
 use Rattle.lists.proofs.Naturals.{packed}
 use Rattle.picture.specs.Place.{Inside, Within}

@@ -5,7 +5,6 @@ use mathlib.Core.List.{List}
 use lib.Ieee.{Float}
 use Rattle.ieee.specs.F32.{◌⊖◌}
 use Rattle.picture.specs.Picture.{pixel, slope_at}
-use Rattle.picture.specs.declared.Slope.{Slope}
 
 pub slope_of : (img : List Float) (w r c : ℕ) {right left up down : Float} → right ≡ pixel img w r (c + 1) → left ≡ pixel img w r (c - 1) → up ≡ pixel img w (r - 1) c → down ≡ pixel img w (r + 1) c
     → record { dx = right ⊖ left; dy = up ⊖ down } ≡ slope_at img w r c

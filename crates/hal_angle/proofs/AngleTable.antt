@@ -17,7 +17,7 @@ use Rattle.hal_reach.specs.Reach.{in_angle}
 use Rattle.hal_angle.specs.Angle.{sum_of, ahead_of, quarter_of, along_of, lesser_of, greater_of, direction_of, angle_of}
 use Rattle.hal_angle.proofs.AngleLaws.{angle_level, angle_direction}
 use Rattle.hal_reach.proofs.Reach.{reach_dx, reach_dy}
-use Rattle.hal_angle.proofs.AngleUnits.{near, apart, Whole, whole_of, both_most, sum_test, ahead_units}
+use Rattle.hal_angle.proofs.AngleUnits.{near, apart, whole_of, both_most, sum_test, ahead_units}
 
 -- ---- a quarter's four numbers, from place i on
 pub record Row (t : List Float) (i : ℕ) (left down : Bool) : Type 0 where

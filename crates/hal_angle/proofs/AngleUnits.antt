@@ -5,11 +5,11 @@ use mathlib.Core.Bool.{Bool, true, false, not, cond, true≢false}
 use Prim.Native.Nat.{ℕ, ◌+◌, ◌-◌, ◌*◌, ◌^◌, ◌≤◌, ◌<◌, zero-le}
 use native.Mathlib.Nat.{le_trans, le_of_eq, le_of_lt, lt_of_le_of_lt, le_of_mul-le-mul_right, zero-mul, mul-one, mul-pos, mul_comm, mul_assoc, mul_right_comm, mul-le-mul_right, eq_of_mul-eq-mul_right}
 use native.Mathlib.Omega.{arith}
-use borrow.Author.Tests.{lt-ltb, ltb-true}
+use borrow.Author.Tests.{lt-ltb}
 use lib.IntN.{pos}
 use lib.Dec.{T, ltb, ltb→lt, nltb→le, lit<, lit≤}
 use lib.Pow.{pow_pos}
-use lib.Ieee.{Float, nan, inf, fin, binary32, up, down, lt, le, neg, add, sub, div, sum, round, is_nan, of_bits, fits}
+use lib.Ieee.{Float, nan, inf, fin, binary32, up, down, lt, le, neg, add, sub, div, sum, round, of_bits, fits}
 use lib.Ieee.Fits.{down_pos, round_is}
 use lib.Ieee.Exact.{HasValue, units_val, round_exact}
 use lib.Ieee.Back.{round_whole}
@@ -23,7 +23,6 @@ use Rattle.ieee_laws.proofs.Order.{lt_not_le}
 use Rattle.ieee.specs.F32.{abs_of}
 use Rattle.ieee.specs.Numbers.{nought}
 use Rattle.ieee.proofs.Values.{stored}
-use Rattle.ieee.proofs.Doubled.{round_no_nan}
 use Rattle.hal_reach.specs.Reach.{in_reach, in_angle}
 use Rattle.hal_angle.specs.Angle.{sum_of}
 use Rattle.hal.proofs.Range.{Within, Exact, round_within}

@@ -1,16 +1,14 @@
 -- Order, quotient and signs of floats by the fractions that they stand for. Assumes nothing.
 use mathlib.Core.Path.{◌≡◌, refl, sym, ap, ◌∙◌, subst}
-use mathlib.Core.Logic.{◌⊎◌, inl, inr}
-use borrow.Author.Tests.{eq-eqb, ne_eqb}
-use mathlib.Core.Bool.{Bool, true, false, not, ◌&&◌, ◌||◌, true≢false, beq}
-use Prim.Native.Nat.{ℕ, zero, suc, ◌+◌, ◌-◌, ◌*◌, ◌≤◌, ◌<◌}
+use mathlib.Core.Bool.{Bool, true, false, not, ◌&&◌, true≢false}
+use Prim.Native.Nat.{ℕ, zero, suc, ◌+◌, ◌*◌, ◌≤◌, ◌<◌}
 use native.Mathlib.Nat.{le_of_eq, lt_of_lt_of_le, lt_irrefl, not-le_of_lt, zero-mul, mul-pos, mul_comm, mul_assoc, mul_left_comm}
 use native.Mathlib.Omega.{arith}
 use lib.IntN.{ℤ}
 use lib.Dec.{T, ltb, eqb, ltb→lt, lt→ltb, nltb→le, eqb→eq}
-use lib.Ieee.{Float, nan, inf, fin, Format, up, down, unlike, lt, le, eq, div, round, is_nan, of_bits}
+use lib.Ieee.{Float, nan, inf, fin, Format, up, down, unlike, lt, eq, div, round, of_bits}
 use lib.Ieee.Exact.{HasValue}
-use lib.Ieee.Fits.{down_pos, and_l, and_r}
+use lib.Ieee.Fits.{down_pos}
 use lib.Ieee.Order.{transfer}
 use lib.Ieee.Scale.{round_same}
 use lib.Ieee.Positive.{num, first_pos}

@@ -1,6 +1,6 @@
 -- With every sample negated, detection gives the same answer and the same keypoints: the law that specs/SignLaw.antt states.
 -- Assumes nothing.
-use Prim.Native.Nat.{ℕ, zero, suc, ◌+◌, ◌-◌, ◌*◌, ◌≤◌}
+use Prim.Native.Nat.{ℕ, zero, suc, ◌+◌, ◌*◌, ◌≤◌}
 use mathlib.Core.Path.{◌≡◌, refl, ap, ◌∙◌}
 use mathlib.Core.Bool.{Bool, true, false, ◌&&◌, cond}
 use mathlib.Core.List.{List, [], ◌∷◌, ◌++◌}
@@ -12,7 +12,6 @@ use Rattle.ieee.specs.Numbers.{nought}
 use Rattle.ieee_laws.specs.Sign.{turned, of_nan, of_inf, of_fin, Opp}
 use Rattle.ieee_laws.proofs.Turned.{neg_opp, le_turned}
 use Rattle.ieee_laws.proofs.TurnedOps.{back_same}
-use Rattle.lists.specs.Ranges.{every}
 use Rattle.lists.specs.Pasted.{pasted}
 use Rattle.params.specs.Limits.{sample_limit, keypoint_words}
 use Rattle.params.specs.Table.{good_sample, all_good}
@@ -25,7 +24,7 @@ use Rattle.picture.specs.declared.Shape.{Shape}
 use Rattle.detect_keypoint.specs.Search.{search_of}
 use Rattle.detect_keypoint.specs.declared.RawKeypoint.{RawKeypoint}
 use Rattle.detect_extrema.specs.Neighbours.{tied}
-use Rattle.detect_extrema.specs.Scan.{keypoints, words}
+use Rattle.detect_extrema.specs.Scan.{words}
 use Rattle.detect.specs.Entry.{fault_of, list_of, extrema_answer, extrema_out}
 use Rattle.detect.proofs.Faults.{right}
 use Rattle.detect_extrema.specs.SameList.{SameList, none, more}

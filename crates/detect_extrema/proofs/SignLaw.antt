@@ -1,6 +1,6 @@
 -- With every sample negated, the cells give the same keypoints. All but `larger_turned` is for every rule of comparison.
 -- Assumes nothing.
-use Prim.Native.Nat.{ℕ, zero, suc, ◌+◌, ◌-◌, ◌≤◌}
+use Prim.Native.Nat.{ℕ, zero, suc, ◌-◌, ◌≤◌}
 use mathlib.Core.Path.{◌≡◌, refl, ap, ◌∙◌}
 use mathlib.Core.Bool.{Bool, true, false, ◌&&◌, ◌||◌, cond}
 use mathlib.Core.List.{List, [], ◌++◌}
@@ -10,7 +10,7 @@ use lib.ListN.{length, get_or}
 use lib.Ieee.{Float, nan, le}
 use Rattle.ieee.specs.F32.{abs_of}
 use Rattle.ieee.specs.Numbers.{nought}
-use Rattle.ieee_laws.specs.Sign.{turned, Opp}
+use Rattle.ieee_laws.specs.Sign.{Opp}
 use Rattle.ieee_laws.proofs.Turned.{le_turned, lt_turned}
 use Rattle.ieee_laws.proofs.TurnedOps.{zero_any, abs_turned, Signed, above, under, signed}
 use Rattle.ieee_laws.proofs.Order.{le_lt_trans}

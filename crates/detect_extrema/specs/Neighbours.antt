@@ -1,6 +1,6 @@
 -- Whether a cell is an extremum among its 26 neighbours, rule D3, whatever the order of the search. Definitions only.
 use Rattle.std.specs.Prelude.{ℕ, ◌+◌, ◌-◌, Bool, ◌&&◌, ◌||◌, cond, List, eqb, Float}
-use Rattle.ieee.specs.F32.{◌<ᶠ◌, ◌≤ᶠ◌, f32, abs_of}
+use Rattle.ieee.specs.F32.{◌<ᶠ◌, ◌≤ᶠ◌, abs_of}
 use Rattle.ieee.specs.Numbers.{nought}
 use Rattle.lists.specs.Ranges.{every}
 use Rattle.picture.specs.Stack.{sample}

@@ -1,5 +1,5 @@
 -- The keypoints of one layer, row by row, rules D2 and D17, and the words that they go out as, rule A18. Definitions only.
-use Rattle.std.specs.Prelude.{ℕ, ◌+◌, ◌-◌, cond, List, [], ◌∷◌, ◌++◌, Float}
+use Rattle.std.specs.Prelude.{ℕ, ◌-◌, cond, List, [], ◌∷◌, ◌++◌, Float}
 use Rattle.ieee.specs.F32.{bits_of}
 use Rattle.lists.specs.Ranges.{joined}
 use Rattle.params.specs.Limits.{border}

@@ -1,21 +1,19 @@
 -- The rows whose keypoints' cells are held, and those behind them: what they leave together, and how many hints they have. Assumes nothing.
 use Prim.Native.Nat.{ℕ, suc, ◌+◌, ◌-◌, ◌*◌, ◌/◌, ◌<◌, ◌≤◌}
 use mathlib.Core.Path.{◌≡◌, refl, sym, ap, ◌∙◌}
-use mathlib.Core.Bool.{Bool, true, false}
+use mathlib.Core.Bool.{true, false}
 use mathlib.Core.List.{List, [], ◌∷◌, ◌++◌}
 use native.Mathlib.Nat.{le_trans, mul-le-mul}
 use native.Mathlib.Omega.{arith}
 use lib.ListN.{length, take, drop, set, length-append}
 use lib.Seq.{sets, sets-eq, length-sets, length-take-le, take-set-le, take_at}
 use lib.Ieee.{Float}
-use Rattle.lists.specs.Ranges.{joined}
 use Rattle.lists.proofs.Both.{joined_shorter}
 use Rattle.lists.proofs.Ranges.{joined_start, joined_more, joined_split, joined_bound, sets_append}
 use Rattle.params.specs.Limits.{border, max_side, keypoint_words}
 use Rattle.picture.specs.declared.Shape.{Shape}
 use Rattle.detect_refine.specs.Place.{Searched}
 use Rattle.detect_keypoint.specs.declared.Search.{Search}
-use Rattle.detect_keypoint.specs.declared.RawKeypoint.{RawKeypoint}
 use Rattle.detect_extrema.specs.Neighbours.{tied}
 use Rattle.detect_extrema.specs.Scan.{row_of, keypoints, words}
 use Rattle.detect_look.specs.Hints.{hinted}

@@ -1,5 +1,5 @@
 -- How many cells of a run have a hint, one more cell at a time, and that they give no more keypoints than that. Assumes nothing.
-use Prim.Native.Nat.{ℕ, ◌+◌, ◌-◌, ◌*◌, ◌<◌, ◌≤◌}
+use Prim.Native.Nat.{ℕ, ◌+◌, ◌-◌, ◌*◌, ◌≤◌}
 use mathlib.Core.Path.{◌≡◌, refl}
 use mathlib.Core.Bool.{Bool, true, false, cond}
 use mathlib.Core.List.{List, [], ◌∷◌}
@@ -7,7 +7,6 @@ use native.Mathlib.Nat.{mul-one}
 use native.Mathlib.Omega.{arith}
 use lib.ListN.{length, length-append}
 use lib.Ieee.{Float}
-use Rattle.lists.specs.Ranges.{joined}
 use Rattle.lists.proofs.Both.{joined_shorter}
 use Rattle.lists.proofs.Ranges.{joined_start, joined_more, joined_bound}
 use Rattle.picture.specs.declared.Shape.{Shape}

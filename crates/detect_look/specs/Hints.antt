@@ -8,7 +8,7 @@ use Rattle.picture.specs.Stack.{sample}
 use Rattle.picture.specs.declared.Shape.{Shape}
 use Rattle.detect_fit.specs.declared.Near.{Near}
 use Rattle.detect_keypoint.specs.declared.Search.{Search}
-use Rattle.detect_extrema.specs.Neighbours.{tied, keeps_as, loud}
+use Rattle.detect_extrema.specs.Neighbours.{tied, keeps_as}
 
 -- of two, the one that a comparison leaves: the larger, and the smaller. Where one is no number, either.
 unfoldable pub greater_of : Float → Float → Float

@@ -1,5 +1,5 @@
 -- The threshold of detection, rule D1. Definitions only.
-use Rattle.std.specs.Prelude.{ℕ, Bool, false, not, ◌||◌, [], ◌∷◌, pos, ◌==◌, from_bits, nat_lt, Float}
+use Rattle.std.specs.Prelude.{ℕ, ◌||◌, [], ◌∷◌, pos, ◌==◌, from_bits, nat_lt, Float}
 use Rattle.std.specs.Float.{binary64}
 use Rattle.std.specs.Float.Ieee.{of_int, mul, div}
 use Rattle.ieee.specs.F32.{narrowed}

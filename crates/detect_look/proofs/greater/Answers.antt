@@ -1,0 +1,10 @@
+use Rattle.detect_look.specs.Hints.{greater_of}
+use Rattle.detect_look.proofs.greater.Goals as goal
+
+pub returns-then-a-b : goal.returns-then-a-b
+unfolding greater_of
+returns-then-a-b c = rw c.if-a-b.true
+
+pub returns-else-a-b : goal.returns-else-a-b
+unfolding greater_of
+returns-else-a-b c = rw c.if-a-b.false

@@ -1,17 +1,16 @@
 -- What the checks up to 5 leave known, and the first fault step by step. Assumes nothing.
-use Prim.Native.Nat.{ℕ, ◌*◌, ◌<◌, ◌≤◌}
-use mathlib.Core.Path.{◌≡◌, refl, sym, ap, ◌∙◌, subst}
-use mathlib.Core.Bool.{Bool, true, false, not, ◌&&◌, ◌||◌, true≢false, false≢true}
+use Prim.Native.Nat.{ℕ, ◌*◌, ◌≤◌}
+use mathlib.Core.Path.{◌≡◌, refl}
+use mathlib.Core.Bool.{true, false, ◌||◌}
 use mathlib.Core.List.{List}
 use native.Mathlib.Nat.{mul-le-mul}
-use native.Mathlib.Omega.{arith}
-use borrow.Author.Tests.{ltb-true, ltb-false, eqb-true, not-true, not-false, eq-eqb, ne_eqb}
-use lib.Dec.{ltb, eqb}
+use borrow.Author.Tests.{ltb-true, ltb-false, not-false, eq-eqb, ne_eqb}
+use lib.Dec.{ltb}
 use lib.ListN.{length}
 use lib.Ieee.{Float}
-use Rattle.lists.proofs.Bools.{and_both, or_true}
-use Rattle.params.specs.Limits.{max_side, max_octave, scale_low, scale_high}
-use Rattle.params.specs.Table.{within, first_fault, side_wrong, shape_wrong, length_wrong}
+use Rattle.lists.proofs.Bools.{and_both}
+use Rattle.params.specs.Limits.{max_side, max_octave}
+use Rattle.params.specs.Table.{first_fault, side_wrong, shape_wrong, length_wrong}
 use Rattle.params.proofs.Bools.{or_neither, in_range}
 use Rattle.picture.specs.declared.Size.{Size}
 use Rattle.detect_keypoint.specs.declared.RawKeypoint.{RawKeypoint}

@@ -1,11 +1,10 @@
 -- The laws of orientation that specs/Rules.antt states. Assumes nothing.
-use Prim.Native.Nat.{ℕ, suc, ◌+◌, ◌*◌, ◌/◌, ◌%◌, ◌^◌, ◌<◌, ◌≤◌}
-use mathlib.Core.Path.{◌≡◌, refl, sym, ap, ◌∙◌, subst}
-use mathlib.Core.Bool.{Bool, true, false, not, ◌&&◌, ◌||◌}
-use mathlib.Core.List.{List, map}
+use Prim.Native.Nat.{ℕ, ◌*◌, ◌^◌, ◌≤◌}
+use mathlib.Core.Path.{◌≡◌, refl, ap}
+use mathlib.Core.Bool.{Bool, true, false, ◌&&◌}
+use mathlib.Core.List.{List}
 use native.Mathlib.Omega.{arith}
 use borrow.Author.Tests.{lt-ltb, le-ltb, le-leb, lt-leb}
-use lib.Dec.{leb, ltb}
 use lib.ListN.{length, get_or, get_or-map}
 use lib.Ieee.{Float, nan, binary32, of_bits, of_int, mul, div, lt, le}
 use lib.Ieee.Scale.{finite}
@@ -16,7 +15,7 @@ use Rattle.ieee_laws.proofs.Order.{le_trans_float}
 use Rattle.ieee_laws.proofs.Monotone.{nil}
 use Rattle.ieee_laws.proofs.Bounds.{Bounds, mul_bounds_by, div_bounds_by}
 use Rattle.lists.specs.Ranges.{every}
-use Rattle.params.specs.Limits.{border, max_layers, max_octave, scale_low, scale_high}
+use Rattle.params.specs.Limits.{max_layers, max_octave, scale_low, scale_high}
 use Rattle.params.specs.Table.{within}
 use Rattle.params.specs.declared.Settings.{Settings}
 use Rattle.picture.specs.declared.Size.{Size}

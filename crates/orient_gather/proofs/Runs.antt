@@ -17,34 +17,12 @@ use Rattle.orient_tally.specs.Tally.{early, sample_of, tallied}
 use Rattle.orient_tally.specs.Place.{Placed, Asked, InRange}
 use Rattle.orient_tally.specs.Runs.{sample_in}
 use Rattle.orient_gather.specs.Runs.{run_of, run_length}
+use Rattle.orient_gather.proofs.Length.{length_of}
 use Rattle.orient_tally.specs.declared.Sample.{Sample}
 use Rattle.orient_tally.specs.declared.Run.{Run}
 use Rattle.orient_tally.specs.declared.Tally.{Tally}
 use Rattle.orient_tally.proofs.After.{after, after_more}
 use Rattle.orient_tally.proofs.Rules.{tally_rule}
-
--- ---- how long a run is
-
-pub length_late : (win : Window) (n k m : ℕ) → early n ≤ k → m ≡ win.cols - k % win.cols → m ≡ run_length win n k
-unfolding run_length
-length_late win n k m h z = z ∙ rw (le-leb (early n) k h)
-
-pub length_early : (win : Window) (n k m : ℕ) → k < early n → m ≡ min (early n - k) (win.cols - k % win.cols) → m ≡ run_length win n k
-unfolding run_length
-length_early win n k m h z = z ∙ rw (lt-leb (early n) k h)
-
--- it has a cell, it does not leave the row, and all of its cells are early, or all are late
-record Length (e k rest m : ℕ) : Type 0 where
-  pub some : 0 < m
-  pub inside : m ≤ rest
-  pub alike : (i : ℕ) → i < m → leb e (k + i) ≡ leb e k
-
-length_of : (win : Window) (n k : ℕ) → k % win.cols < win.cols → Length (early n) k (win.cols - k % win.cols) (run_length win n k)
-length_of win n k h =
-    ⊎_elim
-    (λ l. rw (← length_late win n k (win.cols - k % win.cols) l refl) (record { some = omega arith; inside = omega arith; alike = λ i b. rw (le-leb (early n) k l) (le-leb (early n) (k + i) (omega arith)) }))
-    (λ l. rw (← length_early win n k (min (early n - k) (win.cols - k % win.cols)) l refl) (record { some = omega arith; inside = omega arith; alike = λ i b. rw (lt-leb (early n) k l) (lt-leb (early n) (k + i) (omega arith)) }))
-    (le_or_lt (early n) k)
 
 -- ---- a cell of a run
 

@@ -1,8 +1,8 @@
 -- The parabola through a strict peak: its top lies at most 32 bins from the peak. Assumes nothing.
 use Prim.Native.Nat.{ℕ, suc, ◌-◌, ◌*◌, ◌^◌, ◌<◌, ◌≤◌}
 use mathlib.Core.Path.{◌≡◌, refl, sym, ap, ◌∙◌, subst}
-use mathlib.Core.Bool.{Bool, true, false, false≢true}
-use mathlib.Core.Logic.{◌⊎◌, ⊎_elim}
+use mathlib.Core.Bool.{true, false}
+use mathlib.Core.Logic.{⊎_elim}
 use native.Mathlib.Nat.{mul_comm, mul_assoc, mul_left_comm, one-mul, mul-pos, mul-le-mul_right, le_of_mul-le-mul_right, pow-suc, eq-zero-or-pos}
 use native.Mathlib.Omega.{arith}
 use lib.Dec.{T}
@@ -21,7 +21,7 @@ use Rattle.ieee_laws.proofs.Monotone.{nil}
 use Rattle.ieee_laws.proofs.Order.{round_marked}
 use Rattle.ieee_laws.proofs.Bounds.{Bounds, bounds_finite, marked_nonneg}
 use Rattle.hal_angle.proofs.AngleValues.{div_value}
-use Rattle.orient_laws.proofs.Near.{Near, near, near_value, divisor}
+use Rattle.orient_laws.proofs.Near.{Near, near, near_value}
 use Rattle.orient_laws.proofs.Units.{At, Units, sub_units, at_value, value_at, at_less}
 
 -- a number of units that binary32 holds is rounded to itself

@@ -2,14 +2,14 @@
 use Prim.Native.Nat.{ℕ, zero, suc, ◌+◌, ◌-◌, ◌*◌, ◌/◌, ◌%◌, ◌^◌, ◌<◌, ◌≤◌}
 use mathlib.Core.Path.{◌≡◌, refl, sym, ap, ◌∙◌, subst}
 use mathlib.Core.Bool.{Bool, true, false, false≢true}
-use mathlib.Core.Logic.{◌⊎◌, ⊎_elim}
+use mathlib.Core.Logic.{⊎_elim}
 use native.Mathlib.Nat.{mul_assoc, mul_comm, mul-one, lt_of_mul-lt-mul_right, div-add-mod', mod-eq_of_lt, mod-lt, mul-le-mul_right}
 use native.Mathlib.Omega.{arith}
 use borrow.Author.Tests.{leb-false}
 use lib.Dec.{leb}
 use lib.IntN.{pos}
 use lib.Pow.{pow_pos, pow-add, pow_mono}
-use lib.Ieee.{Float, inf, fin, binary32, hid, top, lt, of_bits, to_bits}
+use lib.Ieee.{Float, nan, inf, fin, binary32, hid, top, lt, of_bits, to_bits}
 use lib.Ieee.Exact.{HasValue}
 use lib.Ieee.Scale.{finite}
 use Rattle.lists.proofs.Naturals.{le_or_lt}
@@ -29,10 +29,16 @@ pub angle_finite : (a : Float) → Marked false a → lt a whole_turn ≡ true �
 unfolding lt of_bits
 angle_finite (inf false) endless h = absurd (false≢true h)
 angle_finite (fin false m e) ended h = refl
+angle_finite nan p h = elim p [ ]
+angle_finite (inf true) p h = elim p [ ]
+angle_finite (fin true m e) p h = elim p [ ]
 
 sign_of : (a : Float) (s : Bool) (n c : ℕ) → Marked false a → HasValue a s n c → s ≡ false
 sign_of (inf false) s n c endless h = absurd h
 sign_of (fin false m e) s n c ended h = sym h.0
+sign_of nan s n c p h = elim p [ ]
+sign_of (inf true) s n c p h = elim p [ ]
+sign_of (fin true m e) s n c p h = elim p [ ]
 
 -- a leading digit, t below it, and x places behind, in units of 2 ^ -149: below 360
 short : (t y : ℕ) → (8388608 + t) * 2 ^ y < 11796480 → (y ≡ 0) × (t < 3407872)

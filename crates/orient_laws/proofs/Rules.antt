@@ -8,7 +8,7 @@ use borrow.Author.Tests.{eqb-true, not-false}
 use lib.Dec.{T, lit≤}
 use lib.ListN.{length, get_or, get_or-map}
 use lib.IntN.{pos}
-use lib.Ieee.{Float, nan, inf, fin, binary32, up, down, lt, eq, of_bits}
+use lib.Ieee.{Float, nan, inf, fin, binary32, lt, eq, of_bits}
 use lib.Ieee.Bits.{is_true}
 use lib.Ieee.Scale.{finite}
 use Rattle.lists.proofs.Bools.{and_both, is_T}
@@ -26,7 +26,7 @@ use Rattle.hal.specs.Rules.{In}
 use Rattle.hal_reach.proofs.Reach.{reach_nan, reach_inf}
 use Rattle.hal.proofs.Rules.{exp_rule}
 use Rattle.hal_magnitude.proofs.Rules.{magnitude_rule}
-use Rattle.lists.specs.Each.{Each, none}
+use Rattle.lists.specs.Each.{Each}
 use Rattle.lists.proofs.Each.{each_one, each_at, each_when, each_joined}
 use Rattle.picture.specs.Picture.{pixel, slope_at}
 use Rattle.picture.specs.Place.{Around}

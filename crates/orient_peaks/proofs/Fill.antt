@@ -1,5 +1,5 @@
 -- Filling an array from the front with the parts of a range. Assumes nothing.
-use Prim.Native.Nat.{ℕ, zero, suc, ◌+◌, ◌-◌, ◌<◌, ◌≤◌, zero-le}
+use Prim.Native.Nat.{ℕ, zero, suc, ◌+◌, ◌-◌, ◌<◌, ◌≤◌}
 use mathlib.Core.Path.{◌≡◌, refl, sym, ap, ◌∙◌}
 use mathlib.Core.Bool.{Bool, true, false, cond}
 use mathlib.Core.List.{List, [], ◌∷◌, ◌++◌, append-nil}
@@ -16,7 +16,6 @@ use Rattle.lists.proofs.Pasted.{pasted_none, pasted_append, pasted_one, length_p
 use Rattle.orient_tally.specs.Sample.{bins}
 use Rattle.orient_peaks.specs.Peaks.{largest_to, larger_of, least_of, is_peak, peak_angle, peak_of, angles_in}
 use Rattle.orient_peaks.specs.Found.{held_of, Holds}
-use Rattle.orient_peaks.specs.declared.Angles.{Angles}
 
 -- one more value behind those written
 pub pasted_more : {A : Type 0} (l d : List A) (v : A) → length l < length d → set (pasted 0 l d) (length l) v ≡ pasted 0 (l ++ (v ∷ [])) d

@@ -1,8 +1,8 @@
 -- The laws of the peaks that specs/Rules.antt states. Assumes nothing.
-use Prim.Native.Nat.{ℕ, zero, suc, ◌+◌, ◌-◌, ◌*◌, ◌%◌, ◌<◌, ◌≤◌}
-use mathlib.Core.Path.{◌≡◌, refl, sym, ap, ◌∙◌, subst}
-use mathlib.Core.Bool.{Bool, true, false, ◌&&◌, cond, false≢true}
-use mathlib.Core.List.{List, [], ◌∷◌, ◌++◌}
+use Prim.Native.Nat.{ℕ, zero, suc, ◌+◌, ◌-◌, ◌*◌, ◌%◌, ◌≤◌}
+use mathlib.Core.Path.{◌≡◌, refl, ap, subst}
+use mathlib.Core.Bool.{Bool, true, false, cond}
+use mathlib.Core.List.{List, [], ◌∷◌}
 use native.Mathlib.Omega.{arith}
 use lib.ListN.{length, get_or, length-append}
 use lib.Ieee.{Float, nan, lt}
@@ -13,7 +13,7 @@ use Rattle.ieee_laws.proofs.Order.{lt_le, lt_not_le}
 use Rattle.orient_tally.specs.Sample.{bins}
 use Rattle.orient_peaks.specs.Peaks.{around, least_of, is_peak, peak_angle, peak_of, angles_in, angles_of, smoothed}
 use Rattle.orient_peaks.specs.Rules.{max_peaks, PeakRule}
-use Rattle.orient_peaks.proofs.Fill.{peak_short, held_holds}
+use Rattle.orient_peaks.proofs.Fill.{held_holds}
 
 -- ---- two neighbours are not both peaks
 same_place : (h : List Float) (j : ℕ) → around h (j + 1 + bins - 1) ≡ around h j

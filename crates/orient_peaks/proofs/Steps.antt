@@ -1,7 +1,7 @@
 -- What the calls of a function give, put together. Assumes nothing.
 use Prim.Native.Nat.{ℕ, ◌+◌, ◌-◌}
 use mathlib.Core.Path.{◌≡◌, refl}
-use mathlib.Core.Bool.{Bool, ◌&&◌}
+use mathlib.Core.Bool.{◌&&◌}
 use mathlib.Core.List.{List}
 use lib.Ieee.{Float, neg}
 use Rattle.ieee.specs.F32.{◌⊕◌, ◌⊗◌, ◌<ᶠ◌, ◌≤ᶠ◌, fused}

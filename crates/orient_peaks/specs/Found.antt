@@ -1,5 +1,5 @@
 -- Inner: how a list of angles is handed on: in the first places of an array, with +0 in the others, and how many they are. Definitions only.
-use Rattle.std.specs.Prelude.{ℕ, ◌≤◌, ◌≡◌, List, length, take, replicate, Float}
+use Rattle.std.specs.Prelude.{◌≤◌, ◌≡◌, List, length, take, replicate, Float}
 use Rattle.ieee.specs.Numbers.{nought}
 use Rattle.lists.specs.Pasted.{pasted}
 use Rattle.orient_tally.specs.Sample.{bins}

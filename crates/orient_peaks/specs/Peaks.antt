@@ -1,5 +1,5 @@
 -- From the tally of 36 bins to the angles of a keypoint, operation by operation as `assign_orientations` of the source (rules O7 to O11). Definitions only.
-use Rattle.std.specs.Prelude.{ℕ, zero, suc, ◌+◌, ◌-◌, ◌%◌, Bool, ◌&&◌, cond, List, [], ◌∷◌, length, get_or, pos, Float}
+use Rattle.std.specs.Prelude.{ℕ, zero, suc, ◌+◌, ◌-◌, ◌%◌, Bool, ◌&&◌, cond, List, [], ◌∷◌, get_or, pos, Float}
 use Rattle.std.specs.Float.{nan, binary32}
 use Rattle.std.specs.Float.Ieee.{of_int, neg}
 use Rattle.ieee.specs.F32.{◌⊕◌, ◌⊖◌, ◌⊗◌, ◌⊘◌, ◌<ᶠ◌, ◌≤ᶠ◌, f32, fused, abs_of}

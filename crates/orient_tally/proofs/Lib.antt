@@ -2,5 +2,4 @@ pub mod After
 pub mod Lifted
 pub mod Values
 pub mod Squares
-pub mod Bins
 pub mod Rules

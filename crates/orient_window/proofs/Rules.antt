@@ -1,5 +1,5 @@
 -- The laws of a window's cells that specs/Rules.antt states. Assumes nothing.
-use Rattle.std.proofs.Common.{◌≡◌, ℕ, ◌+◌, ◌*◌, ◌/◌, ◌%◌, ◌<◌, Bool, true, false, List, sym, refl, ap, ◌∙◌, subst, mod-lt, div-lt_iff_lt-mul}
+use Rattle.std.proofs.Common.{◌≡◌, ℕ, ◌+◌, ◌*◌, ◌/◌, ◌%◌, ◌<◌, Bool, true, List, sym, ap, ◌∙◌, subst, mod-lt, div-lt_iff_lt-mul}
 use lib.Ieee.{Float}
 use Rattle.lists.proofs.Naturals.{packed}
 use Rattle.params.specs.Table.{all_good}

@@ -1,17 +1,16 @@
 -- The laws of the inputs that specs/Rules.antt states. Assumes nothing.
-use Prim.Native.Nat.{ℕ, ◌+◌, ◌*◌, ◌^◌, ◌≤◌}
-use mathlib.Core.Path.{◌≡◌, refl, sym, ap, ◌∙◌}
-use mathlib.Core.Bool.{Bool, true, false, not, ◌&&◌, cond}
+use Prim.Native.Nat.{ℕ, ◌*◌, ◌^◌, ◌≤◌}
+use mathlib.Core.Path.{◌≡◌, refl, sym}
+use mathlib.Core.Bool.{Bool, true, false, ◌&&◌, cond}
 use native.Mathlib.Omega.{arith}
 use borrow.Author.Tests.{le-ltb}
-use lib.Dec.{ltb}
 use lib.IntN.{pos}
 use lib.Ieee.{Float, binary32, of_bits, of_int, sub, mul, div, lt, le}
 use lib.Ieee.Scale.{finite}
 use Rattle.lists.proofs.Bools.{and_both}
-use Rattle.ieee.specs.F32.{◌⊖◌, ◌⊗◌, ◌⊘◌, ◌<ᶠ◌, abs_of, float}
+use Rattle.ieee.specs.F32.{◌⊖◌, ◌⊗◌, ◌<ᶠ◌, abs_of, float}
 use Rattle.ieee.specs.Numbers.{nought, half, whole_turn, epsilon}
-use Rattle.ieee_laws.proofs.Order.{le_trans_float, lt_le}
+use Rattle.ieee_laws.proofs.Order.{le_trans_float}
 use Rattle.ieee_laws.proofs.Monotone.{nil}
 use Rattle.ieee_laws.proofs.Bounds.{Bounds, bounds_point, sub_bounds, mul_bounds_by}
 use Rattle.lists.specs.Ranges.{every}
@@ -24,9 +23,8 @@ use Rattle.detect_keypoint.specs.declared.RawKeypoint.{RawKeypoint}
 use Rattle.lists.proofs.Every.{every_all}
 use Rattle.orient_words.specs.Oriented.{oriented_of}
 use Rattle.orient_words.specs.declared.OrientedKeypoint.{OrientedKeypoint}
-use Rattle.descriptor_inputs.specs.Inputs.{octave_wrong, oriented_wrong, shrink_of, reversed_of, given_of, inputs_of}
+use Rattle.descriptor_inputs.specs.Inputs.{oriented_wrong, shrink_of, reversed_of, given_of, inputs_of}
 use Rattle.descriptor_inputs.specs.Rules.{Taken, InputRule}
-use Rattle.descriptor_inputs.specs.declared.Inputs.{Inputs}
 use Rattle.descriptor_inputs.proofs.Checks.{finite_number, accepted}
 
 -- ---- the angle

@@ -1,9 +1,8 @@
 -- What the descriptor is asked with for an oriented keypoint: position and scale in its octave's cells, and the angle turned round. Operation by operation as `descriptor_inputs` of the source. Definitions only.
 use Rattle.std.specs.Prelude.{ℕ, ◌^◌, Bool, true, ◌&&◌, not, cond, [], ◌∷◌, ltb, ℤ, pos, negsuc, Float}
-use Rattle.std.specs.Float.{binary32}
-use Rattle.std.specs.Float.Ieee.{of_int, is_nan}
+use Rattle.std.specs.Float.Ieee.{is_nan}
 use Rattle.std.specs.Float.Ieee.Scale.{finite}
-use Rattle.ieee.specs.F32.{◌⊖◌, ◌⊗◌, ◌⊘◌, ◌<ᶠ◌, ◌≤ᶠ◌, f32, abs_of, float}
+use Rattle.ieee.specs.F32.{◌⊖◌, ◌⊗◌, ◌⊘◌, ◌<ᶠ◌, ◌≤ᶠ◌, abs_of, float}
 use Rattle.ieee.specs.Numbers.{nought, half, one, whole_turn, epsilon}
 use Rattle.params.specs.Limits.{max_octave}
 use Rattle.params.specs.Table.{line, first_fault, within}

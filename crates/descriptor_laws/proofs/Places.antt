@@ -66,8 +66,8 @@ module _ {P : Float → Type 0} where
       → ((s : Sample) → Q s → Inside (spread_of angle s) × Eight (Adds P) (spread_of angle s).shares) → Each Q ss → Places P h → Places P (gathered_in angle h ss)
   unfolding gathered_in
   gathered_kept angle f none p = p
-  gathered_kept angle f (more {x = s} q qs) p =
-      let g = f s q in gathered_kept angle f qs (scattered_kept (spread_of angle s) g.0 g.1 p)
+  gathered_kept angle {h = h} f (more {x = s} q qs) p =
+      let g = f s q in gathered_kept angle {h = scattered h (spread_of angle s)} f qs (scattered_kept (spread_of angle s) g.0 g.1 p)
 
 pub places_of : {P : Float → Type 0} → P nought → Places P (replicate places nought)
 places_of {P} p =

@@ -4,7 +4,7 @@
 ghost use Rattle.std.specs.Prelude.{◌≡◌, ◌-◌, ◌<◌, ◌≤◌, ◌^◌, min, max};
 ghost use Rattle.params.specs.Limits.{max_side};
 ghost use Rattle.descriptor_run.specs.Cells.{clip_j, ends_of};
-ghost use Rattle.descriptor_run.specs.Run.{shifted as shiftedOf, columns as columns_of, run_of};
+ghost use Rattle.descriptor_run.specs.Run.{shifted as shifted_of, columns as columns_of, run_of};
 
 use descriptor_patch::Patch;
 
@@ -60,7 +60,7 @@ fn ends_of(t: Patch, r: usize) -> Ends
 // at + z, and 0 where that is below it.
 fn shifted(at: usize, z: i32) -> usize
     requires { at ≤ 2 ^ 32 }
-    ensures { result ≡ shiftedOf at z }
+    ensures { result ≡ shifted_of at z }
 {
     let x = at as i64 + z as i64;
     if x < 0 { 0 } else { x as usize }

@@ -4,7 +4,7 @@ use mathlib.Core.Path.{◌≡◌, refl, ap}
 use mathlib.Core.Bool.{true, false}
 use native.Mathlib.Omega.{arith}
 use lib.IntN.{ℤ, pos, negsuc, ◌-ℤ◌}
-use lib.Ieee.{binary32, of_bits, of_int, add, sub, to_bits, to_signed, to_unsigned, is_nan}
+use lib.Ieee.{of_bits, of_int, add, sub, to_bits, to_signed, to_unsigned, is_nan}
 use lib.Ieee.Scale.{finite}
 use Rattle.ieee.specs.F32.{◌⊕◌, ◌⊖◌, to_i32, float, float_z, bits_of}
 use Rattle.ieee.specs.Numbers.{nought, one}

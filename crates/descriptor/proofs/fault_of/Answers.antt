@@ -1,0 +1,74 @@
+use mathlib.Core.Path.{sym, ◌∙◌}
+use native.Mathlib.Omega.{arith}
+use Rattle.descriptor_patch.specs.Patch.{patch_of}
+use Rattle.descriptor_words.specs.Words.{turn_at}
+use Rattle.descriptor.proofs.Checks.{fault_shape, size_small, fault_length, fault_spot, fault_turn, aimed, fault_none, fault_sample, ready}
+use Rattle.descriptor.proofs.fault_of.Goals as goal
+
+pub returns-then-shape_wrong-clause-value : goal.returns-then-shape_wrong-clause-value
+returns-then-shape_wrong-clause-value c = fault_shape _ _ _ (sym c.shape_wrong.ensures ∙ c.if-shape_wrong.true)
+
+pub returns-then-shape_wrong-clause-ready : goal.returns-then-shape_wrong-clause-ready
+returns-then-shape_wrong-clause-ready c = λ z. absurd (omega arith)
+
+pub overflow_mul-s : goal.overflow_mul-s
+overflow_mul-s c = let a = c.args in omega (arith, size_small _ a.p a.img.now (sym c.shape_wrong.ensures ∙ c.if-shape_wrong.false))
+
+pub returns-then-img-s-clause-value : goal.returns-then-img-s-clause-value
+returns-then-img-s-clause-value c = fault_length _ _ _ (sym c.shape_wrong.ensures ∙ c.if-shape_wrong.false) c.if-img-s.true
+
+pub returns-then-img-s-clause-ready : goal.returns-then-img-s-clause-ready
+returns-then-img-s-clause-ready c = λ z. absurd (omega arith)
+
+pub returns-then-spot_wrong-clause-value : goal.returns-then-spot_wrong-clause-value
+returns-then-spot_wrong-clause-value c = fault_spot _ _ _ (sym c.shape_wrong.ensures ∙ c.if-shape_wrong.false) c.if-img-s.false (sym c.spot_wrong.ensures ∙ c.if-spot_wrong.true)
+
+pub returns-then-spot_wrong-clause-ready : goal.returns-then-spot_wrong-clause-ready
+returns-then-spot_wrong-clause-ready c = λ z. absurd (omega arith)
+
+pub returns-then-turn_wrong-clause-value : goal.returns-then-turn_wrong-clause-value
+returns-then-turn_wrong-clause-value c = fault_turn _ _ _ (sym c.shape_wrong.ensures ∙ c.if-shape_wrong.false) c.if-img-s.false (sym c.spot_wrong.ensures ∙ c.if-spot_wrong.false) (sym c.turn_wrong.ensures ∙ c.if-turn_wrong.true)
+
+pub returns-then-turn_wrong-clause-ready : goal.returns-then-turn_wrong-clause-ready
+returns-then-turn_wrong-clause-ready c = λ z. absurd (omega arith)
+
+pub turn_at-requires : goal.turn_at-requires
+turn_at-requires c = aimed _ _ (sym c.shape_wrong.ensures ∙ c.if-shape_wrong.false) (sym c.spot_wrong.ensures ∙ c.if-spot_wrong.false) (sym c.turn_wrong.ensures ∙ c.if-turn_wrong.false)
+
+pub patch_good-requires : goal.patch_good-requires
+unfolding turn_at patch_of
+patch_good-requires c = (rw c.turn_at.ensures.0 c.if-img-s.false, c.turn_at.ensures.1)
+
+pub returns-then-patch_good-clause-value : goal.returns-then-patch_good-clause-value
+returns-then-patch_good-clause-value c =
+    let s = sym c.shape_wrong.ensures ∙ c.if-shape_wrong.false in
+    let w = c.if-img-s.false in
+    let l = sym c.spot_wrong.ensures ∙ c.if-spot_wrong.false in
+    let t = sym c.turn_wrong.ensures ∙ c.if-turn_wrong.false in
+    let g = rw c.turn_at.ensures.0 at (sym c.patch_good.ensures ∙ c.if-patch_good.true) in
+    fault_none _ _ _ s w l t g
+
+pub returns-then-patch_good-clause-ready : goal.returns-then-patch_good-clause-ready
+returns-then-patch_good-clause-ready c =
+    let s = sym c.shape_wrong.ensures ∙ c.if-shape_wrong.false in
+    let w = c.if-img-s.false in
+    let l = sym c.spot_wrong.ensures ∙ c.if-spot_wrong.false in
+    let t = sym c.turn_wrong.ensures ∙ c.if-turn_wrong.false in
+    let g = rw c.turn_at.ensures.0 at (sym c.patch_good.ensures ∙ c.if-patch_good.true) in
+    λ z. ready _ _ _ s w l t g
+
+pub returns-else-patch_good-clause-value : goal.returns-else-patch_good-clause-value
+returns-else-patch_good-clause-value c =
+    let s = sym c.shape_wrong.ensures ∙ c.if-shape_wrong.false in
+    let w = c.if-img-s.false in
+    let l = sym c.spot_wrong.ensures ∙ c.if-spot_wrong.false in
+    let t = sym c.turn_wrong.ensures ∙ c.if-turn_wrong.false in
+    fault_sample _ _ _ s w l t (rw c.turn_at.ensures.0 at (sym c.patch_good.ensures ∙ c.if-patch_good.false))
+
+pub returns-else-patch_good-clause-ready : goal.returns-else-patch_good-clause-ready
+returns-else-patch_good-clause-ready c =
+    let s = sym c.shape_wrong.ensures ∙ c.if-shape_wrong.false in
+    let w = c.if-img-s.false in
+    let l = sym c.spot_wrong.ensures ∙ c.if-spot_wrong.false in
+    let t = sym c.turn_wrong.ensures ∙ c.if-turn_wrong.false in
+    λ z. absurd (omega arith)

@@ -100,10 +100,13 @@ pub fn read_sheet(sheet: &[u8], out: &mut [u32]) -> Read
     ensures { (result ≡ read_answer sheet.now (length out.old))
         × (out.new ≡ read_out sheet.now out.old) }
 {
-    if !sheet_sound(sheet) {
+    if sheet.len() < HEADER_BYTES {
         return refusal(Answer::Refused(8));
     }
     let e = sheet_fields::edition_in(sheet);
+    if !sheet_right(e, sheet) {
+        return refusal(Answer::Refused(8));
+    }
     let h = sheet_fields::header_in(e, sheet);
     let n = h.count as usize;
     if out.len() < READ_WORDS * n {

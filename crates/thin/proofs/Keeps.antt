@@ -1,34 +1,34 @@
 -- What is written is what a region keeps: in order after it was put in order, or all of a list within its quota. Assumes nothing.
-use Prim.Native.Nat.{ℕ, zero, suc, ◌+◌, ◌-◌, ◌≤◌, ◌<◌}
+use Prim.Native.Nat.{ℕ, zero, suc, ◌≤◌, ◌<◌}
 use mathlib.Core.Path.{◌≡◌, refl, sym, ap, ◌∙◌, subst}
-use mathlib.Core.Bool.{Bool, true, false, cond, not, ◌&&◌, true≢false, false≢true}
+use mathlib.Core.Bool.{Bool, true, cond, not, ◌&&◌}
 use mathlib.Core.List.{List, [], ◌∷◌, ◌++◌}
-use mathlib.Core.Logic.{◌⊎◌, inl, inr, ⊎_elim}
-use native.Mathlib.Nat.{le_refl, sub-zero, zero-add}
+use mathlib.Core.Logic.{inr, ⊎_elim}
+use native.Mathlib.Nat.{sub-zero, zero-add}
 use native.Mathlib.Numerals.{add-one}
 use native.Mathlib.Omega.{arith}
-use borrow.Author.Tests.{leb-true, leb-false, le-leb, lt-leb, ltb-true, lt-ltb}
-use lib.Dec.{leb, ltb}
+use borrow.Author.Tests.{le-leb, lt-leb, lt-ltb}
+use lib.Dec.{ltb}
 use lib.ListN.{length, get_or, drop, get_or-append}
 use Rattle.lists.specs.Pasted.{pasted}
 use Rattle.lists.proofs.Bools.{and_false}
 use Rattle.lists.proofs.Naturals.{le_or_lt}
 use Rattle.lists.proofs.Ranges.{joined_more}
 use Rattle.counts.specs.Counts.{counted, passed}
-use Rattle.counts.proofs.Counts.{either, counted_same, counted_never, counted_zero, counted_all, length_passed}
-use Rattle.params.specs.Answers.{answer_of, landed, on_fault}
+use Rattle.counts.proofs.Counts.{counted_same, counted_never, counted_all, length_passed}
+use Rattle.params.specs.Answers.{answer_of}
 use Rattle.params.specs.declared.Answer.{Answer}
 use Rattle.params.specs.declared.Answer.TheVariants.{Done, Short, Refused}
-use Rattle.thin_rule.specs.Rule.{points_in, inside, many, keeps, kept}
+use Rattle.thin_rule.specs.Rule.{points_in, inside, keeps, kept}
 use Rattle.thin_rule.specs.Strength.{Ordered, Sound}
 use Rattle.thin_rule.specs.declared.Region.{Region}
 use Rattle.thin_laws.proofs.Cases.{keeps_all}
 use Rattle.thin_laws.proofs.Few.{keeps_few}
-use Rattle.thin_part.specs.Runs.{held, Listed, Beside, Dealt, Arranged}
+use Rattle.thin_part.specs.Runs.{Listed, Beside, Arranged}
 use Rattle.thin_part.proofs.Parts.{none_listed}
 use Rattle.thin_source.specs.Adds.{Added}
 use Rattle.thin_region.proofs.Turns.{those, count_kept}
-use Rattle.thin.specs.Entry.{frame, fault_of, kept_of, thin_answer, thin_out}
+use Rattle.thin.specs.Entry.{frame, fault_of, thin_answer, thin_out}
 use Rattle.thin.specs.Frames.{Accepted, Given, Missing}
 
 -- ---- a list that has the new words in front, and behind them what it had

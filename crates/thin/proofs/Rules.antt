@@ -1,19 +1,15 @@
 -- What holds of an accepted list: no more is kept than the quota, and all of a list within it. Assumes nothing.
-use Prim.Native.Nat.{ℕ, ◌%◌, ◌≤◌, ◌<◌}
-use mathlib.Core.Path.{◌≡◌, refl, sym, ◌∙◌}
-use mathlib.Core.Bool.{Bool, true, false, not, ◌||◌}
+use Prim.Native.Nat.{ℕ}
+use mathlib.Core.Path.{◌≡◌, refl, sym}
 use mathlib.Core.List.{List}
 use mathlib.Core.Logic.{⊎_elim}
 use native.Mathlib.Omega.{arith}
-use lib.Dec.{ltb, eqb}
-use lib.ListN.{length, get_or}
 use Rattle.lists.specs.Ranges.{every}
-use Rattle.params.specs.Limits.{keypoint_words, max_keypoints, max_depth}
 use Rattle.params.specs.Table.{shape_wrong}
 use Rattle.counts.proofs.Counts.{either}
-use Rattle.thin_rule.specs.Rule.{points_in, word_at}
-use Rattle.thin.specs.Entry.{frame, point_right, fault_of, kept_of}
-use Rattle.thin.specs.Frames.{Words, Accepted}
+use Rattle.thin_rule.specs.Rule.{points_in}
+use Rattle.thin.specs.Entry.{frame, point_right, fault_of}
+use Rattle.thin.specs.Frames.{Accepted}
 use Rattle.thin.specs.Rules.{Bits, ThinRule}
 use Rattle.thin.proofs.Faults.{form_wrong, fault_shape, fault_form, fault_points, accepted}
 use Rattle.thin.proofs.Keeps.{few_kept, whole_many, whole_place}

@@ -1,12 +1,12 @@
 -- Between the edges' bits lies what lies inside the region: the bits without the sign are in the order of the numbers. Assumes nothing.
-use Prim.Native.Nat.{ℕ, ◌^◌, ◌≤◌, ◌<◌}
-use mathlib.Core.Path.{◌≡◌, refl, sym, ap, ◌∙◌, subst}
-use mathlib.Core.Bool.{Bool, true, false, not, ◌&&◌, true≢false, false≢true}
+use Prim.Native.Nat.{ℕ, ◌≤◌, ◌<◌}
+use mathlib.Core.Path.{◌≡◌, refl, sym, ap, ◌∙◌}
+use mathlib.Core.Bool.{true}
 use mathlib.Core.List.{List}
 use mathlib.Core.Logic.{⊎_elim}
 use native.Mathlib.Omega.{arith}
-use borrow.Author.Tests.{ltb-true, ltb-false, lt-ltb, le-ltb, leb-true, leb-false, le-leb, lt-leb}
-use lib.Dec.{T, leb, ltb}
+use borrow.Author.Tests.{ltb-true, lt-ltb, leb-true, le-leb}
+use lib.Dec.{leb, ltb}
 use lib.IntN.{pos}
 use lib.Ieee.{Float, binary32, of_int}
 use lib.Ieee.Fits.{of_int-fits}
@@ -20,10 +20,9 @@ use Rattle.ieee_laws.proofs.Order.{le_or_lt_float, lt_not_le}
 use Rattle.ieee_laws.proofs.Monotone.{of_int_le}
 use Rattle.ieee_laws.proofs.Bounds.{bounds_finite, of_int_bounds}
 use Rattle.params.specs.Limits.{max_side}
-use Rattle.counts.proofs.Counts.{either}
 use Rattle.thin_order.specs.Place.{bare, Upward}
 use Rattle.thin_order.proofs.Bare.{bare_rule}
-use Rattle.thin_rule.specs.Rule.{points_in, word_at, x_of, y_of, between, inside}
+use Rattle.thin_rule.specs.Rule.{points_in, word_at, between, inside}
 use Rattle.thin_rule.specs.Strength.{edge_at, edges_of, amid, edged, Ordered, Sound}
 use Rattle.thin_rule.specs.declared.Region.{Region}
 

@@ -1,7 +1,7 @@
 -- No region keeps more than its quota; so each quarter's share is respected. Assumes nothing.
 use Prim.Native.Nat.{ℕ, zero, suc, ◌+◌, ◌-◌, ◌%◌, ◌≤◌, ◌<◌}
-use mathlib.Core.Path.{◌≡◌, refl, sym, ap, ◌∙◌, subst}
-use mathlib.Core.Bool.{Bool, true, false, cond, ◌&&◌, ◌||◌, false≢true}
+use mathlib.Core.Path.{◌≡◌, refl, ◌∙◌, subst}
+use mathlib.Core.Bool.{Bool, false, cond, ◌||◌}
 use mathlib.Core.List.{List}
 use mathlib.Core.Logic.{◌⊎◌, inl, inr, ⊎_elim}
 use native.Mathlib.Nat.{le_refl, add-zero, add-le-add}
@@ -11,8 +11,8 @@ use lib.Dec.{ltb}
 use Rattle.lists.proofs.Bools.{or_cases}
 use Rattle.lists.proofs.Naturals.{le_or_lt}
 use Rattle.counts.specs.Counts.{counted, some}
-use Rattle.counts.proofs.Counts.{either, one, counted_or, counted_mono, counted_same, counted_never, some_none}
-use Rattle.thin_rule.specs.Rule.{points_in, inside, many, quarter, share, best, keeps}
+use Rattle.counts.proofs.Counts.{counted_or, counted_same, counted_never}
+use Rattle.thin_rule.specs.Rule.{points_in, inside, many, quarter, share, keeps}
 use Rattle.thin_rule.specs.Strength.{strong, Ordered, Sound}
 use Rattle.thin_rule.specs.declared.Region.{Region}
 use Rattle.thin_laws.proofs.Best.{one_or, best_cut, some_cut}

@@ -1,15 +1,15 @@
 -- Of floats that are not below zero the one that is less has the lower bits, the sign left out. Assumes nothing.
-use Prim.Native.Nat.{ℕ, ◌+◌, ◌-◌, ◌%◌, ◌^◌, ◌≤◌, ◌<◌}
+use Prim.Native.Nat.{ℕ, ◌+◌, ◌^◌, ◌≤◌, ◌<◌}
 use mathlib.Core.Path.{◌≡◌, refl, sym, ap, ◌∙◌, subst}
-use mathlib.Core.Bool.{Bool, true, false}
+use mathlib.Core.Bool.{true}
 use mathlib.Core.Logic.{⊎_elim}
 use native.Mathlib.Omega.{arith}
-use borrow.Author.Tests.{ltb-true, ltb-false, lt-ltb, le-ltb}
+use borrow.Author.Tests.{lt-ltb, le-ltb}
 use lib.Dec.{ltb}
 use lib.Ieee.{Float, of_int, of_bits}
 use lib.Ieee.Scale.{finite}
 use Rattle.lists.proofs.Naturals.{le_or_lt}
-use Rattle.ieee.specs.F32.{f32, float, ◌<ᶠ◌, ◌≤ᶠ◌}
+use Rattle.ieee.specs.F32.{f32, float, ◌≤ᶠ◌}
 use Rattle.ieee_laws.proofs.Order.{lt_not_le}
 use Rattle.thin_order.specs.Place.{place, bare, Upward, BareRule}
 use Rattle.thin_order.proofs.Signs.{place_high}

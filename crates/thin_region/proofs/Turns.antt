@@ -1,28 +1,27 @@
 -- What one quarter more adds, and that the others' sources stand where they stood. Assumes nothing.
 use Prim.Native.Nat.{ℕ, zero, suc, ◌+◌, ◌-◌, ◌^◌, ◌≤◌, ◌<◌}
 use mathlib.Core.Path.{◌≡◌, refl, sym, ap, ◌∙◌, subst}
-use mathlib.Core.Bool.{Bool, true, false, cond, ◌&&◌, ◌||◌, true≢false, false≢true}
+use mathlib.Core.Bool.{Bool, true, false, cond, ◌&&◌, ◌||◌, true≢false}
 use mathlib.Core.List.{List}
 use mathlib.Core.Logic.{◌⊎◌, inl, inr, ⊎_elim}
-use native.Mathlib.Nat.{le_refl, le_trans, add-zero}
+use native.Mathlib.Nat.{le_trans}
 use native.Mathlib.Numerals.{add-one}
 use native.Mathlib.Omega.{arith}
-use borrow.Author.Tests.{ltb-true, ltb-false, eqb-true, eqb-false, eq-eqb, ne_eqb}
+use borrow.Author.Tests.{ltb-true, ltb-false, eqb-true, eqb-false}
 use lib.Dec.{ltb, eqb}
 use lib.ListN.{length, get_or}
-use Rattle.lists.proofs.Bools.{and_left, and_true, or_cases}
-use Rattle.lists.proofs.Naturals.{le_or_lt}
+use Rattle.lists.proofs.Bools.{and_true, or_cases}
 use Rattle.counts.specs.Counts.{counted, some}
-use Rattle.counts.proofs.Counts.{either, one, length_passed, counted_same, counted_sum, counted_split, counted_never, counted_mono, some_next, some_none, some_elim}
+use Rattle.counts.proofs.Counts.{either, one, length_passed, counted_same, counted_sum, counted_split, counted_never, some_next, some_none, some_elim}
 use Rattle.thin_rule.specs.Rule.{points_in, inside, many, quarter, share, keeps, kept}
 use Rattle.thin_rule.specs.Strength.{strong, Ordered, Sound}
 use Rattle.thin_rule.specs.declared.Region.{Region}
 use Rattle.thin_laws.proofs.Best.{strong_zero, best_cut}
 use Rattle.thin_laws.proofs.Quarters.{quarter_ordered, quarters_apart}
 use Rattle.thin_laws.proofs.Cases.{keeps_inside, keeps_all, keeps_best, keeps_quarters}
-use Rattle.thin_laws.proofs.Few.{total, total_mono, counted_some, share_some, shares_some, keeps_few}
-use Rattle.thin_part.specs.Runs.{held, Beside}
-use Rattle.thin_source.specs.Sources.{candidate, found, Stands, Covers, bound_of, source_of, Split}
+use Rattle.thin_laws.proofs.Few.{total_mono, counted_some, share_some, shares_some, keeps_few}
+use Rattle.thin_part.specs.Runs.{Beside}
+use Rattle.thin_source.specs.Sources.{candidate, found, Covers, bound_of, source_of, Split}
 use Rattle.thin_source.specs.Adds.{Added}
 use Rattle.thin_source.specs.declared.Source.{Source}
 use Rattle.thin_source.specs.declared.Bounds.{Bounds}
@@ -247,9 +246,6 @@ rounds_beside ws d r q c b s₀ s o at k t p end n g e z =
     record { length = x.length ∙ y.length; outside = λ j w. x.outside j (⊎_elim (λ l. inl (let f = (n.ends z).0 in omega arith)) (λ l. inr (let f = (n.ends z).1 in omega arith)) w) ∙ y.outside j w }
 
 -- ---- what a region leaves of a run that was held before
-
-pub same_beside : (s t : List ℕ) (from to : ℕ) → t ≡ s → Beside s t from to
-same_beside s t from to e = record { length = ap length e; outside = λ k w. ap (λ (l : List ℕ). get_or l k 0) e }
 
 pub end_beside : (s₀ s t : List ℕ) (c e : Source) → (e ≡ c) × (s ≡ s₀) → (e.all ≡ false → Beside s t e.from e.to) → c.all ≡ false → Beside s₀ t c.from c.to
 end_beside s₀ s t c e (p, q) f z =

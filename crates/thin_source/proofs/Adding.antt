@@ -6,14 +6,14 @@ use mathlib.Core.List.{List}
 use mathlib.Core.Logic.{◌⊎◌, inl, inr, ⊎_elim}
 use native.Mathlib.Nat.{le_refl, add-zero, zero-add}
 use native.Mathlib.Omega.{arith}
-use borrow.Author.Tests.{ltb-true, lt-ltb, le-ltb, le-leb, lt-leb, not-false}
+use borrow.Author.Tests.{lt-ltb, le-ltb, le-leb, lt-leb}
 use lib.Dec.{leb, ltb}
 use lib.ListN.{length, get_or, set, length-set}
 use lib.Seq.{get_or-set_same, get_or-set_other}
 use Rattle.lists.proofs.Naturals.{le_or_lt}
 use Rattle.lists.proofs.Bools.{and_true, and_false}
 use Rattle.counts.specs.Counts.{counted}
-use Rattle.counts.proofs.Counts.{one, counted_none, counted_next, counted_split, counted_same, counted_never, counted_zero}
+use Rattle.counts.proofs.Counts.{one, counted_none, counted_next, counted_split, counted_same, counted_never}
 use Rattle.thin_rule.specs.Rule.{points_in, inside, many}
 use Rattle.thin_rule.specs.Strength.{strong, edges_of, Ordered, Sound}
 use Rattle.thin_rule.specs.declared.Edges.{Edges}

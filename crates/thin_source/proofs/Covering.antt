@@ -1,15 +1,14 @@
 -- A source that covers a region counts what the list has, and one of all positions reads no list. Assumes nothing.
-use Prim.Native.Nat.{ℕ, ◌≤◌, ◌<◌}
-use mathlib.Core.Path.{◌≡◌, refl, sym, ap, ◌∙◌}
-use mathlib.Core.Bool.{Bool, true, false, cond, ◌&&◌, true≢false}
+use Prim.Native.Nat.{ℕ, ◌≤◌}
+use mathlib.Core.Path.{◌≡◌, sym, ◌∙◌}
+use mathlib.Core.Bool.{Bool, true, ◌&&◌, true≢false}
 use mathlib.Core.List.{List}
 use native.Mathlib.Omega.{arith}
-use lib.Dec.{leb}
 use Rattle.lists.proofs.Bools.{and_left, and_true}
 use Rattle.counts.specs.Counts.{counted}
 use Rattle.counts.proofs.Counts.{absorbed, counted_same, counted_most}
 use Rattle.thin_rule.specs.Rule.{points_in, inside, many, quarter}
-use Rattle.thin_rule.specs.Strength.{strength, strong, Ordered}
+use Rattle.thin_rule.specs.Strength.{strong, Ordered}
 use Rattle.thin_rule.specs.declared.Region.{Region}
 use Rattle.thin_laws.proofs.Best.{strong_inside, strong_zero}
 use Rattle.thin_laws.proofs.Quarters.{quarter_inside}

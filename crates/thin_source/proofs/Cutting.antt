@@ -1,6 +1,6 @@
 -- The turns of the halving: between two strengths of which one leaves the quota or more, and the next to the other fewer. Assumes nothing.
 use Prim.Native.Nat.{ℕ, ◌+◌, ◌-◌, ◌≤◌, ◌<◌}
-use mathlib.Core.Path.{◌≡◌, refl, sym, ap, ◌∙◌, subst}
+use mathlib.Core.Path.{◌≡◌, sym, ◌∙◌, subst}
 use mathlib.Core.Bool.{Bool, true, false, true≢false, false≢true}
 use mathlib.Core.List.{List}
 use mathlib.Core.Logic.{⊎_elim}
@@ -10,7 +10,7 @@ use Rattle.lists.proofs.Naturals.{le_or_lt}
 use Rattle.counts.specs.Counts.{counted}
 use Rattle.counts.proofs.Counts.{either, counted_same, counted_never}
 use Rattle.thin_rule.specs.Rule.{points_in, inside, many}
-use Rattle.thin_rule.specs.Strength.{strength, strong, Sound}
+use Rattle.thin_rule.specs.Strength.{strong, Sound}
 use Rattle.thin_rule.specs.declared.Region.{Region}
 use Rattle.thin_laws.proofs.Best.{strong_inside, strong_at, strong_both, strong_fewer, step_down}
 use Rattle.thin_source.specs.Sources.{found, Covers, Reaches}

@@ -1,17 +1,15 @@
 -- A run that is parted at a row, and each part at a column, has the keypoints of each quarter in a part of its own. Assumes nothing.
-use Prim.Native.Nat.{ℕ, zero, suc, ◌+◌, ◌≤◌, ◌<◌}
+use Prim.Native.Nat.{ℕ, zero, suc, ◌≤◌, ◌<◌}
 use mathlib.Core.Path.{◌≡◌, refl, sym, ap, ◌∙◌, subst}
-use mathlib.Core.Bool.{Bool, true, false, cond, not, ◌&&◌, true≢false, false≢true}
+use mathlib.Core.Bool.{Bool, true, false, cond, not, ◌&&◌, true≢false}
 use mathlib.Core.List.{List}
 use mathlib.Core.Logic.{◌⊎◌, inl, inr, ⊎_elim}
 use native.Mathlib.Nat.{le_refl, le_trans}
 use native.Mathlib.Omega.{arith}
-use borrow.Author.Tests.{ltb-true, ltb-false, lt-ltb, le-ltb}
-use lib.Dec.{ltb, eqb}
+use borrow.Author.Tests.{lt-ltb}
+use lib.Dec.{ltb}
 use lib.ListN.{length, get_or}
 use Rattle.lists.proofs.Bools.{and_false, and_left, and_assoc, both_and}
-use Rattle.lists.proofs.Naturals.{le_or_lt}
-use Rattle.counts.specs.Counts.{counted}
 use Rattle.counts.proofs.Counts.{absorbed, counted_same, counted_never}
 use Rattle.thin_rule.specs.Rule.{points_in, word_at, inside, middle, is_left, is_upper, quarter}
 use Rattle.thin_order.specs.Place.{bare}
@@ -22,7 +20,6 @@ use Rattle.thin_laws.proofs.Quarters.{quarter_column, quarter_row}
 use Rattle.thin_part.specs.Runs.{held, Listed, Beside, Parted}
 use Rattle.thin_part.proofs.Parts.{none_listed}
 use Rattle.thin_part.specs.Cuts.{below}
-use Rattle.thin_part.specs.declared.Cut.{Cut}
 use Rattle.thin_part.specs.declared.Cut.TheVariants.{Column, Row}
 use Rattle.thin_source.specs.Sources.{candidate, found, Stands, Covers, bound_of, source_of, Split}
 use Rattle.thin_source.specs.declared.Source.{Source}

@@ -1,17 +1,17 @@
 -- The strongest keypoint up to a strength, found in one run over a source: from its strength on there is one more. Assumes nothing.
 use Prim.Native.Nat.{ℕ, ◌+◌, ◌-◌, ◌≤◌, ◌<◌}
 use mathlib.Core.Path.{◌≡◌, refl, sym, ap, ◌∙◌, subst}
-use mathlib.Core.Bool.{Bool, true, false, cond, ◌&&◌, true≢false, false≢true}
+use mathlib.Core.Bool.{Bool, true, false, cond, ◌&&◌, false≢true}
 use mathlib.Core.List.{List}
 use mathlib.Core.Logic.{◌⊎◌, inl, inr, ⊎_elim}
 use native.Mathlib.Nat.{le_refl, sub-add_cancel}
 use native.Mathlib.Omega.{arith}
-use borrow.Author.Tests.{ltb-true, ltb-false, lt-ltb, le-ltb, leb-true, leb-false, le-leb, lt-leb}
+use borrow.Author.Tests.{ltb-true, lt-ltb, le-ltb, leb-true, le-leb, lt-leb}
 use lib.Dec.{leb, ltb}
 use Rattle.lists.proofs.Naturals.{le_or_lt}
 use Rattle.lists.proofs.Bools.{and_left, and_right, both_and}
 use Rattle.counts.specs.Counts.{counted}
-use Rattle.counts.proofs.Counts.{either, one, one_le, counted_none, counted_next, counted_same, counted_mono, counted_sum, counted_never, counted_zero, counted_single}
+use Rattle.counts.proofs.Counts.{one, counted_none, counted_next, counted_same, counted_mono, counted_sum, counted_never, counted_zero, counted_single}
 use Rattle.thin_rule.specs.Rule.{points_in, inside, many}
 use Rattle.thin_rule.specs.Strength.{strength, strong, edges_of, edged, Ordered, Sound}
 use Rattle.thin_rule.specs.declared.Region.{Region}
@@ -19,7 +19,7 @@ use Rattle.thin_rule.specs.declared.Edges.{Edges}
 use Rattle.thin_laws.proofs.Strengths.{strength_apart}
 use Rattle.thin_laws.proofs.Best.{strong_zero}
 use Rattle.thin_laws.proofs.Edged.{inside_edged}
-use Rattle.thin_source.specs.Sources.{candidate, found, Stands, Covers}
+use Rattle.thin_source.specs.Sources.{candidate, found, Covers}
 use Rattle.thin_source.specs.declared.Source.{Source}
 use Rattle.thin_source.proofs.Covering.{covers_test}
 

@@ -1,14 +1,12 @@
 -- What orientation answers to a sound keypoint on a picture of its octave's size. Assumes nothing.
-use Prim.Native.Nat.{ℕ, zero, suc, ◌+◌, ◌-◌, ◌*◌, ◌<◌, ◌≤◌}
-use native.Mathlib.Nat.{le_of_suc-le-suc, one-mul, not-suc-le-zero}
+use Prim.Native.Nat.{ℕ, ◌+◌, ◌*◌, ◌≤◌}
 use native.Mathlib.Omega.{arith}
-use mathlib.Core.Path.{◌≡◌, refl, sym, ap, ◌∙◌, subst}
+use mathlib.Core.Path.{◌≡◌, refl, sym}
 use mathlib.Core.Bool.{Bool, true, false}
-use mathlib.Core.List.{List, [], ◌∷◌}
-use lib.ListN.{length, get_or}
-use lib.Ieee.{Float, nan}
+use mathlib.Core.List.{List}
+use lib.ListN.{length}
+use lib.Ieee.{Float}
 use borrow.Author.Tests.{ne_eqb, le-ltb}
-use Rattle.lists.specs.Ranges.{every}
 use Rattle.lists.proofs.Every.{all_every}
 use Rattle.params.specs.Limits.{max_side}
 use Rattle.params.specs.Table.{shape_wrong, all_good}

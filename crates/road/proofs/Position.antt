@@ -14,7 +14,7 @@ use lib.Ieee.Exact.{HasValue, round_exact}
 use lib.Ieee.Positive.{positive, positive_of_value, mul_at}
 use lib.Ieee.Scale.{finite, round_same}
 use lib.Ieee.Fits.{up_pos, down_pos}
-use Rattle.ieee.specs.F32.{◌⊕◌, ◌⊗◌, f32, rounded, float}
+use Rattle.ieee.specs.F32.{◌⊕◌, ◌⊗◌, rounded, float}
 use Rattle.ieee.specs.Whole.{round_even}
 use Rattle.ieee.specs.Numbers.{half, one}
 use Rattle.ieee_laws.proofs.Monotone.{nil, add_le, mul_le_left, to_unsigned_le}

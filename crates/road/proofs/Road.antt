@@ -27,8 +27,7 @@ use Rattle.sheet.specs.Words.{read_words}
 use Rattle.sheet.specs.Writes.{frame_of, words_right, layer_right}
 use Rattle.sheet.proofs.Lawful.{lawful_edition, angled_edition}
 use Rattle.road.specs.Back.{taken}
-use Rattle.road.specs.Road.{Among, Octave, found_in, directions_of, spot_for, size_in, values_for, value_words_for, samples_for, picture_for, record_for, records_for, records_in, octave_records}
-use Rattle.road.specs.Frames.{OfFrame, sheet_records, Smooth}
+use Rattle.road.specs.Road.{Among, Octave, found_in, directions_of, spot_for, size_in, values_for, value_words_for, samples_for, picture_for, record_for, OfFrame, records_for, records_in, octave_records, sheet_records, Smooth}
 use Rattle.road.specs.Rules.{Making}
 use Rattle.road.proofs.Members.{from_flat, from_map, from_joined, pass_all}
 use Rattle.road.proofs.Described.{passed_is}
@@ -150,9 +149,9 @@ module _ (wide high : ℕ) (s : Settings) where
         is = p.is;
       }
 
-  of_octave_lem : (q : Octave) → Smooth wide high s q → (r : List ℕ) → Among r (octave_records s q) → OfFrame wide high s r
+  of_octave : (q : Octave) → Smooth wide high s q → (r : List ℕ) → Among r (octave_records s q) → OfFrame wide high s r
   unfolding octave_records records_in
-  of_octave_lem q a r m =
+  of_octave q a r m =
       let p = from_joined 1 (s.layers + 1) (records_in s q) r m in
       let l = p.step in
       let top : l ≤ s.layers = omega (arith, p.below) in
@@ -161,4 +160,4 @@ module _ (wide high : ℕ) (s : Settings) where
 
   pub ordered : (qs : List Octave) → ((q : Octave) → Among q qs → Smooth wide high s q) → (r : List ℕ) → Among r (sheet_records s qs) → OfFrame wide high s r
   unfolding sheet_records
-  ordered qs a r m = let f = from_flat (octave_records s) qs r m in of_octave_lem f.source (a f.source f.among) r f.inside
+  ordered qs a r m = let f = from_flat (octave_records s) qs r m in of_octave f.source (a f.source f.among) r f.inside

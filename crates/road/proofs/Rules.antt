@@ -6,8 +6,7 @@ use mathlib.Core.List.{List}
 use lib.ListN.{length}
 use Rattle.params.specs.declared.Settings.{Settings}
 use Rattle.sheet.specs.Layout.{known, max_count}
-use Rattle.road.specs.Road.{Among}
-use Rattle.road.specs.Frames.{OfFrame, sheet_records}
+use Rattle.road.specs.Road.{Among, OfFrame, sheet_records}
 use Rattle.road.specs.Back.{Framed, ReadsBack}
 use Rattle.road.specs.Rules.{RoadRule}
 use Rattle.road.proofs.Stages.{oriented, described, through}

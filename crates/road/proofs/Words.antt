@@ -19,7 +19,7 @@ use Rattle.orient_laws.specs.Rules.{Turn}
 use Rattle.orient_laws.proofs.Rules.{angles_rule}
 use Rattle.words.specs.Keypoint.{keypoint_in}
 use Rattle.words.specs.Oriented.{oriented_in}
-use Rattle.words.specs.Rules.{Held, OrientedHeld}
+use Rattle.words.specs.Rules.{OrientedHeld}
 use Rattle.words.proofs.Rules.{words_rule}
 use Rattle.road.specs.Road.{Among, Octave, size_in, search_fault, found_in, turn_fault, directions_of}
 use Rattle.road.proofs.Stages.{sound}

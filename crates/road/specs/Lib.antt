@@ -1,5 +1,4 @@
 pub mod Road
-pub mod Frames
 pub mod Back
 pub mod Blank
 pub mod Rules

@@ -1,7 +1,8 @@
--- The road from an octave's planes to its records, and the order that a sheet has them in (rule C2). Definitions only.
-use Rattle.std.specs.Prelude.{ℕ, ◌+◌, pos, length, Float}
+-- Law: the road from an octave's planes to the records of a frame, and the order that a sheet has them in. Definitions only.
+use Rattle.std.specs.Prelude.{ℕ, ◌+◌, ◌*◌, ◌≤◌, ◌≡◌, true, pos, length, Float}
 use mathlib.Core.List.{List, map, flat_map, Memᴰ}
 use Rattle.lists.specs.Ranges.{joined}
+use Rattle.params.specs.Table.{all_good}
 use Rattle.params.specs.declared.Settings.{Settings}
 use Rattle.picture.specs.declared.Shape.{Shape}
 use Rattle.picture.specs.declared.Size.{Size}
@@ -82,6 +83,28 @@ picture_for q k = q.picture k.layer
 abbrev pub record_for : Octave → RawKeypoint → OrientedKeypoint → List ℕ
 record_for q k o = record_of k o (value_words_for (picture_for q k) q o) (samples_for (picture_for q k) q o)
 
+-- ---- the records of a frame
+
+-- the pictures of all layers have the octave's size, whatever their samples, and the frame is no smaller
+pub record Sized (wide high : ℕ) (s : Settings) (q : Octave) : Type 0 where
+  pub picture : (layer : ℕ) → 1 ≤ layer → layer ≤ s.layers → length (q.picture layer) ≡ q.shape.height * q.shape.width
+  pub across : q.shape.width ≤ wide
+  pub down : q.shape.height ≤ high
+
+-- r is a record of the frame: that of some direction of some keypoint that was found in some layer of some octave, no stage refusing
+pub record OfFrame (wide high : ℕ) (s : Settings) (r : List ℕ) : Type 0 where
+  pub octave : Octave
+  pub layer : ℕ
+  pub keypoint : RawKeypoint
+  pub direction : OrientedKeypoint
+  pub sized : Sized wide high s octave
+  pub searched : search_fault s octave layer ≡ 0
+  pub found : Among keypoint (found_in s octave layer)
+  pub oriented : turn_fault (picture_for octave keypoint) octave keypoint ≡ 0
+  pub given : Among direction (directions_of (picture_for octave keypoint) octave keypoint)
+  pub described : patch_fault (picture_for octave keypoint) octave direction ≡ 0
+  pub is : r ≡ record_for octave keypoint direction
+
 -- ---- the order of a sheet
 
 -- of a keypoint, direction by direction; of a layer searched, keypoint by keypoint as detection lists them
@@ -91,6 +114,15 @@ records_for q k = map (record_for q k) (directions_of (picture_for q k) q k)
 unfoldable pub records_in : Settings → Octave → ℕ → List (List ℕ)
 records_in s q layer = flat_map (records_for q) (found_in s q layer)
 
--- of an octave, by the layer searched from 1 on
+-- of an octave, by the layer searched from 1 on; of a frame, octave by octave
 unfoldable pub octave_records : Settings → Octave → List (List ℕ)
 octave_records s q = joined 1 (s.layers + 1) (records_in s q)
+
+unfoldable pub sheet_records : Settings → List Octave → List (List ℕ)
+sheet_records s qs = flat_map (octave_records s) qs
+
+-- no stage can refuse: detection accepts every layer, and the pictures have the octave's size and good samples only
+pub record Smooth (wide high : ℕ) (s : Settings) (q : Octave) : Type 0 where
+  pub sized : Sized wide high s q
+  pub searched : (layer : ℕ) → 1 ≤ layer → layer ≤ s.layers → search_fault s q layer ≡ 0
+  pub good : (layer : ℕ) → 1 ≤ layer → layer ≤ s.layers → all_good (q.picture layer) ≡ true

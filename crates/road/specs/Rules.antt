@@ -16,8 +16,7 @@ use Rattle.sheet.specs.Layout.{layout_of, known, max_count}
 use Rattle.sheet.specs.Words.{read_words}
 use Rattle.sheet.specs.Writes.{frame_of, words_right}
 use Rattle.record.specs.Make.{make_number, make_left}
-use Rattle.road.specs.Road.{Among, Octave, size_in, search_fault, found_in, turn_fault, directions_of, inputs_for, patch_fault, patch_reads, value_words_for, samples_for, picture_for}
-use Rattle.road.specs.Frames.{OfFrame, Smooth, sheet_records}
+use Rattle.road.specs.Road.{Among, Octave, size_in, search_fault, found_in, turn_fault, directions_of, inputs_for, patch_fault, patch_reads, value_words_for, samples_for, picture_for, OfFrame, Smooth, sheet_records}
 use Rattle.road.specs.Back.{Framed, taken, ReadsBack}
 
 -- the number where no line but 6 can be given: 0 if all that is read is good, and else 6

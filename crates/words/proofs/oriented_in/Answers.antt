@@ -6,9 +6,7 @@ use mathlib.Core.Bool.{Bool, cond}
 use borrow.Author.Tests.{eq-eqb, ne_eqb}
 use Rattle.orient_words.specs.Oriented.{oriented_words}
 use Rattle.words.specs.Oriented.{six_in, unoriented, oriented_in}
-use borrow.Author.Rules.{rules}
-use Rattle.words.proofs.oriented_in.Statement.{statement}
-use Rattle.words.proofs.oriented_in.Tie as tie
+use Rattle.words.proofs.oriented_in.Goals as goal
 
 whole_is : (o : List ℕ) → length o ≡ oriented_words → six_in o ≡ oriented_in o
 unfolding oriented_in
@@ -18,18 +16,8 @@ unoriented_is : (o : List ℕ) → (length o ≡ oriented_words → ⊥) → uno
 unfolding oriented_in
 unoriented_is o h = sym (ap (λ (b : Bool). cond b (six_in o) unoriented) (ne_eqb (length o) oriented_words h))
 
-whole-oriented-requires : tie.Need-whole-oriented-requires
-whole-oriented-requires c κs = search rules
+pub returns-then-o-eq-ORIENTED_WORDS : goal.returns-then-o-eq-ORIENTED_WORDS
+returns-then-o-eq-ORIENTED_WORDS c = c.whole_oriented.ensures ∙ whole_is _ c.if-o-eq-ORIENTED_WORDS.true
 
-unoriented-keypoint-requires : tie.Need-unoriented-keypoint-requires
-unoriented-keypoint-requires c κs = search rules
-
-returns : tie.Need-returns
-returns c = c.whole-oriented.ensures ∙ whole_is _ c.before.if1.true
-
-returns-2 : tie.Need-returns-2
-returns-2 c = c.unoriented-keypoint.ensures ∙ unoriented_is _ c.before.if1.false
-
-pub oriented-in-spec : {M : Type 1} → statement M
-oriented-in-spec =
-    tie.close (tie.spec whole-oriented-requires unoriented-keypoint-requires returns returns-2)
+pub returns-else-o-eq-ORIENTED_WORDS : goal.returns-else-o-eq-ORIENTED_WORDS
+returns-else-o-eq-ORIENTED_WORDS c = c.unoriented_keypoint.ensures ∙ unoriented_is _ c.if-o-eq-ORIENTED_WORDS.false

@@ -6,9 +6,7 @@ use mathlib.Core.Bool.{Bool, cond}
 use borrow.Author.Tests.{eq-eqb, ne_eqb}
 use Rattle.params.specs.Limits.{keypoint_words}
 use Rattle.words.specs.Keypoint.{words_in, broken, keypoint_in}
-use borrow.Author.Rules.{rules}
-use Rattle.words.proofs.keypoint_in.Statement.{statement}
-use Rattle.words.proofs.keypoint_in.Tie as tie
+use Rattle.words.proofs.keypoint_in.Goals as goal
 
 whole_is : (k : List ℕ) → length k ≡ keypoint_words → words_in k ≡ keypoint_in k
 unfolding keypoint_in
@@ -18,18 +16,8 @@ broken_is : (k : List ℕ) → (length k ≡ keypoint_words → ⊥) → broken 
 unfolding keypoint_in
 broken_is k h = sym (ap (λ (b : Bool). cond b (words_in k) broken) (ne_eqb (length k) keypoint_words h))
 
-whole-keypoint-requires : tie.Need-whole-keypoint-requires
-whole-keypoint-requires c κs = search rules
+pub returns-then-k-eq-KEYPOINT_WORDS : goal.returns-then-k-eq-KEYPOINT_WORDS
+returns-then-k-eq-KEYPOINT_WORDS c = c.whole_keypoint.ensures ∙ whole_is _ c.if-k-eq-KEYPOINT_WORDS.true
 
-broken-keypoint-requires : tie.Need-broken-keypoint-requires
-broken-keypoint-requires c κs = search rules
-
-returns : tie.Need-returns
-returns c = c.whole-keypoint.ensures ∙ whole_is _ c.before.if1.true
-
-returns-2 : tie.Need-returns-2
-returns-2 c = c.broken-keypoint.ensures ∙ broken_is _ c.before.if1.false
-
-pub keypoint-in-spec : {M : Type 1} → statement M
-keypoint-in-spec =
-    tie.close (tie.spec whole-keypoint-requires broken-keypoint-requires returns returns-2)
+pub returns-else-k-eq-KEYPOINT_WORDS : goal.returns-else-k-eq-KEYPOINT_WORDS
+returns-else-k-eq-KEYPOINT_WORDS c = c.broken_keypoint.ensures ∙ broken_is _ c.if-k-eq-KEYPOINT_WORDS.false

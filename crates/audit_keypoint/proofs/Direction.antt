@@ -5,7 +5,6 @@ use mathlib.Core.Bool.{true, false, not, cond, and-false}
 use mathlib.Core.List.{List}
 use native.Mathlib.Omega.{arith}
 use borrow.Author.Tests.{eq-eqb, ne_eqb, not-true, not-false}
-use denote.Enum.Declared.{tag_of}
 use mir.Syntax.{w32}
 use mir.Val.{to_z}
 use mir.ValLaws.{to_z_pos}
@@ -25,7 +24,6 @@ use Rattle.descriptor_words.specs.declared.Spot.{Spot}
 use Rattle.descriptor.specs.Entry.{fault_of, described_of, described_out, number_of, used_of}
 use Rattle.descriptor.specs.declared.Described.{Described}
 use Rattle.descriptor.specs.declared.Described.TheVariants.{Done, Refused}
-use Rattle.descriptor.specs.contracts.Described.{the_type}
 use Rattle.words.specs.Keypoint.{keypoint_in}
 use Rattle.words.specs.Oriented.{oriented_in}
 use Rattle.record.specs.Record.{record_of}
@@ -50,8 +48,8 @@ module _ (img : List Float) (z : Size) (p : Spot) (out : List ℕ) (d : Describe
   unfolding described_of
   given = e ∙ rw room
 
-  fault_told : Undone (tag_of the_type d) → eqb (fault_of img z p) 0 ≡ false
-  fault_told k = fault_there (tag_of the_type) (fault_of img z p) (Done (length (samples_of img (turn_at z p)))) (Refused (fault_of img z p)) d given refl k
+  fault_told : Undone Done d → eqb (fault_of img z p) 0 ≡ false
+  fault_told k = fault_there Done (fault_of img z p) (length (samples_of img (turn_at z p))) (Refused (fault_of img z p)) d given k
 
   described : (m : ℕ) → d ≡ Done m → (eqb (fault_of img z p) 0 ≡ true) × ((length (samples_of img (turn_at z p)) ≡ m) × (described_out img z p out ≡ words_at img z p))
   unfolding described_out
@@ -79,11 +77,11 @@ module _ (g : Given) (img : List Float) (kw ow : List ℕ) (st : Standing) where
     step_unfit n r q = unserved (unfit n) r q
 
     module _ (out : List ℕ) (d : Described) (room : length out ≡ value_count) (told : d ≡ described_of img (size_for g.shape) (spot_of i) (length out)) where
-      fault_at : Undone (tag_of the_type d) → served img (size_for g.shape) g.octave kw ow ≡ false
+      fault_at : Undone Done d → served img (size_for g.shape) g.octave kw ow ≡ false
       unfolding served
       fault_at k = rw (← fit, fault_told img (size_for g.shape) (spot_of i) out d room told k, and-false)
 
-      pub step_undescribed : Undone (tag_of the_type d) → (r : Standing) → r ≡ refused → r ≡ direction_step g img kw st ow
+      pub step_undescribed : Undone Done d → (r : Standing) → r ≡ refused → r ≡ direction_step g img kw st ow
       step_undescribed k r q = unserved (fault_at k) r q
 
       pub step_made : (i.number ≡ 0) → (m : ℕ) → d ≡ Done m → (values : List ℕ) → values ≡ described_out img (size_for g.shape) (spot_of i) out → (r : Standing) →

@@ -2,26 +2,18 @@
 use Prim.Native.Nat.{ℕ, zero, suc}
 use mathlib.Core.Path.{◌≡◌, refl, sym, ap, ◌∙◌}
 use mathlib.Core.Bool.{true, false}
-use mathlib.Core.List.{[], ◌∷◌}
-use mathlib.Core.Logic.{inl, inr}
 use native.Mathlib.Nat.{suc-ne-zero}
-use native.Mathlib.Omega.{arith}
 use borrow.Author.Tests.{ne_eqb}
-use types.Run.{OneOf}
 use lib.Dec.{eqb}
 use Rattle.params.specs.Answers.{on_fault}
 
--- the tags that a match leaves beside that of done
-abbrev pub Undone : ℕ → Type 0
-Undone tag = OneOf (1 ∷ 2 ∷ []) tag
+-- an answer that is not done
+abbrev pub Undone : {A : Type 0} → (ℕ → A) → A → Type 0
+Undone done a = (n : ℕ) → a ≡ done n → ⊥
 
-undone : (tag : ℕ) → tag ≡ 0 → Undone tag → ⊥
-undone tag e (inl q) = omega arith
-undone tag e (inr q) = omega arith
-
-pub fault_there : {A : Type 0} (tag : A → ℕ) (fault : ℕ) (done refusal a : A) → a ≡ on_fault fault done refusal → tag done ≡ 0 → Undone (tag a) → eqb fault 0 ≡ false
-fault_there tag zero done refusal a e t k = absurd (undone (tag a) (ap tag e ∙ t) k)
-fault_there tag (suc f) done refusal a e t k = ne_eqb (suc f) 0 (suc-ne-zero f)
+pub fault_there : {A : Type 0} (done : ℕ → A) (fault n : ℕ) (refusal a : A) → a ≡ on_fault fault (done n) refusal → Undone done a → eqb fault 0 ≡ false
+fault_there done zero n refusal a e k = absurd (k n e)
+fault_there done (suc f) n refusal a e k = ne_eqb (suc f) 0 (suc-ne-zero f)
 
 pub fault_none : {A : Type 0} (number : A → ℕ) (fault : ℕ) (done refusal a : A) → a ≡ on_fault fault done refusal → number refusal ≡ fault → number a ≡ 0 → (eqb fault 0 ≡ true) × (a ≡ done)
 fault_none number zero done refusal a e n z = (refl, e)

@@ -5,7 +5,6 @@ use mathlib.Core.Bool.{true, false}
 use mathlib.Core.List.{List, [], ◌∷◌, map, flat_map}
 use native.Mathlib.Omega.{arith}
 use borrow.Author.Tests.{le-leb}
-use denote.Enum.Declared.{tag_of}
 use lib.Dec.{eqb}
 use lib.ListN.{length}
 use lib.Ieee.{Float}
@@ -13,7 +12,6 @@ use Rattle.lists.specs.Pasted.{pasted}
 use Rattle.lists.proofs.Pasted.{length_pasted}
 use Rattle.params.specs.Answers.{on_fault, answer_of, number_of, count_of}
 use Rattle.params.specs.declared.Answer.TheVariants.{Done, Refused}
-use Rattle.params.specs.contracts.Answer.{the_type}
 use Rattle.detect_keypoint.specs.declared.RawKeypoint.{RawKeypoint}
 use Rattle.orient_words.specs.Oriented.{oriented_words, words_of, words}
 use Rattle.orient_words.specs.declared.OrientedKeypoint.{OrientedKeypoint}
@@ -57,10 +55,10 @@ module _ (g : Given) (img : List Float) (kw : List ℕ) (k : RawKeypoint) (read 
   unfolding orient_answer
   answered = ap (λ (a : OrientAnswer). a.answer) told
 
-  fault_told : Undone (tag_of the_type r.answer) → eqb fault 0 ≡ false
-  fault_told u = fault_there (tag_of the_type) fault (Done (length found)) (Refused fault) r.answer (answered ∙ back) refl u
+  fault_told : Undone Done r.answer → eqb fault 0 ≡ false
+  fault_told u = fault_there Done fault (length found) (Refused fault) r.answer (answered ∙ back) u
 
-  pub turn_refused : Undone (tag_of the_type r.answer) → (st s : Standing) → s ≡ refused → s ≡ turn_step g img st kw
+  pub turn_refused : Undone Done r.answer → (st s : Standing) → s ≡ refused → s ≡ turn_step g img st kw
   unfolding turn_step fault
   turn_refused u st s q = q ∙ rw (fault_told u)
 

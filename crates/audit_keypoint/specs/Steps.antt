@@ -3,7 +3,6 @@ use Rattle.std.specs.Prelude.{ℕ, Bool, ◌&&◌, cond, eqb, leb, pos, length, 
 use mathlib.Core.List.{List, foldl, map}
 use Rattle.picture.specs.declared.Shape.{Shape}
 use Rattle.picture.specs.declared.Size.{Size}
-use Rattle.detect_keypoint.specs.declared.RawKeypoint.{RawKeypoint}
 use Rattle.orient_words.specs.Oriented.{words_of}
 use Rattle.orient.specs.Entry.{orient_fault, oriented_list}
 use Rattle.descriptor_inputs.specs.Inputs.{inputs_of}

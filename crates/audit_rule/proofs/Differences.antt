@@ -8,7 +8,6 @@ use borrow.Author.Tests.{eqb-true, eqb-false}
 use lib.Dec.{eqb}
 use lib.ListN.{length, get_or, take}
 use Rattle.params.specs.Answers.{on_fault}
-use Rattle.sheet.specs.Pack.{fields}
 use Rattle.sheet.specs.Sheet.{all_pass}
 use Rattle.sheet.proofs.Words.{field_count}
 use Rattle.audit_compare.specs.Difference.{differs_from, first_difference}

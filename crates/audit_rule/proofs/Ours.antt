@@ -1,5 +1,5 @@
 -- What the checker accepts are the bytes of the rules' own sheet, and that sheet is accepted, in every edition. Assumes nothing.
-use Prim.Native.Nat.{ℕ, suc, ◌-◌, ◌%◌, ◌^◌}
+use Prim.Native.Nat.{ℕ, suc, ◌%◌, ◌^◌}
 use native.Mathlib.Nat.{le_trans, le_of_eq}
 use native.Mathlib.Omega.{arith}
 use mathlib.Core.Path.{◌≡◌, refl, sym, ap, ◌∙◌}

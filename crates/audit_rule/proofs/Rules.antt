@@ -4,7 +4,7 @@ use native.Mathlib.Omega.{arith}
 use mathlib.Core.Path.{◌≡◌, ap, ◌∙◌}
 use mathlib.Core.Bool.{Bool, true, and-eq-true_iff}
 use mathlib.Core.List.Memᴰ
-use mathlib.Core.List.{List, ◌∷◌}
+use mathlib.Core.List.{List, [], ◌∷◌}
 use lib.Ieee.{Float}
 use Rattle.params.specs.Table.{all_good}
 use Rattle.params.specs.declared.Settings.{Settings}
@@ -26,6 +26,7 @@ use Rattle.audit_rule.proofs.Ours.{formed, stack_good, cells_good, accepted_ours
 -- what all pass, each passes
 each_of : {A : Type 0} (test : A → Bool) (xs : List A) → all_of test xs ≡ true → (x : A) → Among x xs → test x ≡ true
 unfolding all_of
+each_of test [] e x m = elim m [ ]
 each_of test (y ∷ ys) e x (Memᴰ.head is) = ap test is ∙ ((and-eq-true_iff (test y) (all_of test ys)).0 e).0
 each_of test (y ∷ ys) e x (Memᴰ.tail m) = each_of test ys ((and-eq-true_iff (test y) (all_of test ys)).0 e).1 x m
 

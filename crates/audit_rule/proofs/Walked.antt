@@ -26,8 +26,7 @@ use Rattle.words.specs.Oriented.{oriented_in}
 use Rattle.words.specs.Rules.{OrientedHeld}
 use Rattle.words.proofs.Rules.{words_rule}
 use Rattle.sheet.specs.Layout.{Layout}
-use Rattle.road.specs.Road.{Among, Octave, size_in, found_in, directions_of, picture_for, patch_reads, record_for, records_for, records_in, octave_records, search_fault, turn_fault, patch_fault}
-use Rattle.road.specs.Frames.{Sized, OfFrame}
+use Rattle.road.specs.Road.{Among, Octave, Sized, OfFrame, size_in, found_in, directions_of, picture_for, patch_reads, record_for, records_for, records_in, octave_records, search_fault, turn_fault, patch_fault}
 use Rattle.road.specs.Rules.{six_unless, Making}
 use Rattle.road.proofs.Members.{from_joined}
 use Rattle.road.proofs.Stages.{sound, passed, oriented, turn, described}

@@ -1,0 +1,40 @@
+use Prim.Native.Nat.{◌-◌}
+use mathlib.Core.Path.{◌≡◌}
+use native.Mathlib.Omega.{arith}
+use Rattle.params.specs.Limits.{border}
+use Rattle.detect_extrema.specs.Neighbours.{tied}
+use Rattle.detect_extrema.specs.Scan.{row_of, keypoints}
+use Rattle.audit_keypoint.specs.Steps.{given_of}
+use Rattle.audit_walk.specs.Walk.{passed}
+use Rattle.audit_walk.proofs.Passed.{passed_none, passed_more}
+use Rattle.audit_walk.proofs.Borders.{bare, inner}
+use Rattle.audit_walk.proofs.add_layer.Goals as goal
+
+pub returns-then-t : goal.returns-then-t
+unfolding passed
+returns-then-t c =
+    let a = c.args in
+    rw (bare a.dog.now a.k.shape a.s c.if-t.true)
+
+pub overflow_sub-r-end : goal.overflow_sub-r-end
+overflow_sub-r-end c = omega (arith, inner c.args.k.shape.width c.args.k.shape.height c.if-t.false)
+
+pub loop-r-init : goal.loop-r-init
+loop-r-init c = (omega arith, omega (arith, inner c.args.k.shape.width c.args.k.shape.height c.if-t.false), passed_none _ _ _ border _ border (omega arith))
+
+pub add_row-now-requires-clause-border_bound : goal.add_row-now-requires-clause-border_bound
+add_row-now-requires-clause-border_bound c = ((inner _ _ c.if-t.false).0, c.loop-r.invariant.0, c.loop-r-test.true)
+
+pub loop-r-preserved : goal.loop-r-preserved
+loop-r-preserved c =
+    let l = c.loop-r in
+    let a = c.args in
+    (omega arith, omega arith, passed_more a.gauss.now (given_of a.body.now a.k) a.st border (λ r. row_of tied a.dog.now a.k.shape a.s r) l.r l.now _ l.invariant.0 l.invariant.2 c.add_row-now.ensures)
+
+pub returns : goal.returns
+unfolding keypoints
+returns c =
+    let l = c.loop-r in
+    let a = c.args in
+    let e : l.r ≡ a.k.shape.height - border = omega arith in
+    rw e at l.invariant.2

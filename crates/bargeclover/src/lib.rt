@@ -1,4 +1,4 @@
-// The C library: one thin exported function for each entry, and nothing else. `include/bargeclover.h` says the same in C's words.
+// The C library: one thin function for each entry, and nothing else; `bargeclover_c` exports each to C. `include/bargeclover.h` says the same in C's words.
 // Where a parameter or an answer stands for a float and is a u32 (or a u64), it is the float's bits, and every pattern is taken;
 // a not-a-number answered has the bits 2143289344.
 #![tactic(auto)]
@@ -12,13 +12,13 @@ ghost use Rattle.detect_threshold.specs.Threshold.{threshold_answer, threshold_n
 ghost use Rattle.detect.specs.Entry.{extrema_answer, extrema_out};
 ghost use Rattle.orient.specs.Entry.{orient_answer, orient_out};
 ghost use Rattle.descriptor_inputs.specs.Inputs.{inputs_of};
-ghost use Rattle.descriptor.specs.Entry.{number_of as describedNumber, count_of as describedCount, used_of, described_of, described_out};
+ghost use Rattle.descriptor.specs.Entry.{number_of as described_number, count_of as described_count, used_of, described_of, described_out};
 ghost use Rattle.thin.specs.Entry.{thin_answer, thin_out};
 ghost use Rattle.sheet.specs.Writes.{frame_of, write_answer, write_out};
 ghost use Rattle.sheet.specs.Reads.{read_answer, read_out};
 ghost use Rattle.record.specs.Make.{make_number, make_left};
 ghost use Rattle.audit_rule.specs.Entry.{check_answer};
-ghost use Rattle.audit_verdict.specs.Verdict.{number_of as checkNumber, verdict_of, place_of, field_of};
+ghost use Rattle.audit_verdict.specs.Verdict.{number_of as check_number, verdict_of, place_of, field_of};
 ghost use Rattle.words.specs.Keypoint.{keypoint_in};
 ghost use Rattle.words.specs.Oriented.{oriented_in};
 ghost use Rattle.bargeclover.specs.Given.{settings_of, shape_of, size_of, spot_of};
@@ -34,43 +34,37 @@ use picture::{Shape, Size};
 
 // ---- routines
 
-#[unsafe(no_mangle)]
-pub extern "C" fn bargeclover_exp2(x: u32) -> u32
+pub fn bargeclover_exp2(x: u32) -> u32
     ensures { result ≡ bits_of (exp2_of (f32 x)) }
 {
     ieee::bits_of(hal::exp2(ieee::of_bits(x)))
 }
 
-#[unsafe(no_mangle)]
-pub extern "C" fn bargeclover_exp(x: u32) -> u32
+pub fn bargeclover_exp(x: u32) -> u32
     ensures { result ≡ bits_of (exp_of (f32 x)) }
 {
     ieee::bits_of(hal::exp(ieee::of_bits(x)))
 }
 
-#[unsafe(no_mangle)]
-pub extern "C" fn bargeclover_sin(degrees: u32) -> u32
+pub fn bargeclover_sin(degrees: u32) -> u32
     ensures { result ≡ bits_of (sin_of (f32 degrees)) }
 {
     ieee::bits_of(hal_turn::sin(ieee::of_bits(degrees)))
 }
 
-#[unsafe(no_mangle)]
-pub extern "C" fn bargeclover_cos(degrees: u32) -> u32
+pub fn bargeclover_cos(degrees: u32) -> u32
     ensures { result ≡ bits_of (cos_of (f32 degrees)) }
 {
     ieee::bits_of(hal_turn::cos(ieee::of_bits(degrees)))
 }
 
-#[unsafe(no_mangle)]
-pub extern "C" fn bargeclover_angle(dx: u32, dy: u32) -> u32
+pub fn bargeclover_angle(dx: u32, dy: u32) -> u32
     ensures { result ≡ bits_of (angle_of (f32 dx) (f32 dy)) }
 {
     ieee::bits_of(hal_angle::angle(ieee::of_bits(dx), ieee::of_bits(dy)))
 }
 
-#[unsafe(no_mangle)]
-pub extern "C" fn bargeclover_magnitude(dx: u32, dy: u32) -> u32
+pub fn bargeclover_magnitude(dx: u32, dy: u32) -> u32
     ensures { result ≡ bits_of (magnitude_of (f32 dx) (f32 dy)) }
 {
     ieee::bits_of(hal_magnitude::magnitude(ieee::of_bits(dx), ieee::of_bits(dy)))
@@ -78,43 +72,37 @@ pub extern "C" fn bargeclover_magnitude(dx: u32, dy: u32) -> u32
 
 // ---- single operations
 
-#[unsafe(no_mangle)]
-pub extern "C" fn bargeclover_fma(a: u32, b: u32, c: u32) -> u32
+pub fn bargeclover_fma(a: u32, b: u32, c: u32) -> u32
     ensures { result ≡ bits_of (fused (f32 a) (f32 b) (f32 c)) }
 {
     ieee::bits_of(ieee_fused::mul_add(ieee::of_bits(a), ieee::of_bits(b), ieee::of_bits(c)))
 }
 
-#[unsafe(no_mangle)]
-pub extern "C" fn bargeclover_sqrt(x: u32) -> u32
+pub fn bargeclover_sqrt(x: u32) -> u32
     ensures { result ≡ bits_of (root_of (f32 x)) }
 {
     ieee::bits_of(ieee_root::sqrt(ieee::of_bits(x)))
 }
 
-#[unsafe(no_mangle)]
-pub extern "C" fn bargeclover_narrow(x: u64) -> u32
+pub fn bargeclover_narrow(x: u64) -> u32
     ensures { result ≡ bits_of (narrowed (of_bits binary64 x)) }
 {
     ieee::bits_of(ieee_fused::narrow(ieee::of_bits64(x)))
 }
 
-#[unsafe(no_mangle)]
-pub extern "C" fn bargeclover_floor(x: u32) -> u32
+pub fn bargeclover_floor(x: u32) -> u32
     ensures { result ≡ bits_of (floor_of (f32 x)) }
 {
     ieee::bits_of(ieee_whole::floor(ieee::of_bits(x)))
 }
 
-#[unsafe(no_mangle)]
-pub extern "C" fn bargeclover_round(x: u32) -> u32
+pub fn bargeclover_round(x: u32) -> u32
     ensures { result ≡ bits_of (rounded (f32 x)) }
 {
     ieee::bits_of(ieee_whole::round_ties_even(ieee::of_bits(x)))
 }
 
-#[unsafe(no_mangle)]
-pub extern "C" fn bargeclover_to_i32(x: u32) -> i32
+pub fn bargeclover_to_i32(x: u32) -> i32
     ensures { result ≡ to_i32 (f32 x) }
 {
     ieee_whole::to_i32(ieee::of_bits(x))
@@ -122,12 +110,7 @@ pub extern "C" fn bargeclover_to_i32(x: u32) -> i32
 
 // ---- the threshold
 
-#[unsafe(no_mangle)]
-pub extern "C" fn bargeclover_threshold(
-    contrast: f64,
-    layers: usize,
-    threshold_bits: &mut u32,
-) -> u32
+pub fn bargeclover_threshold(contrast: f64, layers: usize, threshold_bits: &mut u32) -> u32
     ensures value { result ≡ threshold_number (threshold_answer contrast layers) }
     ensures threshold_bits_after { threshold_bits.new ≡ bits_of (threshold_value (threshold_answer contrast layers)) }
 {
@@ -138,8 +121,7 @@ pub extern "C" fn bargeclover_threshold(
 
 // ---- detection
 
-#[unsafe(no_mangle)]
-pub extern "C" fn bargeclover_find_extrema(
+pub fn bargeclover_find_extrema(
     dog: &[f32],
     width: usize,
     height: usize,
@@ -175,8 +157,7 @@ pub extern "C" fn bargeclover_find_extrema(
 
 // ---- orientation
 
-#[unsafe(no_mangle)]
-pub extern "C" fn bargeclover_assign_orientations(
+pub fn bargeclover_assign_orientations(
     img: &[f32],
     width: usize,
     height: usize,
@@ -204,12 +185,7 @@ pub extern "C" fn bargeclover_assign_orientations(
 
 // ---- the descriptor's inputs
 
-#[unsafe(no_mangle)]
-pub extern "C" fn bargeclover_descriptor_inputs(
-    oriented: &[u32],
-    octave: i32,
-    out: &mut [u32],
-) -> u32
+pub fn bargeclover_descriptor_inputs(oriented: &[u32], octave: i32, out: &mut [u32]) -> u32
     ensures value { result ≡ inputs_number (inputs_of (oriented_in oriented.now) octave) (length out.old) }
     ensures out_after { out.new ≡ inputs_left (inputs_of (oriented_in oriented.now) octave) out.old }
 {
@@ -219,8 +195,7 @@ pub extern "C" fn bargeclover_descriptor_inputs(
 
 // ---- the descriptor
 
-#[unsafe(no_mangle)]
-pub extern "C" fn bargeclover_compute_descriptor(
+pub fn bargeclover_compute_descriptor(
     img: &[f32],
     width: usize,
     height: usize,
@@ -232,8 +207,8 @@ pub extern "C" fn bargeclover_compute_descriptor(
     count: &mut usize,
     samples: &mut usize,
 ) -> u32
-    ensures value { result ≡ describedNumber (described_of img.now (size_of width height) (spot_of x y scale angle) (length out.old)) }
-    ensures count_after { count.new ≡ describedCount (described_of img.now (size_of width height) (spot_of x y scale angle) (length out.old)) }
+    ensures value { result ≡ described_number (described_of img.now (size_of width height) (spot_of x y scale angle) (length out.old)) }
+    ensures count_after { count.new ≡ described_count (described_of img.now (size_of width height) (spot_of x y scale angle) (length out.old)) }
     ensures samples_after { samples.new ≡ used_of (described_of img.now (size_of width height) (spot_of x y scale angle) (length out.old)) }
     ensures out_after { out.new ≡ described_out img.now (size_of width height) (spot_of x y scale angle) out.old }
 {
@@ -255,8 +230,7 @@ pub extern "C" fn bargeclover_compute_descriptor(
 
 // ---- even cover
 
-#[unsafe(no_mangle)]
-pub extern "C" fn bargeclover_thin(
+pub fn bargeclover_thin(
     width: usize,
     height: usize,
     words: &[u32],
@@ -276,8 +250,7 @@ pub extern "C" fn bargeclover_thin(
 
 // ---- the sheet
 
-#[unsafe(no_mangle)]
-pub extern "C" fn bargeclover_make_record(
+pub fn bargeclover_make_record(
     keypoint: &[u32],
     oriented: &[u32],
     values: &[u32],
@@ -290,8 +263,7 @@ pub extern "C" fn bargeclover_make_record(
     record::make_record(keypoint, oriented, values, samples, out)
 }
 
-#[unsafe(no_mangle)]
-pub extern "C" fn bargeclover_write_sheet(
+pub fn bargeclover_write_sheet(
     edition: u32,
     width: usize,
     height: usize,
@@ -309,8 +281,7 @@ pub extern "C" fn bargeclover_write_sheet(
     params::number_of(a)
 }
 
-#[unsafe(no_mangle)]
-pub extern "C" fn bargeclover_read_sheet(
+pub fn bargeclover_read_sheet(
     sheet: &[u8],
     out: &mut [u32],
     count: &mut usize,
@@ -339,8 +310,7 @@ pub extern "C" fn bargeclover_read_sheet(
 
 // ---- a sheet checked against the planes that it was made of
 
-#[unsafe(no_mangle)]
-pub extern "C" fn bargeclover_check_sheet(
+pub fn bargeclover_check_sheet(
     dog: &[f32],
     gauss: &[f32],
     width: usize,
@@ -358,7 +328,7 @@ pub extern "C" fn bargeclover_check_sheet(
     place: &mut usize,
     field: &mut u32,
 ) -> u32
-    ensures value { result ≡ checkNumber (check_answer dog.now gauss.now (shape_of width height planes) octave (settings_of contrast edge sigma layers) (size_of wide high) sheet.now) }
+    ensures value { result ≡ check_number (check_answer dog.now gauss.now (shape_of width height planes) octave (settings_of contrast edge sigma layers) (size_of wide high) sheet.now) }
     ensures verdict_after { verdict.new ≡ verdict_of (check_answer dog.now gauss.now (shape_of width height planes) octave (settings_of contrast edge sigma layers) (size_of wide high) sheet.now) }
     ensures place_after { place.new ≡ place_of (check_answer dog.now gauss.now (shape_of width height planes) octave (settings_of contrast edge sigma layers) (size_of wide high) sheet.now) }
     ensures field_after { field.new ≡ field_of (check_answer dog.now gauss.now (shape_of width height planes) octave (settings_of contrast edge sigma layers) (size_of wide high) sheet.now) }

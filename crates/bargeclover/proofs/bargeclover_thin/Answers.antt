@@ -1,0 +1,18 @@
+use mathlib.Core.Path.{◌∙◌, ap}
+use Rattle.params.specs.Answers.{number_of, count_of}
+use Rattle.bargeclover.proofs.bargeclover_thin.Goals as goal
+
+pub returns-clause-value : goal.returns-clause-value
+returns-clause-value c =
+    let thinned = c.thin_frame-a.ensures in
+    c.number_of.ensures ∙ ap number_of thinned.value
+
+pub returns-clause-count_after : goal.returns-clause-count_after
+returns-clause-count_after c =
+    let thinned = c.thin_frame-a.ensures in
+    c.count_of.ensures ∙ ap count_of thinned.value
+
+pub returns-clause-out_after : goal.returns-clause-out_after
+returns-clause-out_after c =
+    let thinned = c.thin_frame-a.ensures in
+    thinned.out_after

@@ -1,0 +1,18 @@
+use mathlib.Core.Path.{◌∙◌, ap}
+use Rattle.params.specs.Answers.{number_of, count_of}
+use Rattle.bargeclover.proofs.bargeclover_write_sheet.Goals as goal
+
+pub returns-clause-value : goal.returns-clause-value
+returns-clause-value c =
+    let written = c.write_sheet-a.ensures in
+    c.number_of.ensures ∙ ap number_of written.0
+
+pub returns-clause-count_after : goal.returns-clause-count_after
+returns-clause-count_after c =
+    let written = c.write_sheet-a.ensures in
+    c.count_of.ensures ∙ ap count_of written.0
+
+pub returns-clause-out_after : goal.returns-clause-out_after
+returns-clause-out_after c =
+    let written = c.write_sheet-a.ensures in
+    written.1

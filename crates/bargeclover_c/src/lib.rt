@@ -1,0 +1,319 @@
+// The C library's exports: one for each entry of `bargeclover`, under its name and with its clauses, and nothing else. `include/bargeclover.h` says the same in C's words.
+#![tactic(auto)]
+
+ghost use Rattle.std.specs.Prelude.{◌≡◌, length};
+ghost use Rattle.std.specs.Float.Ieee.{of_bits};
+ghost use Rattle.std.specs.Float.{binary64};
+ghost use Rattle.ieee.specs.F32.{f32, bits_of, fused, root_of, narrowed, floor_of, rounded, to_i32};
+ghost use Rattle.params.specs.Answers.{number_of, count_of};
+ghost use Rattle.detect_threshold.specs.Threshold.{threshold_answer, threshold_number, threshold_value};
+ghost use Rattle.detect.specs.Entry.{extrema_answer, extrema_out};
+ghost use Rattle.orient.specs.Entry.{orient_answer, orient_out};
+ghost use Rattle.descriptor_inputs.specs.Inputs.{inputs_of};
+ghost use Rattle.descriptor.specs.Entry.{number_of as described_number, count_of as described_count, used_of, described_of, described_out};
+ghost use Rattle.thin.specs.Entry.{thin_answer, thin_out};
+ghost use Rattle.sheet.specs.Writes.{frame_of, write_answer, write_out};
+ghost use Rattle.sheet.specs.Reads.{read_answer, read_out};
+ghost use Rattle.record.specs.Make.{make_number, make_left};
+ghost use Rattle.audit_rule.specs.Entry.{check_answer};
+ghost use Rattle.audit_verdict.specs.Verdict.{number_of as check_number, verdict_of, place_of, field_of};
+ghost use Rattle.words.specs.Keypoint.{keypoint_in};
+ghost use Rattle.words.specs.Oriented.{oriented_in};
+ghost use Rattle.bargeclover.specs.Given.{settings_of, shape_of, size_of, spot_of};
+ghost use Rattle.words.specs.Inputs.{inputs_number, inputs_left};
+ghost use Rattle.hal.specs.Exp.{exp2_of, exp_of};
+ghost use Rattle.hal_turn.specs.Turn.{sin_of, cos_of};
+ghost use Rattle.hal_angle.specs.Angle.{angle_of};
+ghost use Rattle.hal_magnitude.specs.Magnitude.{magnitude_of};
+
+// ---- routines
+
+#[unsafe(no_mangle)]
+pub extern "C" fn bargeclover_exp2(x: u32) -> u32
+    ensures { result ≡ bits_of (exp2_of (f32 x)) }
+{
+    bargeclover::bargeclover_exp2(x)
+}
+
+#[unsafe(no_mangle)]
+pub extern "C" fn bargeclover_exp(x: u32) -> u32
+    ensures { result ≡ bits_of (exp_of (f32 x)) }
+{
+    bargeclover::bargeclover_exp(x)
+}
+
+#[unsafe(no_mangle)]
+pub extern "C" fn bargeclover_sin(degrees: u32) -> u32
+    ensures { result ≡ bits_of (sin_of (f32 degrees)) }
+{
+    bargeclover::bargeclover_sin(degrees)
+}
+
+#[unsafe(no_mangle)]
+pub extern "C" fn bargeclover_cos(degrees: u32) -> u32
+    ensures { result ≡ bits_of (cos_of (f32 degrees)) }
+{
+    bargeclover::bargeclover_cos(degrees)
+}
+
+#[unsafe(no_mangle)]
+pub extern "C" fn bargeclover_angle(dx: u32, dy: u32) -> u32
+    ensures { result ≡ bits_of (angle_of (f32 dx) (f32 dy)) }
+{
+    bargeclover::bargeclover_angle(dx, dy)
+}
+
+#[unsafe(no_mangle)]
+pub extern "C" fn bargeclover_magnitude(dx: u32, dy: u32) -> u32
+    ensures { result ≡ bits_of (magnitude_of (f32 dx) (f32 dy)) }
+{
+    bargeclover::bargeclover_magnitude(dx, dy)
+}
+
+// ---- single operations
+
+#[unsafe(no_mangle)]
+pub extern "C" fn bargeclover_fma(a: u32, b: u32, c: u32) -> u32
+    ensures { result ≡ bits_of (fused (f32 a) (f32 b) (f32 c)) }
+{
+    bargeclover::bargeclover_fma(a, b, c)
+}
+
+#[unsafe(no_mangle)]
+pub extern "C" fn bargeclover_sqrt(x: u32) -> u32
+    ensures { result ≡ bits_of (root_of (f32 x)) }
+{
+    bargeclover::bargeclover_sqrt(x)
+}
+
+#[unsafe(no_mangle)]
+pub extern "C" fn bargeclover_narrow(x: u64) -> u32
+    ensures { result ≡ bits_of (narrowed (of_bits binary64 x)) }
+{
+    bargeclover::bargeclover_narrow(x)
+}
+
+#[unsafe(no_mangle)]
+pub extern "C" fn bargeclover_floor(x: u32) -> u32
+    ensures { result ≡ bits_of (floor_of (f32 x)) }
+{
+    bargeclover::bargeclover_floor(x)
+}
+
+#[unsafe(no_mangle)]
+pub extern "C" fn bargeclover_round(x: u32) -> u32
+    ensures { result ≡ bits_of (rounded (f32 x)) }
+{
+    bargeclover::bargeclover_round(x)
+}
+
+#[unsafe(no_mangle)]
+pub extern "C" fn bargeclover_to_i32(x: u32) -> i32
+    ensures { result ≡ to_i32 (f32 x) }
+{
+    bargeclover::bargeclover_to_i32(x)
+}
+
+// ---- the threshold
+
+#[unsafe(no_mangle)]
+pub extern "C" fn bargeclover_threshold(
+    contrast: f64,
+    layers: usize,
+    threshold_bits: &mut u32,
+) -> u32
+    ensures value { result ≡ threshold_number (threshold_answer contrast layers) }
+    ensures threshold_bits_after { threshold_bits.new ≡ bits_of (threshold_value (threshold_answer contrast layers)) }
+{
+    bargeclover::bargeclover_threshold(contrast, layers, threshold_bits)
+}
+
+// ---- detection
+
+#[unsafe(no_mangle)]
+pub extern "C" fn bargeclover_find_extrema(
+    dog: &[f32],
+    width: usize,
+    height: usize,
+    planes: usize,
+    layer: usize,
+    octave: u32,
+    layers: usize,
+    contrast: f64,
+    edge: f64,
+    sigma: f64,
+    out: &mut [u32],
+    count: &mut usize,
+) -> u32
+    ensures value { result ≡ number_of (extrema_answer dog.now (shape_of width height planes) layer octave (settings_of contrast edge sigma layers) (length out.old)) }
+    ensures count_after { count.new ≡ count_of (extrema_answer dog.now (shape_of width height planes) layer octave (settings_of contrast edge sigma layers) (length out.old)) }
+    ensures out_after { out.new ≡ extrema_out dog.now (shape_of width height planes) layer octave (settings_of contrast edge sigma layers) out.old }
+{
+    bargeclover::bargeclover_find_extrema(
+        dog, width, height, planes, layer, octave, layers, contrast, edge, sigma, out, count,
+    )
+}
+
+// ---- orientation
+
+#[unsafe(no_mangle)]
+pub extern "C" fn bargeclover_assign_orientations(
+    img: &[f32],
+    width: usize,
+    height: usize,
+    keypoint: &[u32],
+    out: &mut [u32],
+    count: &mut usize,
+    samples: &mut usize,
+) -> u32
+    ensures value { result ≡ number_of (orient_answer img.now (size_of width height) (keypoint_in keypoint.now) (length out.old)).answer }
+    ensures count_after { count.new ≡ count_of (orient_answer img.now (size_of width height) (keypoint_in keypoint.now) (length out.old)).answer }
+    ensures samples_after { samples.new ≡ (orient_answer img.now (size_of width height) (keypoint_in keypoint.now) (length out.old)).samples }
+    ensures out_after { out.new ≡ orient_out img.now (size_of width height) (keypoint_in keypoint.now) out.old }
+{
+    bargeclover::bargeclover_assign_orientations(img, width, height, keypoint, out, count, samples)
+}
+
+// ---- the descriptor's inputs
+
+#[unsafe(no_mangle)]
+pub extern "C" fn bargeclover_descriptor_inputs(
+    oriented: &[u32],
+    octave: i32,
+    out: &mut [u32],
+) -> u32
+    ensures value { result ≡ inputs_number (inputs_of (oriented_in oriented.now) octave) (length out.old) }
+    ensures out_after { out.new ≡ inputs_left (inputs_of (oriented_in oriented.now) octave) out.old }
+{
+    bargeclover::bargeclover_descriptor_inputs(oriented, octave, out)
+}
+
+// ---- the descriptor
+
+#[unsafe(no_mangle)]
+pub extern "C" fn bargeclover_compute_descriptor(
+    img: &[f32],
+    width: usize,
+    height: usize,
+    x: f32,
+    y: f32,
+    scale: f32,
+    angle: f32,
+    out: &mut [u32],
+    count: &mut usize,
+    samples: &mut usize,
+) -> u32
+    ensures value { result ≡ described_number (described_of img.now (size_of width height) (spot_of x y scale angle) (length out.old)) }
+    ensures count_after { count.new ≡ described_count (described_of img.now (size_of width height) (spot_of x y scale angle) (length out.old)) }
+    ensures samples_after { samples.new ≡ used_of (described_of img.now (size_of width height) (spot_of x y scale angle) (length out.old)) }
+    ensures out_after { out.new ≡ described_out img.now (size_of width height) (spot_of x y scale angle) out.old }
+{
+    bargeclover::bargeclover_compute_descriptor(
+        img, width, height, x, y, scale, angle, out, count, samples,
+    )
+}
+
+// ---- even cover
+
+#[unsafe(no_mangle)]
+pub extern "C" fn bargeclover_thin(
+    width: usize,
+    height: usize,
+    words: &[u32],
+    quota: usize,
+    depth: u32,
+    out: &mut [u32],
+    count: &mut usize,
+) -> u32
+    ensures value { result ≡ number_of (thin_answer words.now width height quota depth (length out.old)) }
+    ensures count_after { count.new ≡ count_of (thin_answer words.now width height quota depth (length out.old)) }
+    ensures out_after { out.new ≡ thin_out words.now width height quota depth out.old }
+{
+    bargeclover::bargeclover_thin(width, height, words, quota, depth, out, count)
+}
+
+// ---- the sheet
+
+#[unsafe(no_mangle)]
+pub extern "C" fn bargeclover_make_record(
+    keypoint: &[u32],
+    oriented: &[u32],
+    values: &[u32],
+    samples: usize,
+    out: &mut [u32],
+) -> u32
+    ensures value { result ≡ make_number (keypoint_in keypoint.now) (oriented_in oriented.now) values.now samples (length out.old) }
+    ensures out_after { out.new ≡ make_left (keypoint_in keypoint.now) (oriented_in oriented.now) values.now samples out.old }
+{
+    bargeclover::bargeclover_make_record(keypoint, oriented, values, samples, out)
+}
+
+#[unsafe(no_mangle)]
+pub extern "C" fn bargeclover_write_sheet(
+    edition: u32,
+    width: usize,
+    height: usize,
+    layers: usize,
+    words: &[u32],
+    out: &mut [u8],
+    count: &mut usize,
+) -> u32
+    ensures value { result ≡ number_of (write_answer edition (frame_of width height layers) words.now (length out.old)) }
+    ensures count_after { count.new ≡ count_of (write_answer edition (frame_of width height layers) words.now (length out.old)) }
+    ensures out_after { out.new ≡ write_out edition (frame_of width height layers) words.now out.old }
+{
+    bargeclover::bargeclover_write_sheet(edition, width, height, layers, words, out, count)
+}
+
+#[unsafe(no_mangle)]
+pub extern "C" fn bargeclover_read_sheet(
+    sheet: &[u8],
+    out: &mut [u32],
+    count: &mut usize,
+    edition: &mut u32,
+    width: &mut usize,
+    height: &mut usize,
+    layers: &mut usize,
+) -> u32
+    ensures value { result ≡ number_of (read_answer sheet.now (length out.old)).answer }
+    ensures count_after { count.new ≡ count_of (read_answer sheet.now (length out.old)).answer }
+    ensures edition_after { edition.new ≡ (read_answer sheet.now (length out.old)).edition }
+    ensures width_after { width.new ≡ (read_answer sheet.now (length out.old)).width }
+    ensures height_after { height.new ≡ (read_answer sheet.now (length out.old)).height }
+    ensures layers_after { layers.new ≡ (read_answer sheet.now (length out.old)).layers }
+    ensures out_after { out.new ≡ read_out sheet.now out.old }
+{
+    bargeclover::bargeclover_read_sheet(sheet, out, count, edition, width, height, layers)
+}
+
+// ---- a sheet checked against the planes that it was made of
+
+#[unsafe(no_mangle)]
+pub extern "C" fn bargeclover_check_sheet(
+    dog: &[f32],
+    gauss: &[f32],
+    width: usize,
+    height: usize,
+    planes: usize,
+    octave: u32,
+    layers: usize,
+    contrast: f64,
+    edge: f64,
+    sigma: f64,
+    wide: usize,
+    high: usize,
+    sheet: &[u8],
+    verdict: &mut u32,
+    place: &mut usize,
+    field: &mut u32,
+) -> u32
+    ensures value { result ≡ check_number (check_answer dog.now gauss.now (shape_of width height planes) octave (settings_of contrast edge sigma layers) (size_of wide high) sheet.now) }
+    ensures verdict_after { verdict.new ≡ verdict_of (check_answer dog.now gauss.now (shape_of width height planes) octave (settings_of contrast edge sigma layers) (size_of wide high) sheet.now) }
+    ensures place_after { place.new ≡ place_of (check_answer dog.now gauss.now (shape_of width height planes) octave (settings_of contrast edge sigma layers) (size_of wide high) sheet.now) }
+    ensures field_after { field.new ≡ field_of (check_answer dog.now gauss.now (shape_of width height planes) octave (settings_of contrast edge sigma layers) (size_of wide high) sheet.now) }
+{
+    bargeclover::bargeclover_check_sheet(
+        dog, gauss, width, height, planes, octave, layers, contrast, edge, sigma, wide, high,
+        sheet, verdict, place, field,
+    )
+}

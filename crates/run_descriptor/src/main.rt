@@ -7,6 +7,8 @@ ghost use Rattle.std.specs.Prelude.{◌≤◌};
 use descriptor::Described;
 use descriptor_words::Spot;
 use picture::Size;
+use std::io;
+use std::io::Read;
 
 // How the file begins: "BCL3".
 const MARK: u32 = 0x4243_4c33;
@@ -28,17 +30,17 @@ struct Case {
     samples: usize,
 }
 
-fn next_case(fd: i32, counts: &mut [u64; 32]) -> Case {
-    let width = run_replay::next_size(fd, counts);
-    let height = run_replay::next_size(fd, counts);
-    let x = run_replay::next_float(fd, counts);
-    let y = run_replay::next_float(fd, counts);
-    let scale = run_replay::next_float(fd, counts);
-    let angle = run_replay::next_float(fd, counts);
-    let room = run_replay::next_size(fd, counts);
-    let number = run_replay::next(fd, counts);
-    let count = run_replay::next_size(fd, counts);
-    let samples = run_replay::next_size(fd, counts);
+fn next_case(file: &mut impl Read, counts: &mut [u64; 32]) -> io::Result<Case> {
+    let width = run_replay::next_size(file, counts)?;
+    let height = run_replay::next_size(file, counts)?;
+    let x = run_replay::next_float(file, counts)?;
+    let y = run_replay::next_float(file, counts)?;
+    let scale = run_replay::next_float(file, counts)?;
+    let angle = run_replay::next_float(file, counts)?;
+    let room = run_replay::next_size(file, counts)?;
+    let number = run_replay::next(file, counts)?;
+    let count = run_replay::next_size(file, counts)?;
+    let samples = run_replay::next_size(file, counts)?;
     let size = Size {
         width: width,
         height: height,
@@ -49,14 +51,14 @@ fn next_case(fd: i32, counts: &mut [u64; 32]) -> Case {
         scale: scale,
         angle: angle,
     };
-    Case {
+    Ok(Case {
         size: size,
         spot: spot,
         room: room,
         number: number,
         count: count,
         samples: samples,
-    }
+    })
 }
 
 fn compare_answer(counts: &mut [u64; 32], a: Described, c: Case) {
@@ -76,55 +78,61 @@ fn compare_answer(counts: &mut [u64; 32], a: Described, c: Case) {
 }
 
 // Replays a case of n samples, whose head is read.
-fn replay_case(fd: i32, counts: &mut [u64; 32], c: Case, n: usize, room: usize)
+fn replay_case(
+    file: &mut impl Read,
+    counts: &mut [u64; 32],
+    c: Case,
+    n: usize,
+    room: usize,
+) -> io::Result<()>
     requires { (n ≤ 65536) × (room ≤ 4096) }
 {
-    let samples = run_replay::read_samples(fd, counts, n);
+    let samples = run_replay::read_samples(file, counts, n)?;
     let mut out = [PATTERN; 4096];
     let s = c.size;
     let p = c.spot;
     let a = descriptor::compute_descriptor(&samples[..n], s, p, &mut out[..room]);
     compare_answer(counts, a, c);
-    run_replay::compare_words(fd, counts, &out, room);
+    run_replay::compare_words(file, counts, &out, room)
 }
 
 // Reads a case and replays it, if it fits the buffers.
-fn step(fd: i32, counts: &mut [u64; 32]) {
-    let c = next_case(fd, counts);
+fn step(file: &mut impl Read, counts: &mut [u64; 32]) -> io::Result<()> {
+    let c = next_case(file, counts)?;
     let s = c.size;
     let n = run_replay::product(s.width, s.height);
     let room = c.room;
     if n > run_replay::MOST_SAMPLES {
         run_replay::add(counts, run_replay::UNREADABLE, 1);
-        return;
+        return Ok(());
     }
     if room > ROOM {
         run_replay::add(counts, run_replay::UNREADABLE, 1);
-        return;
+        return Ok(());
     }
-    replay_case(fd, counts, c, n, room);
+    replay_case(file, counts, c, n, room)
 }
 
 // Replays so many cases, or fewer if the file can't be read on.
-fn replay_all(fd: i32, counts: &mut [u64; 32], cases: u32) {
-    let mut left = cases;
-    while left > 0 && run_replay::readable(counts) {
-        step(fd, counts);
-        left -= 1;
+fn replay_all(file: &mut impl Read, counts: &mut [u64; 32], cases: u32) -> io::Result<()> {
+    for _ in 0..cases {
+        if !run_replay::readable(counts) {
+            break;
+        }
+        step(file, counts)?;
     }
+    Ok(())
 }
 
-fn main() {
-    let fd = run_io::open(b"cases.bin");
-    if fd < 0 {
-        return;
-    }
+fn main(rt: HostRuntime) -> io::Result<()> {
+    let mut file = run_io::open(&rt, b"cases.bin")?;
     let mut counts = [0u64; 32];
-    let cases = run_replay::begin(fd, &mut counts, MARK);
-    replay_all(fd, &mut counts, cases);
-    run_replay::end(fd, cases, &mut counts);
+    let cases = run_replay::begin(&mut file, &mut counts, MARK)?;
+    replay_all(&mut file, &mut counts, cases)?;
+    run_replay::end(&rt, &mut file, cases, &mut counts)?;
     run_io::line(
+        &rt,
         b"numbers of samples that differ",
         counts[run_replay::CELLS_DIFFER],
-    );
+    )
 }

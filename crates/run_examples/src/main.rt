@@ -12,6 +12,7 @@ use detect_refine::Step;
 use detect_threshold::Threshold;
 use params::{Answer, Settings};
 use picture::{Shape, Size};
+use std::io;
 
 // What is shown for an answer that has no count.
 const NOTHING: usize = 999_999;
@@ -76,7 +77,7 @@ fn single(i: usize) -> Pair {
     }
 }
 
-fn singles() {
+fn singles(rt: &impl Print) -> io::Result<()> {
     let mut numbers = [0u64; 32];
     for i in 0..13 {
         let p = single(i);
@@ -84,6 +85,7 @@ fn singles() {
         numbers[2 * i + 1] = p.expected as u64;
     }
     run_io::report_counts(
+        rt,
         b"floor of -0.5 is -1: $, expected $?
 floor of -1 is -1: $, expected $?
 floor of 2.75 is 2: $, expected $?
@@ -99,7 +101,7 @@ threshold for contrast 0.04, layers 3 is 1: $, expected $?
 threshold for contrast 0.04, layers 1 is 5: $, expected $?
 ",
         &numbers,
-    );
+    )
 }
 
 // Three planes of 121 samples, each of them `rest`, but for one of the middle plane's.
@@ -142,9 +144,9 @@ fn detect_in(samples: &[f32; 363], out: &mut [u32; 10]) -> usize {
 }
 
 // A line: the example, a count and the count that is expected.
-fn show_count(example: &[u8], got: usize, expected: usize) {
-    run_io::print(example);
-    run_io::report(b": #, expected #?\n", &[got as u64, expected as u64]);
+fn show_count(rt: &impl Print, example: &[u8], got: usize, expected: usize) -> io::Result<()> {
+    run_io::print(rt, example)?;
+    run_io::report(rt, b": #, expected #?\n", &[got as u64, expected as u64])
 }
 
 // How far a cell comes on its way to a keypoint, by the line that says it.
@@ -208,9 +210,10 @@ fn fate_of(samples: &[f32; 363]) -> usize {
 }
 
 // A line: the example, and how far the middle cell comes. What is expected stands in the file that the output is held to.
-fn show_fate(example: &[u8], samples: &[f32; 363]) {
-    run_io::print(example);
+fn show_fate(rt: &impl Print, example: &[u8], samples: &[f32; 363]) -> io::Result<()> {
+    run_io::print(rt, example)?;
     run_io::say_line(
+        rt,
         b": no candidate, below the threshold
 : no candidate, a neighbour beats it
 : a candidate, its determinant is 0
@@ -220,7 +223,7 @@ fn show_fate(example: &[u8], samples: &[f32; 363]) {
 : a keypoint
 ",
         fate_of(samples),
-    );
+    )
 }
 
 // How many keypoints there are where all samples are 0 but for 100 in one cell of the middle plane.
@@ -247,22 +250,23 @@ fn cells_tried() -> usize {
 }
 
 // Zeros, and one value in the middle, the cell (5, 5): how far it comes, and how many keypoints there are. Answers the first one's words.
-fn middle(example: &[u8], value: f32, expected: usize) -> [u32; 10] {
+fn middle(rt: &impl Print, example: &[u8], value: f32, expected: usize) -> io::Result<[u32; 10]> {
     let mut out = [0u32; 10];
     let samples = planes(0.0, 60, value);
-    show_fate(example, &samples);
-    show_count(b" keypoints", detect_in(&samples, &mut out), expected);
-    out
+    show_fate(rt, example, &samples)?;
+    show_count(rt, b" keypoints", detect_in(&samples, &mut out), expected)?;
+    Ok(out)
 }
 
 fn wide(x: u32) -> u64 {
     x as u64
 }
 
-fn middle_fields(value: f32) {
-    let out = middle(b" the middle", value, 1);
+fn middle_fields(rt: &impl Print, value: f32) -> io::Result<()> {
+    let out = middle(rt, b" the middle", value, 1)?;
     let five = wide(ieee::bits_of(5.0));
     run_io::report(
+        rt,
         b" x is 5: $, expected $?
  y is 5: $, expected $?
  octave word is 8388864: $, expected $?
@@ -278,10 +282,10 @@ fn middle_fields(value: f32) {
             wide(out[9]),
             0,
         ],
-    );
+    )
 }
 
-fn detection() {
+fn detection(rt: &impl Print) -> io::Result<()> {
     let mut out = [0u32; 10];
     let mut narrow = [0.0f32; 330];
     narrow[165] = 100.0;
@@ -291,29 +295,32 @@ fn detection() {
         planes: 3,
     };
     show_count(
+        rt,
         b"width 10, 100 in the middle plane's cell (5, 5)",
         found(detect::find_extrema(&narrow, ten, 1, 0, settings(), &mut out)),
         0,
-    );
+    )?;
     show_count(
+        rt,
         b"11 x 11, 100 in one cell of 121 in turn, found",
         cells_tried(),
         1,
-    );
-    show_count(b" of these in the cell (5, 5)", found_at(60), 1);
+    )?;
+    show_count(rt, b" of these in the cell (5, 5)", found_at(60), 1)?;
     let tens = planes(10.0, 60, 10.0);
-    show_fate(b"three planes of 10", &tens);
-    show_count(b" keypoints", detect_in(&tens, &mut out), 0);
+    show_fate(rt, b"three planes of 10", &tens)?;
+    show_count(rt, b" keypoints", detect_in(&tens, &mut out), 0)
 }
 
-fn middles() {
-    run_io::print(b"zeros with 100 in the middle:\n");
-    middle_fields(100.0);
-    run_io::print(b"zeros with -100 in the middle:\n");
-    middle_fields(-100.0);
-    middle(b"zeros with 5 in the middle", 5.0, 0);
-    middle(b"zeros with 10 in the middle", 10.0, 0);
-    middle(b"zeros with 11 in the middle", 11.0, 1);
+fn middles(rt: &impl Print) -> io::Result<()> {
+    run_io::print(rt, b"zeros with 100 in the middle:\n")?;
+    middle_fields(rt, 100.0)?;
+    run_io::print(rt, b"zeros with -100 in the middle:\n")?;
+    middle_fields(rt, -100.0)?;
+    middle(rt, b"zeros with 5 in the middle", 5.0, 0)?;
+    middle(rt, b"zeros with 10 in the middle", 10.0, 0)?;
+    middle(rt, b"zeros with 11 in the middle", 11.0, 1)?;
+    Ok(())
 }
 
 fn marked(bits: u32) -> usize
@@ -342,7 +349,7 @@ fn used(a: Described) -> usize {
 }
 
 // A 2 × 2 picture has no cell off its edge.
-fn described() {
+fn described(rt: &impl Print) -> io::Result<()> {
     let picture = [1.0f32, 2.0, 3.0, 4.0];
     let mut values = [7u32; 128];
     let size = Size {
@@ -356,13 +363,13 @@ fn described() {
         angle: 30.0,
     };
     let a = descriptor::compute_descriptor(&picture, size, spot, &mut values);
-    show_count(b"a 2 x 2 picture, samples", used(a), 0);
-    show_count(b" values that are not zero", not_zero(&values), 0);
+    show_count(rt, b"a 2 x 2 picture, samples", used(a), 0)?;
+    show_count(rt, b" values that are not zero", not_zero(&values), 0)
 }
 
-fn main() {
-    singles();
-    detection();
-    middles();
-    described();
+fn main(rt: HostRuntime) -> io::Result<()> {
+    singles(&rt)?;
+    detection(&rt)?;
+    middles(&rt)?;
+    described(&rt)
 }

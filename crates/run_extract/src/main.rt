@@ -4,7 +4,7 @@
 // (data/README.md says how they were made). What is printed: a line for each record as the reader gives it, and the sheet's bytes, the header first and then a record a line.
 #![tactic(auto)]
 
-ghost use Rattle.std.specs.Prelude.{◌≡◌, ◌+◌, ◌<◌, ◌≤◌, length};
+ghost use Rattle.std.specs.Prelude.{◌≡◌, ◌+◌, ◌<◌, ◌≤◌, length, IfOk};
 ghost use Rattle.sheet.specs.Words.{read_words};
 ghost use Rattle.run_extract.specs.Sizes.{most_found, most_records, records_words, sheet_bytes, picture_samples, columns};
 
@@ -13,6 +13,7 @@ use descriptor_words::Spot;
 use orient_words::OrientedKeypoint;
 use params::{Answer, Settings};
 use picture::{Shape, Size};
+use std::io;
 
 const EDITION: u32 = 2;
 
@@ -40,18 +41,18 @@ fn size() -> Size {
 }
 
 // The count of an answer; a refusal is told, and counts as nothing.
-fn told(stage: &[u8], a: Answer) -> usize {
+fn told(rt: &impl Print, stage: &[u8], a: Answer) -> io::Result<usize> {
     match a {
-        Answer::Done(n) => n,
+        Answer::Done(n) => Ok(n),
         Answer::Short(_) => {
-            run_io::print(stage);
-            run_io::print(b" has too little room\n");
-            0
+            run_io::print(rt, stage)?;
+            run_io::print(rt, b" has too little room\n")?;
+            Ok(0)
         }
         Answer::Refused(k) => {
-            run_io::print(stage);
-            run_io::report(b" refuses with number #\n", &[k as u64]);
-            0
+            run_io::print(rt, stage)?;
+            run_io::report(rt, b" refuses with number #\n", &[k as u64])?;
+            Ok(0)
         }
     }
 }
@@ -76,8 +77,8 @@ fn parts(bits: u32, of_one: f32) -> u64 {
 // ---- detection
 
 // The keypoints found in a layer, at most 32 of them.
-fn find(dog: &[f32], layer: usize, found: &mut [u32; 320]) -> usize
-    ensures { result ≤ most_found }
+fn find(rt: &impl Print, dog: &[f32], layer: usize, found: &mut [u32; 320]) -> io::Result<usize>
+    ensures { IfOk result (λ n. n ≤ most_found) }
 {
     let shape = Shape {
         width: WIDTH,
@@ -91,11 +92,11 @@ fn find(dog: &[f32], layer: usize, found: &mut [u32; 320]) -> usize
         layers: LAYERS,
     };
     let a = detect::find_extrema(dog, shape, layer, 0, settings, found);
-    let n = told(b"detection", a);
+    let n = told(rt, b"detection", a)?;
     if n > 32 {
-        return 0;
+        return Ok(0);
     }
-    n
+    Ok(n)
 }
 
 // ---- records
@@ -125,90 +126,99 @@ fn describe(picture: &[f32], o: OrientedKeypoint, values: &mut [u32; 128]) -> De
 
 // Adds the record of a keypoint, its direction and its descriptor, and answers how many records there are now.
 fn add_made(
+    rt: &impl Print,
     keypoint: &[u32],
     oriented: &[u32],
     values: [u32; 128],
     samples: usize,
     records: &mut [u32; 8896],
     written: usize,
-) -> usize
+) -> io::Result<usize>
     requires { written < most_records }
-    ensures { result ≤ most_records }
+    ensures { IfOk result (λ n. n ≤ most_records) }
 {
     let mut made = [0u32; 139];
     let number = record::make_record(keypoint, oriented, &values, samples, &mut made);
     if number != 0 {
-        told(b"the maker of records", Answer::Refused(number));
-        return written;
+        told(rt, b"the maker of records", Answer::Refused(number))?;
+        return Ok(written);
     }
     put_record(records, 139 * written, &made);
-    written + 1
+    Ok(written + 1)
 }
 
 // Adds the record of a keypoint's direction, if there is one. What is refused is told, and adds none.
 fn add_record(
+    rt: &impl Print,
     picture: &[f32],
     keypoint: &[u32],
     oriented: &[u32],
     there: bool,
     records: &mut [u32; 8896],
     written: usize,
-) -> usize
+) -> io::Result<usize>
     requires { written ≤ most_records }
-    ensures { result ≤ most_records }
+    ensures { IfOk result (λ n. n ≤ most_records) }
 {
     if !there {
-        return written;
+        return Ok(written);
     }
     if written >= MOST {
-        run_io::print(b"more records than there is room for\n");
-        return MOST;
+        run_io::print(rt, b"more records than there is room for\n")?;
+        return Ok(MOST);
     }
     let mut values = [0u32; 128];
     let d = describe(picture, words::oriented_in(oriented), &mut values);
     match d {
         Described::Done(samples) => {
-            add_made(keypoint, oriented, values, samples, records, written)
+            add_made(rt, keypoint, oriented, values, samples, records, written)
         }
-        Described::Short => written,
+        Described::Short => Ok(written),
         Described::Refused(k) => {
-            told(b"the descriptor", Answer::Refused(k));
-            written
+            told(rt, b"the descriptor", Answer::Refused(k))?;
+            Ok(written)
         }
     }
 }
 
 fn add_peaks(
+    rt: &impl Print,
     picture: &[f32],
     keypoint: &[u32],
     out: &[u32; 108],
     peaks: usize,
     records: &mut [u32; 8896],
     written: usize,
-) -> usize
+) -> io::Result<usize>
     requires { written ≤ most_records }
-    ensures { result ≤ most_records }
+    ensures { IfOk result (λ n. n ≤ most_records) }
 {
     let all = &out[..];
     let mut n = written;
     for j in 0..18 {
         let from = 6 * j;
         let to = from + 6;
-        n = add_record(picture, keypoint, &all[from..to], j < peaks, records, n);
+        n = add_record(rt, picture, keypoint, &all[from..to], j < peaks, records, n)?;
     }
-    n
+    Ok(n)
 }
 
 // Adds the records of a keypoint on its picture.
-fn add_on(picture: &[f32], keypoint: &[u32], records: &mut [u32; 8896], written: usize) -> usize
+fn add_on(
+    rt: &impl Print,
+    picture: &[f32],
+    keypoint: &[u32],
+    records: &mut [u32; 8896],
+    written: usize,
+) -> io::Result<usize>
     requires { written ≤ most_records }
-    ensures { result ≤ most_records }
+    ensures { IfOk result (λ n. n ≤ most_records) }
 {
     let mut out = [0u32; 108];
     let r = orient::assign_orientations(picture, size(), words::keypoint_in(keypoint), &mut out);
     let a = r.answer;
-    let peaks = told(b"orientation", a);
-    add_peaks(picture, keypoint, &out, peaks, records, written)
+    let peaks = told(rt, b"orientation", a)?;
+    add_peaks(rt, picture, keypoint, &out, peaks, records, written)
 }
 
 // Which of the three pictures is a layer's.
@@ -224,54 +234,57 @@ fn picture_of(layer: u32) -> usize
 
 // A keypoint's picture is the plane of the layer where it settled, which may be another than the one searched.
 fn add_keypoint(
+    rt: &impl Print,
     pictures: &[f32],
     keypoint: &[u32],
     records: &mut [u32; 8896],
     written: usize,
-) -> usize
+) -> io::Result<usize>
     requires { (length pictures.now ≡ picture_samples) × (written ≤ most_records) }
-    ensures { result ≤ most_records }
+    ensures { IfOk result (λ n. n ≤ most_records) }
 {
     let k = words::keypoint_in(keypoint);
     let from = 2464 * picture_of(k.layer);
     let to = from + 2464;
-    add_on(&pictures[from..to], keypoint, records, written)
+    add_on(rt, &pictures[from..to], keypoint, records, written)
 }
 
 fn add_found(
+    rt: &impl Print,
     pictures: &[f32],
     found: &[u32; 320],
     count: usize,
     records: &mut [u32; 8896],
     written: usize,
-) -> usize
+) -> io::Result<usize>
     requires { (length pictures.now ≡ picture_samples) × (count ≤ most_found) × (written ≤ most_records) }
-    ensures { result ≤ most_records }
+    ensures { IfOk result (λ n. n ≤ most_records) }
 {
     let all = &found[..];
     let mut n = written;
     for i in 0..count {
         let from = 10 * i;
         let to = from + 10;
-        n = add_keypoint(pictures, &all[from..to], records, n);
+        n = add_keypoint(rt, pictures, &all[from..to], records, n)?;
     }
-    n
+    Ok(n)
 }
 
 // Searches a layer, and adds the records of what is found there.
 fn add_layer(
+    rt: &impl Print,
     dog: &[f32],
     pictures: &[f32],
     layer: usize,
     records: &mut [u32; 8896],
     written: usize,
-) -> usize
+) -> io::Result<usize>
     requires { (length pictures.now ≡ picture_samples) × (written ≤ most_records) }
-    ensures { result ≤ most_records }
+    ensures { IfOk result (λ n. n ≤ most_records) }
 {
     let mut found = [0u32; 320];
-    let n = find(dog, layer, &mut found);
-    add_found(pictures, &found, n, records, written)
+    let n = find(rt, dog, layer, &mut found)?;
+    add_found(rt, pictures, &found, n, records, written)
 }
 
 // ---- the sheet
@@ -306,117 +319,125 @@ fn shown(row: &[u32], column: usize) -> u64
     }
 }
 
-fn print_record(row: &[u32])
+fn print_record(rt: &impl Print, row: &[u32]) -> io::Result<()>
     requires { length row.now ≡ read_words }
 {
     let mut numbers = [0u64; 32];
     for i in 0..12 {
         numbers[i] = shown(row, i);
     }
-    run_io::report_counts(b"#\t#\t#\t#\t#\t%\t%\t%\t#\t%\t#\t#\n", &numbers);
+    run_io::report_counts(rt, b"#\t#\t#\t#\t#\t%\t%\t%\t#\t%\t#\t#\n", &numbers)
 }
 
-fn print_table(words: &[u32; 8896], count: usize)
+fn print_table(rt: &impl Print, words: &[u32; 8896], count: usize) -> io::Result<()>
     requires { count ≤ most_records }
 {
     run_io::print(
+        rt,
         b"row\tcolumn\toctave\tlayer\tcode\tx\ty\tsize\tresponse x 100000\tangle\tlargest value\tblank\n",
-    );
+    )?;
     let all = &words[..];
     for i in 0..count {
         let from = 139 * i;
         let to = from + 139;
-        print_record(&all[from..to]);
+        print_record(rt, &all[from..to])?;
     }
+    Ok(())
 }
 
 // A byte as its two hexadecimal digits.
-fn print_byte(b: u8) {
-    run_io::hex(b as u64, 2);
+fn print_byte(rt: &impl Print, b: u8) -> io::Result<()> {
+    run_io::hex(rt, b as u64, 2)
 }
 
 // The bytes from a place on, in one line.
-fn print_bytes(bytes: &[u8; 9864], at: usize, n: usize)
+fn print_bytes(rt: &impl Print, bytes: &[u8; 9864], at: usize, n: usize) -> io::Result<()>
     requires { at + n ≤ sheet_bytes }
 {
     for i in 0..n {
-        print_byte(bytes[at + i]);
+        print_byte(rt, bytes[at + i])?;
     }
-    run_io::print(b"\n");
+    run_io::print(rt, b"\n")
 }
 
-fn print_sheet(bytes: &[u8; 9864], count: usize)
+fn print_sheet(rt: &impl Print, bytes: &[u8; 9864], count: usize) -> io::Result<()>
     requires { count ≤ most_records }
 {
-    print_bytes(bytes, 0, 8);
+    print_bytes(rt, bytes, 0, 8)?;
     for i in 0..count {
-        print_bytes(bytes, 8 + 154 * i, 154);
+        print_bytes(rt, bytes, 8 + 154 * i, 154)?;
     }
+    Ok(())
 }
 
 // The sheet of so many records, and how many bytes it has.
-fn write(records: [u32; 8896], count: usize, bytes: &mut [u8; 9864]) -> usize
+fn write(
+    rt: &impl Print,
+    records: [u32; 8896],
+    count: usize,
+    bytes: &mut [u8; 9864],
+) -> io::Result<usize>
     requires { count ≤ most_records }
-    ensures { result ≤ sheet_bytes }
+    ensures { IfOk result (λ n. n ≤ sheet_bytes) }
 {
     let long = 139 * count;
     let a = sheet_write::write_sheet(EDITION, WIDTH, HEIGHT, LAYERS, &records[..long], bytes);
-    let size = told(b"the writer", a);
+    let size = told(rt, b"the writer", a)?;
     if size > 9864 {
-        return 0;
+        return Ok(0);
     }
-    size
+    Ok(size)
 }
 
 // The records of a sheet, and how many there are.
-fn read(bytes: [u8; 9864], size: usize, words: &mut [u32; 8896]) -> usize
+fn read(
+    rt: &impl Print,
+    bytes: [u8; 9864],
+    size: usize,
+    words: &mut [u32; 8896],
+) -> io::Result<usize>
     requires { size ≤ sheet_bytes }
-    ensures { result ≤ most_records }
+    ensures { IfOk result (λ n. n ≤ most_records) }
 {
     let r = sheet_read::read_sheet(&bytes[..size], words);
     let a = r.answer;
-    let n = told(b"the reader", a);
+    let n = told(rt, b"the reader", a)?;
     if n > MOST {
-        return 0;
+        return Ok(0);
     }
-    n
+    Ok(n)
 }
 
 // Writes the sheet, reads it back and prints both.
-fn show(records: [u32; 8896], count: usize)
+fn show(rt: &impl Print, records: [u32; 8896], count: usize) -> io::Result<()>
     requires { count ≤ most_records }
 {
     let mut bytes = [0u8; 9864];
-    let size = write(records, count, &mut bytes);
+    let size = write(rt, records, count, &mut bytes)?;
     let mut words = [0u32; 8896];
-    let n = read(bytes, size, &mut words);
-    print_table(&words, n);
-    print_sheet(&bytes, n);
+    let n = read(rt, bytes, size, &mut words)?;
+    print_table(rt, &words, n)?;
+    print_sheet(rt, &bytes, n)
 }
 
 // The whole way: the records by the layer searched, in each as detection lists the keypoints and orientation their directions.
-fn extract(dog: &[f32], pictures: &[f32])
+fn extract(rt: &impl Print, dog: &[f32], pictures: &[f32]) -> io::Result<()>
     requires { length pictures.now ≡ picture_samples }
 {
     let mut records = [0u32; 8896];
-    let first = add_layer(dog, pictures, 1, &mut records, 0);
-    let second = add_layer(dog, pictures, 2, &mut records, first);
-    let third = add_layer(dog, pictures, 3, &mut records, second);
-    show(records, third);
+    let first = add_layer(rt, dog, pictures, 1, &mut records, 0)?;
+    let second = add_layer(rt, dog, pictures, 2, &mut records, first)?;
+    let third = add_layer(rt, dog, pictures, 3, &mut records, second)?;
+    show(rt, records, third)
 }
 
-fn main() {
-    let fd = run_io::open(b"planes.bin");
-    if fd < 0 {
-        return;
-    }
+fn main(rt: HostRuntime) -> io::Result<()> {
+    let mut file = run_io::open(&rt, b"planes.bin")?;
     let mut counts = [0u64; 32];
-    let dog = run_replay::read_samples(fd, &mut counts, 12320);
-    let pictures = run_replay::read_samples(fd, &mut counts, 7392);
-    libc::close(fd);
+    let dog = run_replay::read_samples(&mut file, &mut counts, 12320)?;
+    let pictures = run_replay::read_samples(&mut file, &mut counts, 7392)?;
     if !run_replay::readable(&counts) {
-        run_io::print(b"the file is too short\n");
-        return;
+        return run_io::print(&rt, b"the file is too short\n");
     }
-    extract(&dog[..12320], &pictures[..7392]);
+    extract(&rt, &dog[..12320], &pictures[..7392])
 }

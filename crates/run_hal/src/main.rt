@@ -5,6 +5,9 @@
 
 ghost use Rattle.std.specs.Prelude.{◌<◌};
 
+use std::io;
+use std::io::Read;
+
 // The row of what is not asked.
 const NONE: usize = 13;
 
@@ -73,31 +76,26 @@ fn row(op: u32) -> usize
 }
 
 // Tries records until the file ends, and answers how many bytes were left over. The count of turns is more than any file here has.
-fn replay(fd: i32, counts: &mut [u64; 32]) -> usize {
-    let mut turns: u32 = 10_000_000;
-    while turns > 0 {
-        let r = run_vectors::next(fd);
+fn replay(file: &mut impl Read, counts: &mut [u64; 32]) -> io::Result<usize> {
+    for _ in 0..10_000_000u32 {
+        let r = run_vectors::next(file)?;
         if r.got < 20 {
-            return r.got;
+            return Ok(r.got);
         }
         let v = ieee::of_bits64(run_vectors::join(r.c, r.d));
         let fine = good(r.op, ieee::of_bits(r.a), ieee::of_bits(r.b), v);
         run_vectors::count(counts, row(r.op), fine);
-        turns -= 1;
     }
-    20
+    Ok(20)
 }
 
-fn main() {
-    let fd = run_io::open(b"points.bin");
-    if fd < 0 {
-        return;
-    }
+fn main(rt: HostRuntime) -> io::Result<()> {
+    let mut file = run_io::open(&rt, b"points.bin")?;
     let mut counts = [0u64; 32];
-    let rest = replay(fd, &mut counts);
-    libc::close(fd);
+    let rest = replay(&mut file, &mut counts)?;
     counts[28] = rest as u64;
     run_io::report_counts(
+        &rt,
         b"exp2: # tried, # outside the bound
 exp: # tried, # outside the bound
 sine: # tried, # outside the bound
@@ -115,5 +113,5 @@ of no routine: # tried, # of them
 bytes left over: #
 ",
         &counts,
-    );
+    )
 }

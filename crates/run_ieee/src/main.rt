@@ -4,6 +4,9 @@
 
 ghost use Rattle.std.specs.Prelude.{◌<◌};
 
+use std::io;
+use std::io::Read;
+
 // The rows of what is no operation, and of all.
 const NONE: usize = 11;
 
@@ -53,31 +56,26 @@ fn row(op: u32) -> usize
 }
 
 // Replays records until the file ends, and answers how many bytes were left over. The count of turns is more than any file here has.
-fn replay(fd: i32, counts: &mut [u64; 32]) -> usize {
-    let mut turns: u32 = 10_000_000;
-    while turns > 0 {
-        let r = run_vectors::next(fd);
+fn replay(file: &mut impl Read, counts: &mut [u64; 32]) -> io::Result<usize> {
+    for _ in 0..10_000_000u32 {
+        let r = run_vectors::next(file)?;
         if r.got < 20 {
-            return r.got;
+            return Ok(r.got);
         }
         let good = same(r.op, r.a, r.b, r.c, r.d);
         run_vectors::count(counts, row(r.op), good);
         run_vectors::count(counts, ALL, good);
-        turns -= 1;
     }
-    20
+    Ok(20)
 }
 
-fn main() {
-    let fd = run_io::open(b"vectors.bin");
-    if fd < 0 {
-        return;
-    }
+fn main(rt: HostRuntime) -> io::Result<()> {
+    let mut file = run_io::open(&rt, b"vectors.bin")?;
     let mut counts = [0u64; 32];
-    let rest = replay(fd, &mut counts);
-    libc::close(fd);
+    let rest = replay(&mut file, &mut counts)?;
     counts[26] = rest as u64;
     run_io::report_counts(
+        &rt,
         b"fused multiply-add: # tried, # differ
 square root: # tried, # differ
 narrowing: # tried, # differ
@@ -94,5 +92,5 @@ all: # tried, # differ
 bytes left over: #
 ",
         &counts,
-    );
+    )
 }

@@ -1,43 +1,77 @@
-// What the programs share: the file that each opens, and what it says, a text with the numbers that it has places for. (One text for all lines is proved far sooner than
-// a call for each of them.)
+// What the programs share: the file that each opens and reads, and what it says, a text with the numbers that it has places for. (One text for all lines is proved far
+// sooner than a call for each of them.)
 #![tactic(auto)]
 
-ghost use Rattle.std.specs.Prelude.{◌+◌, ◌^◌, ◌<◌, ◌≤◌};
+ghost use Rattle.std.specs.Prelude.{◌+◌, ◌^◌, ◌<◌, ◌≤◌, length, take, IfOk};
+ghost use Rattle.std.specs.Io.KnownBytes.{Consumes, IsAtEnd};
 
-use libc::STDOUT_FILENO;
+use std::fs::File;
+use std::io;
+use std::io::Read;
+use std::rt::Files;
 
-// Opens a file to read. Where it can't be opened that is said, and the answer is below 0.
-pub fn open(path: &[u8]) -> i32 {
-    let fd = os::open_read(path);
-    if fd < 0 {
-        os::fail(path);
+// Opens a file to read. Where it can't be opened that is said, and the answer is the error. A path that is no text can't be opened.
+pub fn open<R: Files + Eprint>(rt: &R, path: &[u8]) -> io::Result<R::File> {
+    match std::str::from_utf8(path) {
+        Ok(path) => open_named(rt, path),
+        Err(_) => {
+            eprintln!(rt; "a path that is no text")?;
+            Err(io::Error::from(io::ErrorKind::InvalidInput))
+        }
     }
-    fd
 }
 
-pub fn print(text: &[u8]) {
-    io::write_all(STDOUT_FILENO, text);
+// The same of a path that is text.
+fn open_named<R: Files + Eprint>(rt: &R, path: &str) -> io::Result<R::File> {
+    match File::open(rt, path) {
+        Ok(file) => Ok(file),
+        Err(e) => {
+            eprintln!(rt; "{path}: {e}")?;
+            Err(e)
+        }
+    }
 }
 
-pub fn decimal(n: u64) {
-    io::print_decimal(STDOUT_FILENO, n);
+// Reads until the buffer is full or the file ends, and answers how many bytes it put at the buffer's front. A read that fails is the answer, whatever was read before it.
+pub fn read_full<R: Read>(file: &mut R, buffer: &mut [u8]) -> io::Result<usize>
+    ensures within { IfOk result (λ n. n ≤ length buffer.new) }
+    ensures bytes { IfOk result (λ n. Consumes (R.remaining file.old) (R.remaining file.new) (take n buffer.new)) }
+    ensures short { IfOk result (λ n. n < length buffer.new → IsAtEnd (R.remaining file.new)) }
+{
+    let mut done = 0;
+    while done < buffer.len() {
+        let n = file.read(&mut buffer[done..])?;
+        if n == 0 {
+            return Ok(done);
+        }
+        done += n;
+    }
+    Ok(done)
 }
 
-// A number as so many hexadecimal digits.
-pub fn hex(n: u64, digits: usize) {
-    io::print_hex(STDOUT_FILENO, n, digits);
+pub fn print(rt: &impl Print, text: &[u8]) -> io::Result<()> {
+    rt.write_all(text)
 }
 
-fn byte(b: u8) {
-    let one = [b];
-    print(&one);
+pub fn decimal(rt: &impl Print, n: u64) -> io::Result<()> {
+    print!(rt; "{n}")
 }
 
-fn hundredths(n: u64) {
-    decimal(n / 100);
-    print(b".");
-    decimal(n / 10 % 10);
-    decimal(n % 10);
+// A number as so many hexadecimal digits, 16 at the most.
+pub fn hex(rt: &impl Print, n: u64, digits: usize) -> io::Result<()> {
+    let width = digits.min(16);
+    print!(rt; "{n:0width$x}")
+}
+
+fn byte(rt: &impl Print, b: u8) -> io::Result<()> {
+    print(rt, &[b])
+}
+
+fn hundredths(rt: &impl Print, n: u64) -> io::Result<()> {
+    decimal(rt, n / 100)?;
+    print(rt, b".")?;
+    decimal(rt, n / 10 % 10)?;
+    decimal(rt, n % 10)
 }
 
 // One of the numbers, 0 past the last.
@@ -46,82 +80,81 @@ fn number(numbers: &[u64], at: usize) -> u64 {
 }
 
 // Says so where the last two of the numbers that were said are not the same.
-fn compare(numbers: &[u64], said: usize) {
+fn compare(rt: &impl Print, numbers: &[u64], said: usize) -> io::Result<()> {
     if said < 2 {
-        return;
+        return Ok(());
     }
     if number(numbers, said - 1) != number(numbers, said - 2) {
-        print(b" DIFFERS");
+        print(rt, b" DIFFERS")?;
     }
+    Ok(())
 }
 
 // Says one byte of a text, of whose numbers so many are said, and answers how many are then.
-fn say(b: u8, numbers: &[u64], said: usize) -> usize
+fn say(rt: &impl Print, b: u8, numbers: &[u64], said: usize) -> io::Result<usize>
     requires { said + 1 < 2 ^ 64 }
-    ensures { result ≤ said + 1 }
+    ensures { IfOk result (λ n. n ≤ said + 1) }
 {
     match b {
         b'#' => {
-            decimal(number(numbers, said));
-            said + 1
+            decimal(rt, number(numbers, said))?;
+            Ok(said + 1)
         }
         b'$' => {
-            hex(number(numbers, said), 8);
-            said + 1
+            hex(rt, number(numbers, said), 8)?;
+            Ok(said + 1)
         }
         b'%' => {
-            hundredths(number(numbers, said));
-            said + 1
+            hundredths(rt, number(numbers, said))?;
+            Ok(said + 1)
         }
         b'?' => {
-            compare(numbers, said);
-            said
+            compare(rt, numbers, said)?;
+            Ok(said)
         }
         _ => {
-            byte(b);
-            said
+            byte(rt, b)?;
+            Ok(said)
         }
     }
 }
 
 // Says a text. In it `#` stands for the next of the numbers, `$` for the next as eight hexadecimal digits, `%` for the next in hundredths, and `?` for " DIFFERS" where the last two are not the same.
-pub fn report(text: &[u8], numbers: &[u64]) {
+pub fn report(rt: &impl Print, text: &[u8], numbers: &[u64]) -> io::Result<()> {
     let mut said: usize = 0;
-    let mut i = 0;
-    while i < text.len() {
-        said = say(text[i], numbers, said);
-        i += 1;
+    for b in text {
+        said = say(rt, *b, numbers, said)?;
     }
+    Ok(())
 }
 
 // The same of what a program counted.
-pub fn report_counts(text: &[u8], counts: &[u64; 32]) {
-    report(text, counts);
+pub fn report_counts(rt: &impl Print, text: &[u8], counts: &[u64; 32]) -> io::Result<()> {
+    report(rt, text, counts)
 }
 
 // Says one byte of the line `at` of a text, if that is the line to say, and answers the line of the next.
-fn pass(b: u8, at: usize, line: usize) -> usize
+fn pass(rt: &impl Print, b: u8, at: usize, line: usize) -> io::Result<usize>
     requires { at + 1 < 2 ^ 64 }
-    ensures { result ≤ at + 1 }
+    ensures { IfOk result (λ n. n ≤ at + 1) }
 {
     if at == line {
-        byte(b);
+        byte(rt, b)?;
     }
-    if b == b'\n' { at + 1 } else { at }
+    if b == b'\n' { Ok(at + 1) } else { Ok(at) }
 }
 
 // Says a line of a text, the first for 0.
-pub fn say_line(text: &[u8], line: usize) {
+pub fn say_line(rt: &impl Print, text: &[u8], line: usize) -> io::Result<()> {
     let mut at: usize = 0;
-    let mut i = 0;
-    while i < text.len() {
-        at = pass(text[i], at, line);
-        i += 1;
+    for b in text {
+        at = pass(rt, *b, at, line)?;
     }
+    Ok(())
 }
 
 // A line: a name and its number.
-pub fn line(name: &[u8], n: u64) {
-    print(name);
-    report(b": #\n", &[n]);
+pub fn line(rt: &impl Print, name: &[u8], n: u64) -> io::Result<()> {
+    print(rt, name)?;
+    report(rt, b": #\n", &[n])
 }

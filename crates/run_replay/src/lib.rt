@@ -2,9 +2,11 @@
 // lent words of a case, what is counted, and the report. A file that is too short, too long, or has what does not fit the buffers is told as such.
 #![tactic(auto)]
 
-ghost use Rattle.std.specs.Prelude.{◌<◌, ◌≤◌};
+ghost use Rattle.std.specs.Prelude.{◌≡◌, ◌<◌, ◌≤◌, length, IfOk};
 
 use params::Answer;
+use std::io;
+use std::io::Read;
 
 pub const MOST_SAMPLES: usize = 65536;
 
@@ -53,46 +55,59 @@ fn joined(b: &[u8; 4]) -> u32 {
 }
 
 // The file's next word. One that is not there is counted, and is 0.
-pub fn next(fd: i32, counts: &mut [u64; 32]) -> u32 {
+pub fn next(file: &mut impl Read, counts: &mut [u64; 32]) -> io::Result<u32> {
     let mut b = [0u8; 4];
-    let got = io::read_full(fd, &mut b);
+    let got = run_io::read_full(file, &mut b)?;
     if got < 4 {
         add(counts, MISSING, 1);
-        return 0;
+        return Ok(0);
     }
-    joined(&b)
+    Ok(joined(&b))
 }
 
-pub fn next_size(fd: i32, counts: &mut [u64; 32]) -> usize {
-    next(fd, counts) as usize
+pub fn next_size(file: &mut impl Read, counts: &mut [u64; 32]) -> io::Result<usize> {
+    let n = next(file, counts)?;
+    Ok(n as usize)
 }
 
-pub fn next_float(fd: i32, counts: &mut [u64; 32]) -> f32 {
-    ieee::of_bits(next(fd, counts))
+pub fn next_float(file: &mut impl Read, counts: &mut [u64; 32]) -> io::Result<f32> {
+    let bits = next(file, counts)?;
+    Ok(ieee::of_bits(bits))
 }
 
 // The file's next n samples.
-pub fn read_samples(fd: i32, counts: &mut [u64; 32], n: usize) -> [f32; 65536]
+pub fn read_samples(
+    file: &mut impl Read,
+    counts: &mut [u64; 32],
+    n: usize,
+) -> io::Result<[f32; 65536]>
     requires { n ≤ 65536 }
+    ensures { IfOk result (λ samples. length samples ≡ 65536) }
 {
     let mut to = [0.0f32; 65536];
     for i in 0..n {
-        to[i] = next_float(fd, counts);
+        to[i] = next_float(file, counts)?;
     }
-    to
+    Ok(to)
 }
 
 // Compares the n lent words, as they stand after the call, with the file's.
-pub fn compare_words(fd: i32, counts: &mut [u64; 32], out: &[u32; 4096], n: usize)
+pub fn compare_words(
+    file: &mut impl Read,
+    counts: &mut [u64; 32],
+    out: &[u32; 4096],
+    n: usize,
+) -> io::Result<()>
     requires { n ≤ 4096 }
 {
     for i in 0..n {
-        let want = next(fd, counts);
+        let want = next(file, counts)?;
         if out[i] != want {
             add(counts, WORDS_DIFFER, 1);
         }
     }
     add(counts, WORDS, n as u64);
+    Ok(())
 }
 
 pub fn compare_answer(counts: &mut [u64; 32], a: Answer, number: u32, count: usize) {
@@ -132,21 +147,26 @@ pub fn readable(counts: &[u64; 32]) -> bool {
 }
 
 // The number of cases, behind the mark that the list begins with.
-pub fn begin(fd: i32, counts: &mut [u64; 32], mark: u32) -> u32 {
-    if next(fd, counts) != mark {
+pub fn begin(file: &mut impl Read, counts: &mut [u64; 32], mark: u32) -> io::Result<u32> {
+    if next(file, counts)? != mark {
         add(counts, UNREADABLE, 1);
     }
-    next(fd, counts)
+    next(file, counts)
 }
 
 // Closes the list and says what was counted. Nothing may stand behind the last case: four bytes are tried for, and 4 left over may be more.
-pub fn end(fd: i32, cases: u32, counts: &mut [u64; 32]) {
+pub fn end(
+    rt: &impl Print,
+    file: &mut impl Read,
+    cases: u32,
+    counts: &mut [u64; 32],
+) -> io::Result<()> {
     let mut after = [0u8; 4];
-    let rest = io::read_full(fd, &mut after);
-    libc::close(fd);
+    let rest = run_io::read_full(file, &mut after)?;
     add(counts, IN_THE_FILE, cases as u64);
     add(counts, LEFT_OVER, rest as u64);
     run_io::report_counts(
+        rt,
         b"cases in the file: #
 cases compared: #
 keypoints compared: #
@@ -159,5 +179,5 @@ marks, cases and rooms that can't be read: #
 bytes left over: #
 ",
         counts,
-    );
+    )
 }

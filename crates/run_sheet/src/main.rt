@@ -5,6 +5,8 @@
 ghost use Rattle.std.specs.Prelude.{◌<◌, ◌≤◌};
 
 use run_vectors::{byte_at, half_at, long_at, word_at};
+use std::io;
+use std::io::Read;
 
 // What is lent, in bytes or words: more than the three records of the largest case take, 8 + 3 × 154 bytes or 3 × 139 words.
 const ROOM: usize = 512;
@@ -152,53 +154,54 @@ fn maker_agrees(c: Case, given: &[u8], want: &[u8]) -> bool {
 }
 
 // Reads n bytes to the front of a buffer. Answers whether there were as many.
-fn load(fd: i32, buffer: &mut [u8], n: usize) -> bool {
+fn load(file: &mut impl Read, buffer: &mut [u8], n: usize) -> io::Result<bool> {
     if n > buffer.len() {
-        return false;
+        return Ok(false);
     }
-    io::read_full(fd, &mut buffer[..n]) == n
+    let got = run_io::read_full(file, &mut buffer[..n])?;
+    Ok(got == n)
 }
 
 // Whether a case, whose head is read, has both its parts, of n and of m bytes, and comes out as it expects.
-fn parts_agree(fd: i32, c: Case, n: usize, m: usize) -> bool
+fn parts_agree(file: &mut impl Read, c: Case, n: usize, m: usize) -> io::Result<bool>
     requires { (n ≤ 4096) × (m ≤ 4096) }
 {
     let mut given = [0u8; 4096];
     let mut want = [0u8; 4096];
-    if !load(fd, &mut given, n) {
-        return false;
+    if !load(file, &mut given, n)? {
+        return Ok(false);
     }
-    if !load(fd, &mut want, m) {
-        return false;
+    if !load(file, &mut want, m)? {
+        return Ok(false);
     }
     if c.kind == 2 {
-        return reader_agrees(c, &given[..n], &want[..m]);
+        return Ok(reader_agrees(c, &given[..n], &want[..m]));
     }
     if c.kind == 3 {
-        return maker_agrees(c, &given[..n], &want[..m]);
+        return Ok(maker_agrees(c, &given[..n], &want[..m]));
     }
-    writer_agrees(c, &given[..n], &want[..m])
+    Ok(writer_agrees(c, &given[..n], &want[..m]))
 }
 
-fn agrees(fd: i32, c: Case) -> bool {
+fn agrees(file: &mut impl Read, c: Case) -> io::Result<bool> {
     let n = c.given;
     let m = c.expected;
     if n > 1024 {
-        return false;
+        return Ok(false);
     }
     if m > 1024 {
-        return false;
+        return Ok(false);
     }
     if c.kind == 1 {
-        return parts_agree(fd, c, 4 * n, m);
+        return parts_agree(file, c, 4 * n, m);
     }
     if c.kind == 2 {
-        return parts_agree(fd, c, n, 4 * m);
+        return parts_agree(file, c, n, 4 * m);
     }
     if c.kind == 3 {
-        return parts_agree(fd, c, 4 * n, 4 * m);
+        return parts_agree(file, c, 4 * n, 4 * m);
     }
-    false
+    Ok(false)
 }
 
 // The entry's row among the counts, the last for a kind of which there is none.
@@ -214,31 +217,27 @@ fn row(kind: u8) -> usize
 }
 
 // Replays cases until the file ends, and answers how many bytes were left over. The count of turns is more than any file here has.
-fn replay(fd: i32, counts: &mut [u64; 32]) -> usize {
-    let mut turns: u32 = 1_000_000;
-    while turns > 0 {
+fn replay(file: &mut impl Read, counts: &mut [u64; 32]) -> io::Result<usize> {
+    for _ in 0..1_000_000u32 {
         let mut h = [0u8; 40];
-        let got = io::read_full(fd, &mut h);
+        let got = run_io::read_full(file, &mut h)?;
         if got < 40 {
-            return got;
+            return Ok(got);
         }
         let c = case_of(&h);
-        run_vectors::count(counts, row(c.kind), agrees(fd, c));
-        turns -= 1;
+        let good = agrees(file, c)?;
+        run_vectors::count(counts, row(c.kind), good);
     }
-    40
+    Ok(40)
 }
 
-fn main() {
-    let fd = run_io::open(b"cases.bin");
-    if fd < 0 {
-        return;
-    }
+fn main(rt: HostRuntime) -> io::Result<()> {
+    let mut file = run_io::open(&rt, b"cases.bin")?;
     let mut counts = [0u64; 32];
-    let rest = replay(fd, &mut counts);
-    libc::close(fd);
+    let rest = replay(&mut file, &mut counts)?;
     counts[8] = rest as u64;
     run_io::report_counts(
+        &rt,
         b"write_sheet: # tried, # differ
 read_sheet: # tried, # differ
 make_record: # tried, # differ
@@ -246,5 +245,5 @@ of no entry: # tried, # differ
 bytes left over: #
 ",
         &counts,
-    );
+    )
 }

@@ -4,6 +4,9 @@
 
 ghost use Rattle.std.specs.Prelude.{◌<◌, ◌≤◌};
 
+use std::io;
+use std::io::Read;
+
 // A record's words, and how many of its 20 bytes the file has.
 #[derive(Clone, Copy)]
 pub struct Record {
@@ -60,10 +63,10 @@ fn record_of(got: usize, s: &[u8]) -> Record {
 }
 
 // The file's next record.
-pub fn next(fd: i32) -> Record {
+pub fn next(file: &mut impl Read) -> io::Result<Record> {
     let mut s = [0u8; 20];
-    let got = io::read_full(fd, &mut s);
-    record_of(got, &s)
+    let got = run_io::read_full(file, &mut s)?;
+    Ok(record_of(got, &s))
 }
 
 pub fn join(high: u32, low: u32) -> u64 {

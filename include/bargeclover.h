@@ -38,7 +38,7 @@
  *   thin: 32768
  *   check_sheet: 16384
  *   find_extrema: 12288
- *   compute_descriptor: 8192
+ *   compute_descriptor: 9216
  *   assign_orientations: 7168
  *   exp2, exp: 2560
  *   angle: 1536

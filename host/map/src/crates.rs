@@ -24,6 +24,8 @@ pub fn groups(list: &str) -> Vec<Group> {
         let group = all
             .last_mut()
             .expect("a comment line before the first crate");
+        // a word behind the name tells what is built of the crate
+        let name = name.split_whitespace().next().expect("a crate's name");
         group.crates.push(Crate {
             name: name.to_string(),
             needs: needs.split_whitespace().map(str::to_string).collect(),

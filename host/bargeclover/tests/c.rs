@@ -34,7 +34,7 @@ fn said(example: &str) -> String {
 }
 
 #[test]
-fn the_keypoint_of_a_small_stack() {
+fn the_c_example_runs() {
     let said = said("find");
     assert!(said.starts_with("x 5, y 5, size "), "{said}");
     assert!(said.ends_with("octave word 8388864, moves 0\n"), "{said}");

@@ -16,3 +16,10 @@ min_of a b = cond (b ≤ᶠ a) b (number_or a b)
 -- x held in lo to hi
 unfoldable pub clamp_of : Float → Float → Float → Float
 clamp_of x lo hi = cond (x <ᶠ lo) lo (cond (hi <ᶠ x) hi x)
+
+-- the lesser and the greater, the second where neither is less: one selection
+abbrev pub lesser_of : Float → Float → Float
+lesser_of a b = cond (a <ᶠ b) a b
+
+abbrev pub greater_of : Float → Float → Float
+greater_of a b = cond (a <ᶠ b) b a

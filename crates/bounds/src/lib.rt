@@ -1,8 +1,9 @@
-// Rust's `max`, `min` and `clamp` on floats.
+// Rust's `max`, `min` and `clamp` on floats, and the lesser and the greater by one selection.
+// The library's own leave open which of two zeros comes back, and its `clamp` asks that lo <= hi.
 #![tactic(auto)]
 
 ghost use Rattle.std.specs.Prelude.{◌≡◌};
-ghost use Rattle.bounds.specs.Bounds.{number_or, max_of, min_of, clamp_of};
+ghost use Rattle.bounds.specs.Bounds.{number_or, max_of, min_of, clamp_of, lesser_of, greater_of};
 
 // The first of two, or the second where the first is a not-a-number.
 fn number_or(a: f32, b: f32) -> f32
@@ -33,4 +34,17 @@ pub fn clamp(x: f32, lo: f32, hi: f32) -> f32
     } else {
         x
     }
+}
+
+// The lesser of two, and the greater: selections, with no branch that depends on a value.
+pub fn lesser(a: f32, b: f32) -> f32
+    ensures { result ≡ lesser_of a b }
+{
+    if a < b { a } else { b }
+}
+
+pub fn greater(a: f32, b: f32) -> f32
+    ensures { result ≡ greater_of a b }
+{
+    if a < b { b } else { a }
 }

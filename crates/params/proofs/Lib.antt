@@ -1,3 +1,4 @@
 pub mod Bools
 pub mod Accepted
 pub mod Within
+pub mod Told

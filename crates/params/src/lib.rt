@@ -3,7 +3,7 @@
 
 ghost use Rattle.std.specs.Prelude.{◌≡◌};
 ghost use Rattle.params.specs.Table.{shape_wrong, layers_wrong, within, contrast_wrong, settings_wrong};
-ghost use Rattle.params.specs.Answers.{number_of, count_of};
+ghost use Rattle.params.specs.Answers.{count_of, refusal_number, refusal_count, told, fault_told};
 
 // What a frame is searched with.
 #[derive(Clone, Copy)]
@@ -14,12 +14,45 @@ pub struct Settings {
     pub layers: usize,
 }
 
-// What an entry answers: done, with the count written; short of room, with the count needed; or refused, by the number of rule A2.
-#[derive(Clone, Copy)]
-pub enum Answer {
-    Done(usize),
-    Short(usize),
-    Refused(u32),
+// Why an entry refuses, by the lines of the table of refusals; a lack of room tells the count needed.
+#[derive(Clone, Copy, Debug, PartialEq, Eq)]
+pub enum Refusal {
+    Shape,
+    Layers,
+    Length,
+    Settings,
+    Fields,
+    Samples,
+    Room(usize),
+    Sheet,
+}
+
+impl Refusal {
+    // Its number in the table (rule A2).
+    pub fn number(self) -> u32
+        ensures { result ≡ refusal_number self }
+    {
+        match self {
+            Refusal::Shape => 1,
+            Refusal::Layers => 2,
+            Refusal::Length => 3,
+            Refusal::Settings => 4,
+            Refusal::Fields => 5,
+            Refusal::Samples => 6,
+            Refusal::Room(_) => 7,
+            Refusal::Sheet => 8,
+        }
+    }
+
+    // The count beside it (rule A17).
+    pub fn count(self) -> usize
+        ensures { result ≡ refusal_count self }
+    {
+        match self {
+            Refusal::Room(n) => n,
+            _ => 0,
+        }
+    }
 }
 
 // The longest side.
@@ -74,24 +107,22 @@ pub fn settings_wrong(s: Settings, octave: u32) -> bool
             | (!is_within(0.5, 16.0, s.sigma) | (octave > MAX_OCTAVE)))
 }
 
-// The number of an answer (rule A2).
-pub fn number_of(a: Answer) -> u32
-    ensures { result ≡ number_of a }
+// The number of an answer (rule A2), 0 where it is given.
+pub fn number_of<T: Drop>(answer: Result<T, Refusal>) -> u32
+    ensures { result ≡ fault_told answer }
 {
-    match a {
-        Answer::Done(_) => 0,
-        Answer::Short(_) => 7,
-        Answer::Refused(k) => k,
+    match answer {
+        Ok(_) => 0,
+        Err(refusal) => refusal.number(),
     }
 }
 
 // The count beside it (rule A17).
-pub fn count_of(a: Answer) -> usize
-    ensures { result ≡ count_of a }
+pub fn count_of(answer: Result<usize, Refusal>) -> usize
+    ensures { result ≡ count_of (told answer) }
 {
-    match a {
-        Answer::Done(n) => n,
-        Answer::Short(n) => n,
-        Answer::Refused(_) => 0,
+    match answer {
+        Ok(n) => n,
+        Err(refusal) => refusal.count(),
     }
 }

@@ -22,6 +22,15 @@ pub struct Size {
     pub height: usize,
 }
 
+// Where a descriptor is asked for: a position in cells of the picture, the scale there, and the angle in degrees that the patch is turned by.
+#[derive(Clone, Copy)]
+pub struct Spot {
+    pub x: f32,
+    pub y: f32,
+    pub scale: f32,
+    pub angle: f32,
+}
+
 // The differences across a cell.
 #[derive(Clone, Copy)]
 pub struct Slope {
@@ -30,6 +39,7 @@ pub struct Slope {
 }
 
 // The sample of plane p at row r, column c of a stack.
+#[tactic(auto, using(crate::proofs::Index::index), unfolding(crate::specs::Stack::sample, crate::specs::Picture::pixel))]
 pub fn at(d: &[f32], t: Shape, p: usize, r: usize, c: usize) -> f32
     requires { Inside (length d.now) t p r c }
     ensures { result ≡ sample d.now t p r c }
@@ -38,6 +48,7 @@ pub fn at(d: &[f32], t: Shape, p: usize, r: usize, c: usize) -> f32
 }
 
 // The sample at row r, column c of a picture.
+#[tactic(auto, using(crate::proofs::Index::spot), unfolding(crate::specs::Picture::pixel))]
 pub fn pixel_at(img: &[f32], s: Size, r: usize, c: usize) -> f32
     requires { Within (length img.now) s r c }
     ensures { result ≡ pixel img.now s.width r c }
@@ -46,6 +57,7 @@ pub fn pixel_at(img: &[f32], s: Size, r: usize, c: usize) -> f32
 }
 
 // The slope at the cell (r, c) of a picture.
+#[tactic(auto, unfolding(crate::specs::Picture::slope_at))]
 pub fn slope_at(img: &[f32], s: Size, r: usize, c: usize) -> Slope
     requires { Around (length img.now) s r c }
     ensures { result ≡ slope_at img.now s.width r c }
@@ -60,7 +72,7 @@ pub fn slope_at(img: &[f32], s: Size, r: usize, c: usize) -> Slope
 pub fn first_in(at: usize, radius: usize) -> usize
     ensures { result ≡ first_in at radius }
 {
-    if radius < at { at - radius } else { 1 }
+    at.saturating_sub(radius).max(1)
 }
 
 // The one after the last, of a side.
@@ -68,6 +80,5 @@ pub fn past_in(at: usize, radius: usize, side: usize) -> usize
     requires { (at < side) × ((side ≤ max_side) × (radius ≤ max_side)) }
     ensures { result ≡ past_in at radius side }
 {
-    let past = at + radius + 1;
-    if past < side - 1 { past } else { side - 1 }
+    (at + radius + 1).min(side - 1)
 }

@@ -1,11 +1,11 @@
 -- Bit patterns: which are a NaN's, and that the sign's bit is the sign. Over either format. Assumes nothing.
 use mathlib.Core.Path.{◌≡◌, refl, sym, ap, ◌∙◌, subst}
-use mathlib.Core.Bool.{Bool, true, false, not, cond, true≢false, false≢true}
+use mathlib.Core.Bool.{Bool, true, false, not, cond, true≢false}
 use Prim.Native.Nat.{ℕ, zero, suc, ◌+◌, ◌*◌, ◌%◌, ◌^◌, ◌≤◌, ◌<◌}
 use native.Mathlib.Nat.{add-mod_left, mod-eq_of_lt, zero-add}
 use native.Mathlib.Omega.{arith}
 use lib.Dec.{T, ltb}
-use borrow.Author.Tests.{lt-ltb, le-ltb, ltb-false}
+use borrow.Author.Tests.{le-ltb, ltb-false}
 use lib.Ieee.{Float, nan, inf, fin, Format, prec, emax, low, top, hid, ones, odd, units, round, neg, of_bits, to_bits, nan_bits, is_nan, ne, fits}
 use lib.Ieee.Bits.{is_false, nan_bits_is, nan_bits_above, of_bits-to_bits, to_bits-lt}
 use lib.Ieee.Fits.{round_is, round-fits}
@@ -14,15 +14,6 @@ use lib.Ieee.Compare.{differs_from_itself, nan_differs}
 use Rattle.ieee.specs.F32.{abs_of}
 use Rattle.ieee.proofs.Doubled.{round_no_nan}
 use Rattle.ieee.proofs.Negated.{neg_round}
-
-only_nan : (x : Float) → is_nan x ≡ true → nan ≡ x
-unfolding is_nan
-only_nan nan h = refl
-only_nan (inf s) h = absurd (false≢true h)
-only_nan (fin s m e) h = absurd (false≢true h)
-
-pub of_nan : (f : Format) (b : ℕ) → ones f * hid f < b % top f → nan ≡ of_bits f b
-of_nan f b h = only_nan (of_bits f b) (sym (nan_bits_is f b) ∙ nan_bits_above f b ∙ lt-ltb _ _ h)
 
 pub of_number : (f : Format) (b : ℕ) → b % top f ≤ ones f * hid f → T (not (nan_bits f b))
 of_number f b h = subst (λ (z : Bool). T (not z)) (sym (nan_bits_above f b ∙ le-ltb _ _ h)) tt

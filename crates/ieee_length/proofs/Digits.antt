@@ -12,7 +12,7 @@ use Rattle.packing.proofs.Fields.{of_bits_is, normal_is}
 use Rattle.packing.proofs.Plain.{inside}
 use Rattle.ieee.specs.Root.{sqrt}
 use Rattle.ieee_length.specs.Mild.{small}
-use Rattle.ieee_root.specs.Parts.{RootOrZero}
+use Rattle.ieee_root.specs.Parts.{RootBits}
 use Rattle.ieee_length.specs.Raised.{Raised, raised_bits, digits_bits, radicand_of}
 use Rattle.ieee_length.proofs.Small.{small_value}
 use Rattle.ieee_root.proofs.Tries.{try_small, try_right}
@@ -113,7 +113,7 @@ module _ (n : ℕ) where
   cast_is a e = ap (to_signed 63) (ap (λ (v : Float). mul binary64 v (of_bits binary64 4814348001659060224)) e ∙ whole) ∙ back.1
 
 -- ---- the root by the digits k, where k is nearest to the root of the radicand
-pub guessed : (v : Float) (n k : ℕ) → Raised v n → 4044232465647140864 ≤ n → (n % 2 ^ 29 ≡ 0 → ⊥) → k * k < radicand_of n + k → radicand_of n ≤ k * k + k → RootOrZero v ((n / 2 ^ 53 - 386) * 2 ^ 23 + k)
+pub guessed : (v : Float) (n k : ℕ) → Raised v n → 4044232465647140864 ≤ n → (n % 2 ^ 29 ≡ 0 → ⊥) → k * k < radicand_of n + k → radicand_of n ≤ k * k + k → RootBits v ((n / 2 ^ 53 - 386) * 2 ^ 23 + k)
 guessed v n k r lo off under over =
     let b = raised_bits n in
     let e = b / 2 ^ 23 - 1 in
@@ -127,8 +127,5 @@ guessed v n k r lo off under over =
     let place : (e + 126) / 2 ≡ n / 2 ^ 53 - 386 = omega (arith, in_range) in
     record {
       small = subst (λ (z : ℕ). z * 2 ^ 23 + k ≤ 2139095040) place (try_small b in_range.0 in_range.1 k u o);
-      right = λ h. ap (λ (z : ℕ). of_bits binary32 (z * 2 ^ 23 + k)) (sym place) ∙ try_right b in_range.0 in_range.1 k u o ∙ ap (sqrt binary32) (r.right lo off);
+      right = ap (λ (z : ℕ). of_bits binary32 (z * 2 ^ 23 + k)) (sym place) ∙ try_right b in_range.0 in_range.1 k u o ∙ ap (sqrt binary32) (r.right lo off);
     }
-
-pub no_root : (v : Float) → RootOrZero v 0
-no_root v = record { small = lit≤ tt; right = λ h. absurd (omega arith) }

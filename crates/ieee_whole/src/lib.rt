@@ -1,5 +1,5 @@
 // A binary32 to a whole number, for every bit pattern: floor, rounding to the nearest, and the casts to an i32. Each public function is the operation of `ieee`'s page F32
-// that its contract names, or two of them in one. Rules I5 to I7.
+// that its contract names, or two of them in one. Rules I5 to I7. The library's `floor` and `round_ties_even` take half as long again.
 #![tactic(auto)]
 
 ghost use Rattle.std.specs.Prelude.{◌≡◌, false, ◌*◌, ◌^◌, ◌<◌, ◌≤◌, min};
@@ -18,14 +18,6 @@ enum Way {
     Near,
 }
 
-// d, or 40: a shift of 24 digits by 40 leaves what a longer one does. From 25 on all do (24 digits are then below half of the unit), and up to 62 no sum wraps: 40 is one
-// of these.
-fn short_shift(d: u32) -> u32
-    ensures { result ≡ min d 40 }
-{
-    if d > 40 { 40 } else { d }
-}
-
 // What is added to the size m before its last h digits are cut, so that ±m goes the way w.
 fn before_cut(w: Way, s: bool, m: u64, h: u32) -> u64
     requires { (1 ≤ h) × (h ≤ 40) }
@@ -38,13 +30,14 @@ fn before_cut(w: Way, s: bool, m: u64, h: u32) -> u64
     }
 }
 
-// The size of the whole number that ±m / 2^d goes to.
+// The size of the whole number that ±m / 2^d goes to. A shift of 24 digits by 40 leaves what a longer one does. From 25 on all do (24 digits are then below half of the
+// unit), and up to 62 no sum wraps: 40 is one of these.
 fn whole_size(w: Way, s: bool, m: u64, d: u32) -> u64
     requires { (m < 2 ^ 24) × (1 ≤ d) }
     ensures value { result ≡ whole_size w s m (2 ^ d) }
     ensures small { result ≤ 2 ^ 24 }
 {
-    let h = short_shift(d);
+    let h = d.min(40);
     (m + before_cut(w, s, m, h)) >> h
 }
 
@@ -53,7 +46,7 @@ fn signed_f32(s: bool, k: u64) -> f32
     requires { k ≤ 2 ^ 24 }
     ensures { result ≡ round binary32 s k 1 }
 {
-    packing::with_sign(s, f32::to_bits(k as f32))
+    packing::with_sign(s, (k as f32).to_bits())
 }
 
 // x gone to a whole number. From 2^23 on, where m * 2^e over 2^149 has e >= 149, every f32 is whole.
@@ -62,13 +55,13 @@ fn to_whole(w: Way, x: f32) -> f32
 {
     if ieee::is_finite(x) {
         let p = packing::unpack(x);
-        let s = p.sign;
-        let m = p.significand;
-        let e = p.exponent;
-        if e >= 149 {
+        if p.exponent >= 149 {
             x
         } else {
-            signed_f32(s, whole_size(w, s, m, 149 - e))
+            signed_f32(
+                p.sign,
+                whole_size(w, p.sign, p.significand, 149 - p.exponent),
+            )
         }
     } else {
         x
@@ -94,7 +87,7 @@ fn signed_i32(s: bool, k: u64) -> i32
     requires { k < 2 ^ 31 }
     ensures { result ≡ saturate 31 s k }
 {
-    if s { 0 - (k as i32) } else { k as i32 }
+    if s { -(k as i32) } else { k as i32 }
 }
 
 // ±k as an i32, stopped at the ends of the range.
@@ -140,13 +133,13 @@ fn whole_to_i32(w: Way, x: f32) -> i32
 {
     if ieee::is_finite(x) {
         let p = packing::unpack(x);
-        let s = p.sign;
-        let m = p.significand;
-        let e = p.exponent;
-        if e >= 149 {
-            clamped_i32(s, shifted_up(m, e - 149))
+        if p.exponent >= 149 {
+            clamped_i32(p.sign, shifted_up(p.significand, p.exponent - 149))
         } else {
-            signed_i32(s, whole_size(w, s, m, 149 - e))
+            signed_i32(
+                p.sign,
+                whole_size(w, p.sign, p.significand, 149 - p.exponent),
+            )
         }
     } else {
         infinite_to_i32(x)

@@ -1,13 +1,14 @@
--- What the fields of a bit pattern say of the value, and a few facts of tests on floats. Assumes nothing.
+-- What the fields of a bit pattern say of the value, and what tells a finite float. Assumes nothing.
 use mathlib.Core.Path.{◌≡◌, refl, sym, ap, ◌∙◌, subst}
 use Prim.Native.Nat.{ℕ, suc, ◌+◌, ◌*◌, ◌/◌, ◌%◌, ◌^◌}
-use mathlib.Core.Bool.{Bool, true, false, not, cond, true≢false, false≢true}
+use mathlib.Core.Bool.{Bool, true, false, not, cond, false≢true}
 use lib.Dec.{T, leb, eqb}
-use lib.Ieee.{Float, nan, inf, fin, Format, prec, low, odd, of_fields, of_bits, to_bits, fits, is_nan, hid, ones, top, lt}
+use lib.Ieee.{Float, nan, inf, fin, Format, prec, low, odd, of_fields, of_bits, to_bits, fits, is_nan, hid, ones, top}
 use lib.Ieee.Exact.{HasValue, odd_sign}
 use lib.Ieee.Scale.{finite}
 use lib.Ieee.Fits.{eq→eqb}
 use lib.Ieee.Bits.{of_bits-to_bits, is_true}
+use Rattle.std.specs.Float.{float_is_finite}
 
 pub of_bits_is : (f : Format) (b : ℕ) → of_bits f b ≡ of_fields f (leb (top f) b) (b % top f / hid f) (b % hid f)
 unfolding of_bits
@@ -58,18 +59,12 @@ finite_no_nan nan h = absurd (false≢true h)
 finite_no_nan (inf s) h = tt
 finite_no_nan (fin s m e) h = tt
 
-pub finite_of_below : (v : Float) → lt v (inf false) ≡ true → lt (inf true) v ≡ finite v
-unfolding lt
-finite_of_below nan h = absurd (false≢true h)
-finite_of_below (inf true) h = refl
-finite_of_below (inf false) h = absurd (false≢true h)
-finite_of_below (fin s m e) h = refl
-
-pub not_finite : (v : Float) → lt v (inf false) ≡ false → false ≡ finite v
-unfolding lt
-not_finite nan h = refl
-not_finite (inf s) h = refl
-not_finite (fin s m e) h = absurd (true≢false h)
+-- what the library's test tells
+pub finite_is : (v : Float) → float_is_finite v ≡ finite v
+unfolding float_is_finite
+finite_is nan = refl
+finite_is (inf s) = refl
+finite_is (fin s m e) = refl
 
 pub field_ne : (f : Format) (v : Float) → T (fits f v) → finite v ≡ true → (x : ℕ) → to_bits f v % top f / hid f ≡ suc x → suc x ≡ ones f → ⊥
 field_ne f v h n x e z = false≢true (sym (at_suc f v h n x e) ∙ is_true (eqb (suc x) (ones f)) (eq→eqb z))

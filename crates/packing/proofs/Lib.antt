@@ -6,6 +6,7 @@ pub mod Scaled
 pub mod Cases
 pub mod Open
 pub mod Fields
+mod Split
 pub mod Sums
 pub mod Aligned
 pub mod Plain

@@ -3,7 +3,7 @@
 // the digits behind its leading one.) 2139095040 = 0x7f80_0000 is the infinity's pattern. The bounds 4096, 2000 and 1024 on an exponent only say that no sum wraps.
 #![tactic(auto)]
 
-ghost use Rattle.std.specs.Prelude.{◌≡◌, Bool, true, cond, ℕ, ◌+◌, ◌-◌, ◌*◌, ◌%◌, ◌^◌, ◌<◌, ◌≤◌};
+ghost use Rattle.std.specs.Prelude.{◌≡◌, Bool, true, cond, ℕ, ◌+◌, ◌-◌, ◌*◌, ◌%◌, ◌^◌, ◌/◌, ◌<◌, ◌≤◌, ◌==◌, leb};
 ghost use Rattle.std.specs.Float.{binary32};
 ghost use Rattle.std.specs.Float.Ieee.{round, sum, of_bits, top};
 ghost use Rattle.std.specs.Float.Ieee.Nearest.{closest};
@@ -93,29 +93,30 @@ pub struct Parts {
     pub exponent: u32,
 }
 
-// A finite f32: 24 digits, and an exponent's field of at most 254, which is 253 above the smallest. A field of 0 is a zero or a subnormal: no leading digit, and the
-// exponent of field 1.
+// The parts of the pattern b of a format with its sign at SIGN and its leading digit at ONE. A field of 0 is a zero or a subnormal: no leading digit, and the exponent of
+// field 1.
+fn take_apart<const SIGN: u64, const ONE: u64>(b: u64) -> Parts
+    requires { (0 < SIGN) × (0 < ONE) × (ONE ≤ 2 ^ 52) × (b % SIGN / ONE < 2 ^ 32) }
+    ensures sign { result.sign ≡ leb SIGN b }
+    ensures significand { result.significand ≡ cond (b % SIGN / ONE == 0) (b % ONE) (ONE + b % ONE) }
+    ensures exponent { result.exponent ≡ b % SIGN / ONE - 1 }
+{
+    let e = b % SIGN / ONE;
+    let d = b % ONE;
+    let m = if e == 0 { d } else { ONE + d };
+    Parts {
+        sign: b >= SIGN,
+        significand: m,
+        exponent: e.saturating_sub(1) as u32,
+    }
+}
+
+// A finite f32: 24 digits, and an exponent's field of at most 254, which is 253 above the smallest.
 pub fn unpack(v: f32) -> Parts
     requires { finite v ≡ true }
     ensures { Splits 149 24 253 v result.sign result.significand result.exponent }
 {
-    let b = f32::to_bits(v);
-    let s = b >= 0x8000_0000;
-    let e = b % 0x8000_0000 / 0x80_0000;
-    let d = b % 0x80_0000;
-    if e == 0 {
-        Parts {
-            sign: s,
-            significand: d as u64,
-            exponent: 0,
-        }
-    } else {
-        Parts {
-            sign: s,
-            significand: (0x80_0000 + d) as u64,
-            exponent: e - 1,
-        }
-    }
+    take_apart::<0x8000_0000, 0x80_0000>(u64::from(v.to_bits()))
 }
 
 // A finite f64: 53 digits, and a field of at most 2046.
@@ -123,23 +124,7 @@ pub fn unpack64(v: f64) -> Parts
     requires { finite v ≡ true }
     ensures { Splits 1074 53 2045 v result.sign result.significand result.exponent }
 {
-    let b = f64::to_bits(v);
-    let s = b >= 0x8000_0000_0000_0000;
-    let e = b % 0x8000_0000_0000_0000 / 0x10_0000_0000_0000;
-    let d = b % 0x10_0000_0000_0000;
-    if e == 0 {
-        Parts {
-            sign: s,
-            significand: d,
-            exponent: 0,
-        }
-    } else {
-        Parts {
-            sign: s,
-            significand: 0x10_0000_0000_0000 + d,
-            exponent: (e - 1) as u32,
-        }
-    }
+    take_apart::<0x8000_0000_0000_0000, 0x10_0000_0000_0000>(v.to_bits())
 }
 
 // b / 2^d, with what is lost kept as an odd last digit (the sticky bit). As b is below 2^62, nothing else is left of it from a shift by 62 on; 63 is the longest that a

@@ -1,9 +1,7 @@
 -- `fused_wide` meets its contract: off the midpoints the f64 sum tells which f32 is nearest. Assumes nothing.
 use mathlib.Core.Path.{sym, ◌∙◌, subst}
-use native.Mathlib.Omega.{arith}
 use lib.Dec.{T}
-use lib.Ieee.{Float, binary32, fits}
-use Rattle.ieee.specs.Parts.{FusedWide}
+use lib.Ieee.{binary32, fits}
 use Rattle.ieee.proofs.Doubled.{all_finite, fused_no_nan, fused_narrow}
 use Rattle.ieee_fused.proofs.fused_wide.Goals as goal
 use Rattle.ieee_fused.proofs.fused_wide.Goals.{Start}
@@ -17,10 +15,6 @@ B c = subst T (sym c.well_formed.1.0.1) tt
 C : (c : Start) → T (fits binary32 c.args.c)
 C c = subst T (sym c.well_formed.1.1.0.1) tt
 
--- 0 is no answer
-none : (a b c : Float) → FusedWide a b c 0
-none a b c = record { once = λ h. absurd (omega arith); right = λ h. absurd (omega arith) }
-
 pub wide_fma-n-requires : goal.wide_fma-n-requires
 wide_fma-n-requires c = let s = c.before.before in all_finite s.args.a s.args.b s.args.c (A s) (B s) (C s) (sym c.is_finite.ensures ∙ c.if-is_finite.true)
 
@@ -33,13 +27,4 @@ pub returns-then-rounds_once : goal.returns-then-rounds_once
 returns-then-rounds_once c =
     let s = c.before.before.before.before.before in
     let k = c.rounds_once.ensures.0 c.if-rounds_once.true in
-    record {
-      once = λ h. k;
-      right = λ h. fused_narrow s.args.a s.args.b s.args.c (A s) (B s) (C s) (sym c.is_finite.ensures ∙ c.if-is_finite.true) c.wide_fma-n.result c.wide_fma-n.ensures k;
-    }
-
-pub returns-else-rounds_once : goal.returns-else-rounds_once
-returns-else-rounds_once c = none _ _ _
-
-pub returns-else-is_finite : goal.returns-else-is_finite
-returns-else-is_finite c = none _ _ _
+    record { once = k; right = fused_narrow s.args.a s.args.b s.args.c (A s) (B s) (C s) (sym c.is_finite.ensures ∙ c.if-is_finite.true) c.wide_fma-n.result c.wide_fma-n.ensures k }

@@ -1,5 +1,5 @@
 -- `length` meets its contract: the zeros, the root of the pattern that the short path gives, or the two general paths. Assumes nothing.
-use Rattle.std.proofs.Common.{◌≡◌, ℕ, ◌<◌, ◌≤◌, Bool, true, false, T, pos, sym, refl, ap, ◌∙◌, subst, ap₂, lt_of_lt_of_le, lit≤}
+use Rattle.std.proofs.Common.{◌≡◌, ℕ, ◌<◌, ◌≤◌, Bool, true, false, T, pos, sym, refl, ap, ◌∙◌, subst, ap₂, lt_of_lt_of_le, lit≤, arith}
 use lib.Ieee.{Float, fin, binary32, binary64, mul, of_bits}
 use Rattle.ieee.specs.Root.{sqrt}
 use Rattle.ieee.specs.Fused.{fma, convert}
@@ -28,17 +28,15 @@ returns-then-y c =
     zeros c.args.x c.args.y (zero_of c.args.x (subst T (sym c.well_formed.0.1) tt) c.if-x.true) (zero_of c.args.y (subst T (sym c.well_formed.1.0.1) tt) c.if-y.true)
 
 pub narrow_bits-requires : goal.narrow_bits-requires
-narrow_bits-requires c = c.fused_wide-n.ensures.once c.if-n-gt0.true
+narrow_bits-requires c = c.in-Some.ensures.once
 
 pub normal_root-requires : goal.normal_root-requires
 normal_root-requires c =
-    let n = c.fused_wide-n in
-    subst (λ (b : ℕ). (8388608 ≤ b) × (b < 2139095040)) (sym c.narrow_bits.ensures) (plain_normal n.result (n.ensures.once c.if-n-gt0.true) (lt_of_lt_of_le c.if-n-lt5183643170566569984.true (lit≤ tt)))
+    subst (λ (b : ℕ). (8388608 ≤ b) × (b < 2139095040)) (sym c.narrow_bits.ensures) (plain_normal c.in-Some.n c.in-Some.ensures.once (omega arith))
 
-pub returns-then-n-lt5183643170566569984 : goal.returns-then-n-lt5183643170566569984
-returns-then-n-lt5183643170566569984 c =
-    let n = c.fused_wide-n in
-    root_of_lem n.result _ _ _ c.normal_root.ensures c.narrow_bits.ensures (n.ensures.once c.if-n-gt0.true) (lt_of_lt_of_le c.if-n-lt5183643170566569984.true (lit≤ tt)) (n.ensures.right c.if-n-gt0.true)
+pub returns-in-Some : goal.returns-in-Some
+returns-in-Some c =
+    root_of_lem c.in-Some.n _ _ _ c.normal_root.ensures c.narrow_bits.ensures c.in-Some.ensures.once (omega arith) c.in-Some.ensures.right
 
-pub returns : goal.returns
-returns c = c.root_general.ensures ∙ ap (sqrt binary32) c.fma_general.ensures
+pub returns-in_default : goal.returns-in_default
+returns-in_default c = c.root_general.ensures ∙ ap (sqrt binary32) c.fma_general.ensures

@@ -4,7 +4,7 @@ use lib.Ieee.{binary64, to_bits}
 use lib.Ieee.Fits.{and_l, and_r}
 use Rattle.packing.proofs.Fields.{finite_no_nan}
 use Rattle.ieee_length.specs.Mild.{small}
-use Rattle.ieee_length.proofs.Digits.{digits_small, radicand_lt, radicand_pos, guessed, no_root}
+use Rattle.ieee_length.proofs.Digits.{digits_small, radicand_lt, radicand_pos, guessed}
 use Rattle.ieee_length.proofs.length_guess.Goals as goal
 
 tested : (a k : ℕ) (r : Bool) → r ≡ (ltb (k * k) (a + k) && leb a (k * k + k)) → r ≡ true → (k * k < a + k) × (a ≤ k * k + k)
@@ -18,7 +18,7 @@ returns-then-n-ne0 c =
     let n = c.raised_sum-n in
     let k = to_bits binary64 c.cubic_at.result % 2 ^ 25 in
     let w = subst (λ (m : ℕ). (k * k < m + k) × (m ≤ k * k + k)) a.ensures (tested a.result k c.is_nearest.result c.is_nearest.ensures c.if-is_nearest.true) in
-    guessed _ n.result k n.ensures c.if-n-ge4044232465647140864.true (λ z. omega (arith, z, c.if-n-ne0.true)) w.0 w.1
+    guessed _ n.result k n.ensures c.if-n-ge4044232465647140864.true (λ z. omega (arith, z)) w.0 w.1
 
 pub cubic_at-requires-clause-fact_1 : goal.cubic_at-requires-clause-fact_1
 cubic_at-requires-clause-fact_1 c = c.requires.0
@@ -34,12 +34,3 @@ is_nearest-requires c = let n = c.raised_sum-n.result in (subst (λ (a : ℕ). 0
 
 pub overflow_cast-result : goal.overflow_cast-result
 overflow_cast-result c = record { fits = lt_of_le_of_lt (returns-then-n-ne0 c).small (lit< tt) }
-
-pub returns-else-n-ne0 : goal.returns-else-n-ne0
-returns-else-n-ne0 c = no_root _
-
-pub returns-else-is_nearest : goal.returns-else-is_nearest
-returns-else-is_nearest c = no_root _
-
-pub returns-else-n-ge4044232465647140864 : goal.returns-else-n-ge4044232465647140864
-returns-else-n-ge4044232465647140864 c = no_root _

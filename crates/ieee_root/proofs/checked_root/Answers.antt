@@ -1,5 +1,5 @@
 use Prim.Native.Nat.{ℕ, ◌-◌, ◌*◌, ◌%◌, ◌^◌, ◌≤◌, ◌<◌}
-use native.Mathlib.Nat.{lt_of_lt_of_le, lt_of_le_of_lt, mod-lt, mul-le-mul, lt_irrefl}
+use native.Mathlib.Nat.{lt_of_lt_of_le, lt_of_le_of_lt, mod-lt, mul-le-mul}
 use native.Mathlib.Omega.{arith}
 use lib.Dec.{lit<, lit≤}
 use lib.Pow.{pow_pos}
@@ -17,8 +17,8 @@ float_to_bits-q c = above_no_nan _ c.args.t c.if-t.true
 pub overflow_mul-n : goal.overflow_mul-n
 overflow_mul-n c = record { fits = lt_of_lt_of_le (square_in (to_bits binary64 c.args.t)) (lit≤ tt) }
 
-pub overflow_add-a-then-t-2 : goal.overflow_add-a-then-t-2
-overflow_add-a-then-t-2 c = omega (arith, try_lt c.args.b c.requires.0 c.requires.1)
+pub overflow_add-a-then-t : goal.overflow_add-a-then-t
+overflow_add-a-then-t c = omega (arith, try_lt c.args.b c.requires.0 c.requires.1)
 
 pub overflow_add-n : goal.overflow_add-n
 overflow_add-n c = omega (arith, square_in (to_bits binary64 c.args.t))
@@ -28,14 +28,5 @@ returns-then-a-n c =
     let q = to_bits binary64 c.args.t % 2 ^ 25 in
     record {
       small = try_small c.args.b c.requires.0 c.requires.1 q (omega (arith, c.if-n-a.true)) (omega (arith, c.if-a-n.true));
-      right = λ h. try_right c.args.b c.requires.0 c.requires.1 q (omega (arith, c.if-n-a.true)) (omega (arith, c.if-a-n.true));
+      right = try_right c.args.b c.requires.0 c.requires.1 q (omega (arith, c.if-n-a.true)) (omega (arith, c.if-a-n.true));
     }
-
-pub returns-else-a-n : goal.returns-else-a-n
-returns-else-a-n c = record { small = lit≤ tt; right = λ h. absurd (lt_irrefl 0 h) }
-
-pub returns-else-n-a : goal.returns-else-n-a
-returns-else-n-a c = record { small = lit≤ tt; right = λ h. absurd (lt_irrefl 0 h) }
-
-pub returns-else-t : goal.returns-else-t
-returns-else-t c = record { small = lit≤ tt; right = λ h. absurd (lt_irrefl 0 h) }

@@ -37,29 +37,14 @@ module _ (n r k : ℕ) (p : 0 < k) (i : Rooted n r k) where
 pub loop-k-init : goal.loop-k-init
 loop-k-init c = (lit≤ tt, zero-le, c.ranges.n.fits, lit≤ tt)
 
-pub overflow_sub-k : goal.overflow_sub-k
-overflow_sub-k c = omega arith
-
-pub overflow_cast-t : goal.overflow_cast-t
-overflow_cast-t c = omega arith
-
-pub overflow_shl-t : goal.overflow_shl-t
-overflow_shl-t c = omega arith
-
 pub overflow_add-t : goal.overflow_add-t
 overflow_add-t c = omega (arith, t_in c.args.n c.loop-k.r c.loop-k.k c.loop-k-test.true c.loop-k.invariant)
 
 pub overflow_mul-t : goal.overflow_mul-t
 overflow_mul-t c = record { fits = square_in (c.loop-k.r + b c.args.n c.loop-k.r c.loop-k.k c.loop-k-test.true c.loop-k.invariant) (t_in c.args.n c.loop-k.r c.loop-k.k c.loop-k-test.true c.loop-k.invariant) }
 
-pub loop-k-smaller-then-t-n : goal.loop-k-smaller-then-t-n
-loop-k-smaller-then-t-n c = omega arith
-
 pub loop-k-preserved-then-t-n : goal.loop-k-preserved-then-t-n
 loop-k-preserved-then-t-n c = taken c.args.n c.loop-k.r c.loop-k.k c.loop-k-test.true c.loop-k.invariant c.if-t-n.true
-
-pub loop-k-smaller : goal.loop-k-smaller
-loop-k-smaller c = omega arith
 
 pub loop-k-preserved : goal.loop-k-preserved
 loop-k-preserved c = left c.args.n c.loop-k.r c.loop-k.k c.loop-k-test.true c.loop-k.invariant c.if-t-n.false

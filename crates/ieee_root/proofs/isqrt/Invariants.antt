@@ -7,6 +7,3 @@ Rooted n r k = (k ≤ 32) × (r * r ≤ n) × (n < (r + 2 ^ k) * (r + 2 ^ k)) ×
 
 abbrev pub invariant-loop-k : goal.invariant-loop-k
 invariant-loop-k l = Rooted l.n l.r l.k
-
-abbrev pub decreases-loop-k : goal.decreases-loop-k
-decreases-loop-k l = l.k

@@ -15,23 +15,23 @@ some d h l e = omega arith
 
 pub overflow_add-result : goal.overflow_add-result
 overflow_add-result c =
-    let h = c.short_shift-h.result in
-    omega (arith, c.before_cut.ensures, cut_le c.args.w c.args.s c.args.m (2 ^ h) (pow_pos h), power_lt h (far c.args.d h c.short_shift-h.ensures))
+    let h = c.min-h.result in
+    omega (arith, c.before_cut.ensures, cut_le c.args.w c.args.s c.args.m (2 ^ h) (pow_pos h), power_lt h (far c.args.d h c.min-h.ensures))
 
 pub returns-clause-value : goal.returns-clause-value
 returns-clause-value c =
-    let h = c.short_shift-h.result in
+    let h = c.min-h.result in
     let e : (c.args.m + c.before_cut.result) / 2 ^ h ≡ whole_size c.args.w c.args.s c.args.m (2 ^ c.args.d) =
     ap (λ (x : ℕ). (c.args.m + x) / 2 ^ h) c.before_cut.ensures
-    ∙ size_sum c.args.w c.args.s c.args.m h (some c.args.d h c.requires.1 c.short_shift-h.ensures)
-    ∙ size_stop c.args.w c.args.s c.args.m c.args.d h c.requires.0 c.short_shift-h.ensures in
+    ∙ size_sum c.args.w c.args.s c.args.m h (some c.args.d h c.requires.1 c.min-h.ensures)
+    ∙ size_stop c.args.w c.args.s c.args.m c.args.d h c.requires.0 c.min-h.ensures in
     e
 
 pub returns-clause-small : goal.returns-clause-small
 returns-clause-small c =
-    let h = c.short_shift-h.result in
+    let h = c.min-h.result in
     let e : (c.args.m + c.before_cut.result) / 2 ^ h ≡ whole_size c.args.w c.args.s c.args.m (2 ^ c.args.d) =
     ap (λ (x : ℕ). (c.args.m + x) / 2 ^ h) c.before_cut.ensures
-    ∙ size_sum c.args.w c.args.s c.args.m h (some c.args.d h c.requires.1 c.short_shift-h.ensures)
-    ∙ size_stop c.args.w c.args.s c.args.m c.args.d h c.requires.0 c.short_shift-h.ensures in
+    ∙ size_sum c.args.w c.args.s c.args.m h (some c.args.d h c.requires.1 c.min-h.ensures)
+    ∙ size_stop c.args.w c.args.s c.args.m c.args.d h c.requires.0 c.min-h.ensures in
     subst (λ (x : ℕ). x ≤ 2 ^ 24) (sym e) (size_le c.args.w c.args.s c.args.m c.args.d c.requires.0)

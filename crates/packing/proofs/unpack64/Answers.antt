@@ -1,35 +1,15 @@
-use mathlib.Core.Path.{◌≡◌, sym, subst}
-use Prim.Native.Nat.{suc, ◌-◌, ◌/◌, ◌%◌, ◌^◌}
-use native.Mathlib.Nat.{mod-lt}
-use native.Mathlib.Omega.{arith}
+use mathlib.Core.Path.{refl, sym, subst}
 use lib.Dec.{T}
-use lib.Pow.{pow_pos}
-use lib.Ieee.{binary64, fits, to_bits}
-use Rattle.packing.proofs.Fields.{value_low, value_normal, field_ne, finite_no_nan}
+use lib.Ieee.{binary64}
+use Rattle.packing.proofs.Fields.{finite_no_nan}
+use Rattle.packing.proofs.Split.{splits}
 use Rattle.packing.proofs.unpack64.Goals as goal
-use Rattle.packing.proofs.unpack64.Goals.{Start}
+
+pub float_to_bits-v : goal.float_to_bits-v
+float_to_bits-v c = finite_no_nan c.args.v c.requires
 
 -- what owning a float tells: the format holds it
-held : (c : Start) → T (fits binary64 c.args.v)
-held c = subst T (sym c.well_formed.0.1) tt
-
-pub float_to_bits-b : goal.float_to_bits-b
-float_to_bits-b c = finite_no_nan c.args.v c.requires
-
-pub returns-then-e-eq0 : goal.returns-then-e-eq0
-returns-then-e-eq0 c =
-    let a = c.before in
-    record { value = value_low binary64 a.args.v (held a) a.requires c.if-e-eq0.true; digits = omega (arith, mod-lt (to_bits binary64 a.args.v) (pow_pos 52)); place = omega arith }
-
-pub returns-else-e-eq0 : goal.returns-else-e-eq0
-returns-else-e-eq0 c =
-    let a = c.before in
-    let b = to_bits binary64 a.args.v in
-    let e = b % 2 ^ 63 / 2 ^ 52 in
-    let up : e ≡ suc (e - 1) = omega (arith, c.if-e-eq0.false) in
-    let ne : suc (e - 1) ≡ 2047 → ⊥ = field_ne binary64 a.args.v (held a) a.requires (e - 1) up in
-    record {
-      value = value_normal binary64 a.args.v (held a) a.requires (e - 1) up;
-      digits = omega (arith, mod-lt b (pow_pos 52));
-      place = omega (arith, mod-lt b (pow_pos 63), ne);
-    }
+pub returns : goal.returns
+returns c =
+    let t = c.take_apart.ensures in
+    splits binary64 c.args.v (subst T (sym c.well_formed.0.1) tt) c.requires _ refl _ _ _ t.sign t.significand t.exponent

@@ -4,7 +4,7 @@ crates/hal_angle, and crates/hal/src/pairs.rt.
 
     python3 host/vectors/tables.py      (in the repository; Python 3.9 or later, mpmath 1.3; then rt fmt)
 
-docs/ROUTINES.md says what the numbers are. Of the files that are written over, only the comments and the heads of the definitions are kept."""
+docs/ROUTINES.md says what the numbers are. Of the files that are written over, all is kept but the numbers."""
 import struct
 from mpmath import mp, mpf, matrix
 
@@ -30,7 +30,7 @@ def entry(i):
     return int(mp.floor(mp.power(2, 23 + mpf(i) / 256)))
 
 
-PAIRS = [n for i in range(256) for n in (entry(i), entry(i + 1) - entry(i))]
+PAIRS = [(entry(i), entry(i + 1) - entry(i)) for i in range(256)]
 
 
 # ---- the root of a, 1 <= a < 4, times 2^23: the cubic through it at the four nodes of Chebyshev, in each piece
@@ -60,10 +60,10 @@ def line(k):
     return [f32((max(spread) + min(spread)) / 2), f32(b)]
 
 
-LINES = [x for k in range(2 * STEPS + 1) for x in line(k)] + [45.0, 0.0]
+LINES = [line(k) for k in range(2 * STEPS + 1)] + [[45.0, 0.0]]
 LAST = f32(359.99997)
-QUARTERS = [45.0, 63.0, 0.0, 90.0, 135.0, -63.0, 90.0, 180.0, 315.0, -63.0, 270.0, LAST, 225.0, 63.0, 180.0, 270.0]
-TURNS = LINES + QUARTERS
+QUARTERS = [[45.0, 63.0, 0.0, 90.0], [135.0, -63.0, 90.0, 180.0], [315.0, -63.0, 270.0, LAST], [225.0, 63.0, 180.0, 270.0]]
+TURNS = [x for row in LINES + QUARTERS for x in row]
 
 
 # ---- as text
@@ -76,10 +76,11 @@ def plain(x, single):
     raise ValueError(x)
 
 
-def code(path, constant, kind, numbers):
-    rows = ''.join(f'    {n},\n' for n in numbers)
-    head = ''.join(line for line in open(path) if line.startswith('//'))
-    open(path, 'w').write(f'{head}pub const {constant}: [{kind}; {len(numbers)}] = [\n{rows}];\n')
+def code(path, table, rows):
+    text = open(path).read()
+    start = text.index('= [\n', text.index(f'static {table}:')) + len('= [\n')
+    end = text.index('];\n', start)
+    open(path, 'w').write(text[:start] + ''.join(f'    {row},\n' for row in rows) + text[end:])
 
 
 def definition(path, numbers, wide):
@@ -90,8 +91,9 @@ def definition(path, numbers, wide):
     open(path, 'w').write(f'{text[:start]}    {rows} ∷ []\n{text[end:]}')
 
 
-code('crates/hal/src/pairs.rt', 'PAIRS', 'u32', PAIRS)
-code('crates/hal_magnitude/src/cubics.rt', 'CUBICS', 'f64', [plain(x, False) for x in CUBICS])
-code('crates/hal_angle/src/turns.rt', 'TURNS', 'f32', [plain(x, True) for x in TURNS])
+code('crates/hal/src/pairs.rt', 'PAIRS', PAIRS)
+code('crates/hal_magnitude/src/cubics.rt', 'CUBICS', [plain(x, False) for x in CUBICS])
+code('crates/hal_angle/src/turns.rt', 'LINES', [f'({plain(a, True)}, {plain(b, True)})' for a, b in LINES])
+code('crates/hal_angle/src/turns.rt', 'QUARTERS', ['Quarter { ' + ', '.join(f'{name}: {plain(x, True)}' for name, x in zip(('middle', 'steps', 'least', 'largest'), row)) + ' }' for row in QUARTERS])
 definition('crates/hal_magnitude/specs/Cubics.antt', [f'f64 0x{bits64(x):016x}' for x in CUBICS], 6)
 definition('crates/hal_angle/specs/Turns.antt', [f'f32 0x{bits32(x):08x}' for x in TURNS], 8)

@@ -8,7 +8,8 @@ use Rattle.ieee_laws.proofs.Order.{lt_le, le_refl_float, le_number, le_trans_flo
 use Rattle.ieee.specs.Numbers.{nought, whole_turn}
 use Rattle.hal.specs.Rules.{In}
 use Rattle.hal_reach.specs.Reach.{in_angle}
-use Rattle.hal_angle.specs.Angle.{quarter_of, lesser_of, greater_of, direction_of, sum_of, ahead_of, angle_of}
+use Rattle.bounds.specs.Bounds.{lesser_of, greater_of}
+use Rattle.hal_angle.specs.Angle.{quarter_of, direction_of, sum_of, ahead_of, angle_of}
 use Rattle.hal_angle.specs.Rules.{start_of, end_of}
 
 -- ---- what is held in lo to hi

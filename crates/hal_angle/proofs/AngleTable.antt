@@ -1,50 +1,81 @@
 -- What stands in the table of the angle for each quarter, and that no step on the way to the line is a not-a-number. Assumes nothing.
 use mathlib.Core.Path.{◌≡◌, refl, sym, ap, ◌∙◌, subst}
 use mathlib.Core.Bool.{Bool, true, false, not, cond, beq, ◌&&◌}
-use mathlib.Core.List.{List}
-use Prim.Native.Nat.{ℕ, ◌+◌, ◌-◌, ◌*◌, ◌^◌}
+use Prim.Native.Nat.{ℕ, ◌+◌, ◌-◌, ◌*◌, ◌^◌, ◌<◌}
+use native.Mathlib.Omega.{arith}
 use lib.Dec.{T, ltb, eqb}
 use borrow.Author.Tests.{ltb-true}
 use lib.IntN.{ℤ}
-use lib.ListN.{get_or}
+use lib.ListN.{length, get_or, take}
+use Rattle.std.specs.Int.{from_bool}
+use Rattle.std.proofs.lemmas.List.{get_or-take}
 use lib.Ieee.{Float, nan, inf, fin, binary32, unlike, up, down, lt, add, sub, mul, div, sum, round, is_nan, of_bits, fits}
 use Rattle.ieee.specs.Numbers.{nought}
-use Rattle.ieee.specs.F32.{abs_of}
+use Rattle.ieee.specs.F32.{◌⊕◌, ◌⊗◌, abs_of}
 use Rattle.ieee.proofs.Doubled.{round_no_nan}
 use Rattle.hal_angle.specs.Numbers.{shift}
 use Rattle.hal_angle.specs.Turns.{turns, place_of}
 use Rattle.hal_reach.specs.Reach.{in_angle}
-use Rattle.hal_angle.specs.Angle.{sum_of, ahead_of, quarter_of, along_of, lesser_of, greater_of, direction_of, angle_of}
+use Rattle.bounds.specs.Bounds.{lesser_of, greater_of}
+use Rattle.hal_angle.specs.declared.turns.Quarter.{Quarter}
+use Rattle.hal_angle.specs.declared.turns.TheConstants.{LINES, QUARTERS}
+use Rattle.hal_angle.specs.Angle.{sum_of, ahead_of, quarter_of, turn_at, line_of, along_of, direction_of, angle_of}
 use Rattle.hal_angle.proofs.AngleLaws.{angle_level, angle_direction}
+use Rattle.hal.proofs.TwoByTwo.{pairs_of, pair_at}
 use Rattle.hal_reach.proofs.Reach.{reach_dx, reach_dy}
 use Rattle.hal_angle.proofs.AngleUnits.{near, apart, whole_of, both_most, sum_test, ahead_units}
 
--- ---- a quarter's four numbers, from place i on
-pub record Row (t : List Float) (i : ℕ) (left down : Bool) : Type 0 where
-  pub middle : get_or t i nan ≡ (quarter_of left down).middle
-  pub steps : get_or t (i + 1) nan ≡ (quarter_of left down).steps
-  pub least : get_or t (i + 2) nan ≡ (quarter_of left down).least
-  pub largest : get_or t (i + 3) nan ≡ (quarter_of left down).largest
+-- ---- the lines, two numbers of the table each
+lines_are : LINES ≡ pairs_of (take 256 turns)
+unfolding turns pairs_of of_bits
+lines_are = refl
 
-row : (left down : Bool) → Row turns (place_of left down) left down
+half_length : length (take 256 turns) ≡ 256
+unfolding turns
+half_length = refl
+
+line_at : (k : ℕ) → k < 128 → get_or LINES k (nan, nan) ≡ (turn_at (2 * k), turn_at (2 * k + 1))
+line_at k h =
+    let e : get_or (take 256 turns) (2 * k) nan ≡ turn_at (2 * k) = get_or-take 256 turns (2 * k) nan (omega arith) in
+    let f : get_or (take 256 turns) (2 * k + 1) nan ≡ turn_at (2 * k + 1) = get_or-take 256 turns (2 * k + 1) nan (omega arith) in
+    ap (λ l. get_or l k (nan, nan)) lines_are ∙ pair_at nan (take 256 turns) k (omega (arith, half_length)) ∙ rw (e, f) refl
+
+pub line_is : (middle d : Float) (k : ℕ) → k < 128 → middle ⊕ (get_or LINES k (nan, nan)).0 ⊕ d ⊗ (get_or LINES k (nan, nan)).1 ≡ line_of middle k d
+unfolding line_of
+line_is middle d k h = rw (line_at k h) refl
+
+-- ---- the quarters, four numbers each
+abbrev from_place : Quarter → Bool → Bool → Type 0
+from_place q left down =
+    (q.middle ≡ turn_at (place_of left down)) × (q.steps ≡ turn_at (place_of left down + 1)) × (q.least ≡ turn_at (place_of left down + 2)) × (q.largest ≡ turn_at (place_of left down + 3))
+
+pub quarter_at : (left down : Bool) (d : Quarter) → from_place (get_or QUARTERS (from_bool left + 2 * from_bool down) d) left down
+unfolding turns of_bits
+quarter_at false false d = (refl, refl, refl, refl)
+quarter_at true false d = (refl, refl, refl, refl)
+quarter_at true true d = (refl, refl, refl, refl)
+quarter_at false true d = (refl, refl, refl, refl)
+
+pub record Row (left down : Bool) : Type 0 where
+  pub middle : turn_at (place_of left down) ≡ (quarter_of left down).middle
+  pub steps : turn_at (place_of left down + 1) ≡ (quarter_of left down).steps
+  pub least : turn_at (place_of left down + 2) ≡ (quarter_of left down).least
+  pub largest : turn_at (place_of left down + 3) ≡ (quarter_of left down).largest
+
+pub row : (left down : Bool) → Row left down
 unfolding turns of_bits
 row false false = record { middle = refl; steps = refl; least = refl; largest = refl }
 row true false = record { middle = refl; steps = refl; least = refl; largest = refl }
 row true true = record { middle = refl; steps = refl; least = refl; largest = refl }
 row false true = record { middle = refl; steps = refl; least = refl; largest = refl }
 
-pub row_of : (t : List Float) (i : ℕ) (left down : Bool) → t ≡ turns → i ≡ place_of left down → Row t i left down
-row_of t i left down e p = subst (λ (z : List Float). Row z i left down) (sym e) (subst (λ (k : ℕ). Row turns k left down) (sym p) (row left down))
-
 -- what the code has by then: q by the line, g and r held
-pub direction_at : (t : List Float) (i : ℕ) (left down : Bool) (ahead q g r : Float) → Row t i left down → q ≡ along_of (get_or t i nan) (mul binary32 ahead (get_or t (i + 1) nan)) → g ≡ greater_of (get_or t (i + 2) nan) q → r ≡ lesser_of g (get_or t (i + 3) nan) → r ≡ direction_of (quarter_of left down) ahead
+pub direction_at : (left down : Bool) (ahead : Float) {m s l t q g r : Float} → m ≡ turn_at (place_of left down) → s ≡ turn_at (place_of left down + 1) → l ≡ turn_at (place_of left down + 2) → t ≡ turn_at (place_of left down + 3)
+    → q ≡ along_of m (ahead ⊗ s) → g ≡ greater_of l q → r ≡ lesser_of g t → r ≡ direction_of (quarter_of left down) ahead
 unfolding direction_of
-direction_at t i left down ahead q g r x p e f =
-    let k = quarter_of left down in
-    f ∙ ap (lesser_of g) x.largest
-    ∙ ap (λ (z : Float). lesser_of z k.largest)
-    (e ∙ ap (λ (z : Float). greater_of z q) x.least
-    ∙ ap (greater_of k.least) (p ∙ ap (λ (z : Float). along_of z (mul binary32 ahead (get_or t (i + 1) nan))) x.middle ∙ ap (λ (z : Float). along_of k.middle (mul binary32 ahead z)) x.steps))
+direction_at left down ahead m s l t q g r =
+    let x : Row left down = row left down in
+    rw (r, g, q, m ∙ x.middle, s ∙ x.steps, l ∙ x.least, t ∙ x.largest) refl
 
 -- ---- numbers
 times_number : (x : Float) (t : Bool) (n : ℕ) (d : ℤ) → eqb n 0 ≡ false → T (not (is_nan x)) → T (not (is_nan (mul binary32 x (fin t n d))))

@@ -11,7 +11,8 @@ use Rattle.hal.proofs.Rules.{otherwise}
 use Rattle.hal_reach.specs.Reach.{in_angle}
 use Rattle.hal_reach.proofs.Reach.{reach_dx, reach_dy}
 use Rattle.hal_angle.specs.Numbers.{last_angle, three_eighth_turn, five_eighth_turn, seven_eighth_turn, steps63, minus_steps63, shift}
-use Rattle.hal_angle.specs.Angle.{lesser_of, greater_of, quarter_of, line_of, along_of, direction_of, sum_of, ahead_of, angle_of}
+use Rattle.bounds.specs.Bounds.{lesser_of, greater_of}
+use Rattle.hal_angle.specs.Angle.{quarter_of, line_of, along_of, direction_of, sum_of, ahead_of, angle_of}
 use Rattle.hal_angle.specs.Rules.{AngleRule, start_of, end_of}
 use Rattle.hal_angle.proofs.AngleLaws.{by_sum, direction_in, angle_least, angle_below}
 use Rattle.hal_angle.proofs.AngleValues.{none_num}

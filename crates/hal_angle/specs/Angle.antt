@@ -3,6 +3,7 @@ use Rattle.std.specs.Prelude.{ℕ, ◌+◌, ◌*◌, ◌%◌, Bool, true, false,
 use Rattle.std.specs.Float.{nan}
 use Rattle.ieee.specs.F32.{◌⊕◌, ◌⊖◌, ◌⊗◌, ◌⊘◌, ◌<ᶠ◌, abs_of, bits_of}
 use Rattle.ieee.specs.Numbers.{nought, eighth_turn, quarter_turn, half_turn, three_quarter_turn}
+use Rattle.bounds.specs.Bounds.{lesser_of, greater_of}
 use Rattle.hal_reach.specs.Reach.{in_angle}
 use Rattle.hal_angle.specs.Numbers.{last_angle, three_eighth_turn, five_eighth_turn, seven_eighth_turn, steps63, minus_steps63, shift}
 use Rattle.hal_angle.specs.Turns.{turns}
@@ -42,12 +43,6 @@ line_of middle k d = middle ⊕ turn_at (2 * k) ⊕ d ⊗ turn_at (2 * k + 1)
 -- the last seven digits of u + shift are the whole number next to u, counted from -63
 unfoldable pub along_of : Float → Float → Float
 along_of middle u = line_of middle (bits_of (u ⊕ shift) % 128) (u ⊖ (u ⊕ shift ⊖ shift))
-
-abbrev pub lesser_of : Float → Float → Float
-lesser_of a b = cond (a <ᶠ b) a b
-
-abbrev pub greater_of : Float → Float → Float
-greater_of a b = cond (a <ᶠ b) b a
 
 -- held in the quarter
 unfoldable pub direction_of : Quarter → Float → Float

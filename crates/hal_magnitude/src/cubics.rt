@@ -1,6 +1,6 @@
 // Cubics for the root of a from 1 to below 4, times 2^23: 64 pieces, the constant terms of all, then the factors of a, of its square, of its cube.
-// Pieces of 1/32 from 1 to 2, then of 1/16 from 2 to 4.
-pub const CUBICS: [f64; 256] = [
+// Pieces of 1/32 from 1 to 2, then of 1/16 from 2 to 4. In one list, as `ieee_length::length_with` takes a table.
+pub static CUBICS: [f64; 256] = [
     2641707.7340760548,
     2682049.417475423,
     2721793.0097587784,

@@ -9,6 +9,9 @@ ghost use Rattle.hal_reach.specs.Reach.{in_angle};
 ghost use Rattle.hal_magnitude.specs.Cubics.{cubics};
 ghost use Rattle.hal_magnitude.specs.Magnitude.{magnitude_of};
 
+use cubics::CUBICS;
+
+#[tactic(auto, unfolding(crate::specs::Magnitude::magnitude_of))]
 pub fn magnitude(dx: f32, dy: f32) -> f32
     ensures { result ≡ magnitude_of dx dy }
 {
@@ -19,17 +22,17 @@ pub fn magnitude(dx: f32, dy: f32) -> f32
     }
 }
 
-// The table of the magnitude's guesses, to be made once and lent.
-pub fn cubic_table() -> [f64; 256]
-    ensures { result ≡ cubics }
+// The table of the magnitude's guesses. A wrong number in it would change no magnitude, so that no other contract says which they are.
+fn guesses() -> &'static [f64; 256]
+    ensures { result.now ≡ cubics }
 {
-    cubics::CUBICS
+    &CUBICS
 }
 
 // For loops: both are in the range.
-pub fn magnitude_in(t: &[f64; 256], dx: f32, dy: f32) -> f32
-    requires { (t.now ≡ cubics) × (in_angle dx dy ≡ true) }
+pub fn magnitude_in(dx: f32, dy: f32) -> f32
+    requires { in_angle dx dy ≡ true }
     ensures { result ≡ magnitude_of dx dy }
 {
-    ieee_length::length_with(t, dx, dy)
+    ieee_length::length_with(guesses(), dx, dy)
 }

@@ -8,9 +8,5 @@ ghost use Rattle.hal_reach.specs.Reach.{in_angle};
 pub fn in_reach(dx: f32, dy: f32) -> bool
     ensures { result ≡ in_angle dx dy }
 {
-    if ieee::abs(dx) <= 2097152.0 {
-        ieee::abs(dy) <= 2097152.0
-    } else {
-        false
-    }
+    ieee::abs(dx) <= 2097152.0 && ieee::abs(dy) <= 2097152.0
 }

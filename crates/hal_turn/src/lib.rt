@@ -5,18 +5,16 @@
 ghost use Rattle.std.specs.Prelude.{◌≡◌};
 ghost use Rattle.hal_turn.specs.Turn.{hold_of, negated_of, quarter_sine_of, sin_of, cos_of};
 
-// p brought into 0 to top.
+// p brought into 0 to top, and +0 where it is not above 0.
+#[tactic(auto, unfolding(crate::specs::Turn::hold_of))]
 fn hold(p: f32, top: f32) -> f32
     ensures { result ≡ hold_of p top }
 {
-    if p > 0.0 {
-        if p < top { p } else { top }
-    } else {
-        0.0
-    }
+    if p > 0.0 { bounds::lesser(p, top) } else { 0.0 }
 }
 
 // -v, with +0 for a zero.
+#[tactic(auto, unfolding(crate::specs::Turn::negated_of))]
 fn negated(v: f32) -> f32
     ensures { result ≡ negated_of v }
 {
@@ -25,6 +23,7 @@ fn negated(v: f32) -> f32
 
 // The sine of a degrees, a in 0 to 90. The odd polynomial of degree nine whose largest error on 0 to 90 is least (3.4e-9), its coefficients rounded to f32 and the first
 // one place higher, so that it passes 1 at 90 and is held there.
+#[tactic(auto, unfolding(crate::specs::Turn::quarter_sine_of))]
 fn quarter_sine(a: f32) -> f32
     ensures { result ≡ quarter_sine_of a }
 {
@@ -38,6 +37,7 @@ fn quarter_sine(a: f32) -> f32
     )
 }
 
+#[tactic(auto, unfolding(crate::specs::Turn::sin_of))]
 pub fn sin(d: f32) -> f32
     ensures { result ≡ sin_of d }
 {
@@ -56,6 +56,7 @@ pub fn sin(d: f32) -> f32
     }
 }
 
+#[tactic(auto, unfolding(crate::specs::Turn::cos_of))]
 pub fn cos(d: f32) -> f32
     ensures { result ≡ cos_of d }
 {

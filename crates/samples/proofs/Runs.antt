@@ -8,6 +8,7 @@ use native.Mathlib.Numerals.{add-one}
 use native.Mathlib.Omega.{arith}
 use lib.ListN.{length, get_or, take, drop, take-append-drop, drop_of_length-le, length-take, length-drop}
 use lib.Seq.{drop-cons, drop-append-le, length-take-le, get_or-take, get_or-drop}
+use Rattle.std.proofs.lemmas.List.{take_all, take_more, drop-take}
 use lib.Ieee.{Float, nan}
 use Rattle.lists.proofs.Bools.{and_assoc, and_left, and_right, and_true}
 use Rattle.params.specs.Table.{good_sample, all_good}
@@ -46,13 +47,19 @@ good_none d to =
 pub good_one : (d : List Float) (i : ℕ) → i < length d → good_from i (i + 1) d ≡ good_sample (get_or d i nan)
 good_one d i h = good_next d i (i + 1) (omega arith) (omega arith) ∙ rw (good_none d (i + 1), and_true)
 
--- a tested sample more
-pub good_more : (d : List Float) (i to : ℕ) (ok b all : Bool) → i < to → to ≤ length d → b ≡ good_sample (get_or d i nan)
-    → (ok && good_from i to d) ≡ all → ((ok && b) && good_from (i + 1) to d) ≡ all
-good_more d i to ok b all p q e k = rw (e, and_assoc ok _ (good_from (i + 1) to d), ← good_next d i to p q) k
+-- a tested sample more, of a list from its start
+pub good_more : (xs : List Float) (i : ℕ) (ok b : Bool) → i < length xs → ok ≡ all_good (take i xs) → b ≡ good_sample (get_or xs i nan) → (ok && b) ≡ all_good (take (i + 1) xs)
+unfolding all_good
+good_more xs i ok b h p q =
+    rw (take_more xs i nan h, good_append (take i xs) (get_or xs i nan ∷ []), p, q, and_true) refl
 
-pub good_over : (d : List Float) (to : ℕ) (ok all : Bool) → (ok && good_from to to d) ≡ all → ok ≡ all
-good_over d to ok all k = sym (and_true ok) ∙ rw (good_none d to) at k
+-- all of the samples from `from` to below `to`
+pub good_over : (d : List Float) (from to i : ℕ) {ok : Bool} → from ≤ to → length (take (to - from) (drop from d)) ≤ i → ok ≡ all_good (take i (take (to - from) (drop from d))) → ok ≡ good_from from to d
+unfolding good_from
+good_over d from to i a b k =
+    let e : from + (to - from) ≡ to = omega arith in
+    let f : drop from (take (from + (to - from)) d) ≡ take (to - from) (drop from d) = drop-take from (to - from) d in
+    k ∙ ap all_good (take_all i (take (to - from) (drop from d)) b ∙ sym f ∙ ap (λ (n : ℕ). drop from (take n d)) e)
 
 -- a tested run more
 pub good_run : (d : List Float) (i to : ℕ) → i ≤ to → to ≤ length d → all_good (drop i d) ≡ (good_from i to d && all_good (drop to d))

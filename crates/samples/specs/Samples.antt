@@ -2,10 +2,6 @@
 use Rattle.std.specs.Prelude.{ℕ, Bool, List, take, drop, Float}
 use Rattle.params.specs.Table.{all_good}
 
--- so many samples are tested between two looks at what came out
-abbrev pub block : ℕ
-block = 1024
-
 -- the samples from place `from` to below place `to` are good
 unfoldable pub good_from : ℕ → ℕ → List Float → Bool
 good_from from to d = all_good (drop from (take to d))

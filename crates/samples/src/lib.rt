@@ -1,11 +1,11 @@
 // Whether samples are in range: one, the four neighbours of a cell, a run, an area of a picture, all.
 #![tactic(auto)]
 
-ghost use Rattle.std.specs.Prelude.{◌≡◌, ◌+◌, ◌<◌, ◌≤◌, min, length};
+ghost use Rattle.std.specs.Prelude.{◌≡◌, ◌≤◌, length};
 ghost use Rattle.params.specs.Table.{good_sample, all_good};
 ghost use Rattle.picture.specs.Picture.{four_at};
 ghost use Rattle.picture.specs.Place.{Around};
-ghost use Rattle.samples.specs.Samples.{block, good_from};
+ghost use Rattle.samples.specs.Samples.{good_from};
 ghost use Rattle.samples.specs.Area.{Inset, area_good};
 
 use picture::Size;
@@ -51,10 +51,8 @@ pub fn block_good(d: &[f32], from: usize, to: usize) -> bool
     ensures { result ≡ good_from from to d.now }
 {
     let mut ok = true;
-    let mut i = from;
-    while i < to {
-        ok = ok & good_sample(d[i]);
-        i += 1;
+    for x in &d[from..to] {
+        ok &= good_sample(*x);
     }
     ok
 }
@@ -67,40 +65,22 @@ pub fn area_good(img: &[f32], s: Size, a: Area) -> bool
 {
     let left = a.left - 1;
     let right = a.right + 1;
-    let end = a.bottom + 1;
     let mut ok = true;
-    let mut r = a.top - 1;
-    while r < end {
+    for r in a.top - 1..a.bottom + 1 {
         let from = r * s.width;
-        ok = ok & block_good(img, from + left, from + right);
-        r += 1;
+        ok &= block_good(img, from + left, from + right);
     }
     ok
-}
-
-// Where the block that starts at `from` ends: a whole block on, or at the end of all.
-fn block_end(from: usize, len: usize) -> usize
-    requires { from < len }
-    ensures { (result ≡ min (from + block) len) × (from < result) × (result ≤ len) }
-{
-    if len - from > BLOCK {
-        from + BLOCK
-    } else {
-        len
-    }
 }
 
 // Whether all samples are good: block by block, and no further than the first that has a bad one.
 pub fn all_good(d: &[f32]) -> bool
     ensures { result ≡ all_good d.now }
 {
-    let mut i: usize = 0;
-    while i < d.len() {
-        let to = block_end(i, d.len());
-        if !block_good(d, i, to) {
+    for from in (0..d.len()).step_by(BLOCK) {
+        if !block_good(d, from, (from + BLOCK).min(d.len())) {
             return false;
         }
-        i = to;
     }
     true
 }

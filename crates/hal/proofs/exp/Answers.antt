@@ -1,8 +1,12 @@
-use mathlib.Core.Path.{refl}
-use Rattle.lists.specs.Ranges.{joined}
-use Rattle.hal.specs.Powers.{pairs, entry_of, powers}
+use mathlib.Core.Path.{sym, ◌∙◌}
+use lib.Ieee.{neg, of_bits}
+use Rattle.hal.specs.Exp.{exp_of}
 use Rattle.hal.proofs.exp.Goals as goal
 
-pub exp_with-requires : goal.exp_with-requires
-unfolding pairs entry_of powers joined
-exp_with-requires c = refl
+pub exp_in-requires : goal.exp_in-requires
+unfolding of_bits neg
+exp_in-requires c = sym c.within.ensures ∙ c.if-within.true
+
+pub returns-else-within : goal.returns-else-within
+unfolding exp_of of_bits neg
+returns-else-within c = simp (c.outside.ensures, sym c.within.ensures ∙ c.if-within.false)

@@ -23,29 +23,22 @@ pub float_to_float-x : goal.float_to_float-x
 unfolding of_bits neg
 float_to_float-x c =
     let x = c.args.x in
-    and_i (fits binary64 x) (not (is_nan x)) (fits_widens x (search rules)) (known x (subst T (sym c.requires.1) tt))
+    and_i (fits binary64 x) (not (is_nan x)) (fits_widens x (search rules)) (known x (subst T (sym c.requires) tt))
 
 pub float_to_bits-x : goal.float_to_bits-x
 unfolding of_bits neg
-float_to_bits-x c = (down_word c.args.x (subst T (sym c.requires.1) tt)).number
+float_to_bits-x c = (down_word c.args.x (subst T (sym c.requires) tt)).number
 
-pub power-requires-clause-fact_1 : goal.power-requires-clause-fact_1
+pub power-requires : goal.power-requires
 unfolding of_bits neg
-power-requires-clause-fact_1 c =
+power-requires c =
     let x = c.args.x in
-    let t : T (in_down x) = subst T (sym c.requires.1) tt in
-    c.requires.0
-
-pub power-requires-clause-fact_2 : goal.power-requires-clause-fact_2
-unfolding of_bits neg
-power-requires-clause-fact_2 c =
-    let x = c.args.x in
-    let t : T (in_down x) = subst T (sym c.requires.1) tt in
+    let t : T (in_down x) = subst T (sym c.requires) tt in
     (lit< tt, subst (λ (z : ℕ). 57 + z ≤ 127) (sym (down_word x t).whole) (fields (fixed_of down_start down_rate x) (exp_fixed x t)))
 
 pub returns : goal.returns
 unfolding of_bits neg
 returns c =
     let x = c.args.x in
-    let t : T (in_down x) = subst T (sym c.requires.1) tt in
+    let t : T (in_down x) = subst T (sym c.requires) tt in
     c.power.ensures ∙ ap (power_of down_field) (down_word x t).digits ∙ sym (exp_is x t)

@@ -4,7 +4,7 @@ use Rattle.hal_magnitude.proofs.MagnitudeLaws.{mild_of, inner_finite, magnitude_
 use Rattle.hal_magnitude.proofs.magnitude_in.Goals as goal
 
 pub length_with-requires : goal.length_with-requires
-length_with-requires c = (mild_of c.args.t.now c.requires.0, inner_finite c.args.dx c.args.dy (subst T (sym c.requires.1) tt))
+length_with-requires c = (mild_of c.guesses.result.now c.guesses.ensures, inner_finite c.args.dx c.args.dy (subst T (sym c.requires) tt))
 
 pub returns : goal.returns
-returns c = c.length_with.ensures ∙ sym (magnitude_is c.args.dx c.args.dy (subst T (sym c.requires.1) tt))
+returns c = c.length_with.ensures ∙ sym (magnitude_is c.args.dx c.args.dy (subst T (sym c.requires) tt))

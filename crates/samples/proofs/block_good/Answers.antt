@@ -1,18 +1,14 @@
-use mathlib.Core.Path.{◌≡◌, refl}
-use native.Mathlib.Omega.{arith}
-use borrow.Author.Rules.{rules}
+use mathlib.Core.Path.{refl}
+use Rattle.params.specs.Table.{all_good}
 use Rattle.samples.proofs.Runs.{good_more, good_over}
 use Rattle.samples.proofs.block_good.Goals as goal
 
-pub loop-i-init : goal.loop-i-init
-loop-i-init c = (omega arith, refl)
+pub loop-x-init : goal.loop-x-init
+unfolding all_good
+loop-x-init c = refl
 
-pub loop-i-preserved : goal.loop-i-preserved
-loop-i-preserved c =
-    (omega arith, good_more c.args.d.now _ _ c.loop-i.ok _ _ c.loop-i-test.true c.requires.1 (search rules) c.loop-i.invariant.1)
+pub loop-x-preserved : goal.loop-x-preserved
+loop-x-preserved c = good_more _ _ c.loop-x.ok _ c.loop-x-test.true c.loop-x.invariant c.good_sample-ok.ensures
 
 pub returns : goal.returns
-returns c =
-    let a = c.args in
-    let e : c.loop-i.i ≡ a.to = omega arith in
-    good_over a.d.now a.to _ _ (rw e at c.loop-i.invariant.1)
+returns c = good_over c.args.d.now c.args.from c.args.to c.loop-x.x-index c.requires.0 c.loop-x-test.false c.loop-x.invariant

@@ -1,7 +1,7 @@
 use mathlib.Core.Path.{refl}
 use lib.Ieee.{of_bits}
 use Rattle.hal_magnitude.specs.Cubics.{cubics}
-use Rattle.hal_magnitude.proofs.cubic_table.Goals as goal
+use Rattle.hal_magnitude.proofs.guesses.Goals as goal
 
 pub returns : goal.returns
 unfolding cubics of_bits

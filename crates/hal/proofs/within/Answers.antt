@@ -1,7 +1,0 @@
-use Rattle.hal.proofs.within.Goals as goal
-
-pub returns-then-lo-x : goal.returns-then-lo-x
-returns-then-lo-x c = simp c.if-lo-x.true
-
-pub returns-else-lo-x : goal.returns-else-lo-x
-returns-else-lo-x c = simp c.if-lo-x.false

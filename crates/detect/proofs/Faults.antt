@@ -5,7 +5,7 @@ use mathlib.Core.Bool.{Bool, true, false, ◌&&◌, not}
 use mathlib.Core.List.{List, [], ◌∷◌}
 use native.Mathlib.Nat.{mul-le-mul}
 use native.Mathlib.Omega.{arith}
-use borrow.Author.Tests.{eqb-true, eq-eqb, ne_eqb, ltb-false, leb-true}
+use borrow.Author.Tests.{eqb-true, ltb-false, leb-true}
 use lib.Dec.{eqb, leb, ltb}
 use lib.ListN.{length}
 use lib.Ieee.{Float}
@@ -61,46 +61,20 @@ products n h w a b c =
     let p : n * h ≤ max_planes * max_side = mul-le-mul {n₁ = n} {m₁ = h} {n₂ = max_planes} {m₂ = max_side} a b in
     (p, mul-le-mul {n₁ = n * h} {m₁ = w} {n₂ = max_planes * max_side} {m₂ = max_side} p c)
 
-module _ (len : ℕ) (t : Shape) (layer octave : ℕ) (s : Settings) where
-  abbrev fault : ℕ
-  fault = form_fault len t layer octave s
+module _ (len : ℕ) (t : Shape) (layer octave : ℕ) (s : Settings) (shape : shape_wrong t.width t.height ≡ false) (layers : layers_wrong t.planes layer s.layers ≡ false) where
+  pub fits : (t.planes * t.height ≤ max_planes * max_side) × (t.planes * t.height * t.width ≤ max_planes * max_side * max_side)
+  fits = let a = shape_right t.width t.height shape in products t.planes t.height t.width (layers_right t.planes layer s.layers layers).most a.1 a.0
 
-  pub fault_shape : shape_wrong t.width t.height ≡ true → 1 ≡ fault
-  unfolding form_fault first_fault
-  fault_shape a = rw a
+  module _ (whole : len ≡ t.planes * t.height * t.width) (settings : settings_wrong s octave ≡ false) where
+    pub searched : Searched len t (search_of layer octave s)
+    searched =
+        let a = shape_right t.width t.height shape in
+        let b = layers_right t.planes layer s.layers layers in
+        record { whole = whole; wide = a.0; high = a.1; planes = b.room; many = b.few; low = (accepted s octave settings).octave; first = b.first; last = omega arith }
 
-  module _ (shape : shape_wrong t.width t.height ≡ false) where
-    pub fault_layers : layers_wrong t.planes layer s.layers ≡ true → 2 ≡ fault
-    unfolding form_fault first_fault
-    fault_layers a = rw (shape, a)
-
-    module _ (layers : layers_wrong t.planes layer s.layers ≡ false) where
-      pub fits : (t.planes * t.height ≤ max_planes * max_side) × (t.planes * t.height * t.width ≤ max_planes * max_side * max_side)
-      fits = let a = shape_right t.width t.height shape in products t.planes t.height t.width (layers_right t.planes layer s.layers layers).most a.1 a.0
-
-      pub fault_length : (len ≡ t.planes * t.height * t.width → ⊥) → 3 ≡ fault
-      unfolding form_fault first_fault length_wrong
-      fault_length a = rw (shape, layers, ne_eqb len (t.planes * t.height * t.width) a)
-
-      module _ (whole : len ≡ t.planes * t.height * t.width) where
-        pub fault_settings : settings_wrong s octave ≡ true → 4 ≡ fault
-        unfolding form_fault first_fault length_wrong
-        fault_settings a = rw (shape, layers, eq-eqb len (t.planes * t.height * t.width) whole, a)
-
-        module _ (settings : settings_wrong s octave ≡ false) where
-          pub searched : Searched len t (search_of layer octave s)
-          searched =
-              let a = shape_right t.width t.height shape in
-              let b = layers_right t.planes layer s.layers layers in
-              record { whole = whole; wide = a.0; high = a.1; planes = b.room; many = b.few; low = (accepted s octave settings).octave; first = b.first; last = omega arith }
-
-          pub contrast_right : contrast_wrong s.contrast ≡ false
-          unfolding settings_wrong
-          contrast_right = (or_neither (contrast_wrong s.contrast) _ settings).0
-
-          pub fault_none : 0 ≡ fault
-          unfolding form_fault first_fault length_wrong
-          fault_none = rw (shape, layers, eq-eqb len (t.planes * t.height * t.width) whole, settings)
+    pub contrast_right : contrast_wrong s.contrast ≡ false
+    unfolding settings_wrong
+    contrast_right = (or_neither (contrast_wrong s.contrast) _ settings).0
 
 -- ---- the checks of the form come before that of the samples
 in_turn_lem : (a b c e g : Bool) → let f = first_fault (line 1 a ∷ line 2 b ∷ line 3 c ∷ line 4 e ∷ []) in
@@ -111,6 +85,18 @@ in_turn_lem false true c e g = refl
 in_turn_lem false false true e g = refl
 in_turn_lem false false false true g = refl
 in_turn_lem false false false false g = refl
+
+low_lem : (a b c e : Bool) → first_fault (line 1 a ∷ line 2 b ∷ line 3 c ∷ line 4 e ∷ []) ≤ 4
+unfolding first_fault
+low_lem true b c e = omega arith
+low_lem false true c e = omega arith
+low_lem false false true e = omega arith
+low_lem false false false true = omega arith
+low_lem false false false false = omega arith
+
+pub form_low : (len : ℕ) (t : Shape) (layer octave : ℕ) (s : Settings) → form_fault len t layer octave s ≤ 4
+unfolding form_fault
+form_low len t layer octave s = low_lem _ _ _ _
 
 pub fault_in_turn : (d : List Float) (t : Shape) (layer octave : ℕ) (s : Settings) → let f = form_fault (length d) t layer octave s in fault_of d t layer octave s ≡ on_fault f (sample_fault d) f
 unfolding fault_of form_fault sample_fault

@@ -4,6 +4,7 @@ use mathlib.Core.Path.{◌≡◌, refl}
 use mathlib.Core.List.{List}
 use lib.ListN.{length, get_or}
 use lib.Ieee.{Float}
+use Rattle.std.specs.Prelude.{Option, Some, None, option_to_list}
 use Rattle.lists.specs.Each.{Each, none, more}
 use Rattle.lists.proofs.Each.{each_when, each_joined}
 use Rattle.params.specs.Limits.{border, max_moves}
@@ -15,12 +16,10 @@ use Rattle.detect_refine.specs.Place.{Placed}
 use Rattle.detect_keypoint.specs.Sound.{Sound}
 use Rattle.detect_keypoint.specs.declared.Search.{Search}
 use Rattle.detect_keypoint.specs.declared.RawKeypoint.{RawKeypoint}
-use Rattle.detect_refine.specs.declared.Refined.{Refined}
-use Rattle.detect_refine.specs.declared.Refined.TheVariants.{Dropped, At}
 use Rattle.detect_refine.proofs.Settled.{few_moves}
 use Rattle.detect_refine.proofs.Sounds.{refine_sound}
 use Rattle.detect_extrema.specs.Neighbours.{tied, candidate}
-use Rattle.detect_extrema.specs.Scan.{kept, cell_of, found, row_of, keypoints}
+use Rattle.detect_extrema.specs.Scan.{cell_of, found, row_of, keypoints}
 use Rattle.lists.proofs.Each.{each_at}
 use Rattle.detect.specs.Rules.{DetectRule}
 use Rattle.detect.proofs.Faults.{Right, right}
@@ -29,12 +28,12 @@ use Rattle.detect_hold.proofs.Few.{few_cells}
 -- ---- what holds of each keypoint that a cell of the border's inside is refined to holds of every one of the list
 abbrev Held : (RawKeypoint → Type 0) → List Float → Shape → Search → Type 0
 Held P d t s =
-    (r c : ℕ) → border ≤ r → r < t.height - border → border ≤ c → c < t.width - border → (k : RawKeypoint) → refine_of d t s (cell_of s r c) ≡ At k → P k
+    (r c : ℕ) → border ≤ r → r < t.height - border → border ≤ c → c < t.width - border → (k : RawKeypoint) → refine_of d t s (cell_of s r c) ≡ Some k → P k
 
 module _ (P : RawKeypoint → Type 0) (d : List Float) (t : Shape) (s : Search) (at : Held P d t s) where
-  of_kept : (r c : ℕ) → border ≤ r → r < t.height - border → border ≤ c → c < t.width - border → (x : Refined) → refine_of d t s (cell_of s r c) ≡ x → Each P (kept x)
-  of_kept r c u b l e Dropped q = none
-  of_kept r c u b l e (At k) q = more (at r c u b l e k q) none
+  of_kept : (r c : ℕ) → border ≤ r → r < t.height - border → border ≤ c → c < t.width - border → (x : Option RawKeypoint) → refine_of d t s (cell_of s r c) ≡ x → Each P (option_to_list x)
+  of_kept r c u b l e None q = none
+  of_kept r c u b l e (Some k) q = more (at r c u b l e k q) none
 
   of_list : Each P (keypoints tied d t s)
   unfolding keypoints row_of found

@@ -16,9 +16,8 @@ use Rattle.lists.specs.Pasted.{pasted}
 use Rattle.params.specs.Limits.{sample_limit, keypoint_words}
 use Rattle.params.specs.Table.{good_sample, all_good}
 use Rattle.detect_threshold.specs.Threshold.{threshold_of}
-use Rattle.params.specs.Answers.{answer_of, landed}
+use Rattle.params.specs.Answers.{Done, Short, answer_of, landed}
 use Rattle.params.specs.declared.Settings.{Settings}
-use Rattle.params.specs.declared.Answer.TheVariants.{Done, Short}
 use Rattle.detect_threshold.proofs.Level.{threshold_bounds}
 use Rattle.picture.specs.declared.Shape.{Shape}
 use Rattle.detect_keypoint.specs.Search.{search_of}

@@ -2,9 +2,8 @@
 use Rattle.std.specs.Prelude.{ℕ, ◌*◌, not, List, [], ◌∷◌, length, Float}
 use Rattle.params.specs.Limits.{keypoint_words}
 use Rattle.params.specs.Table.{line, first_fault, shape_wrong, layers_wrong, length_wrong, settings_wrong, all_good}
-use Rattle.params.specs.Answers.{answer_of, landed}
+use Rattle.params.specs.Answers.{Answer, answer_of, landed}
 use Rattle.params.specs.declared.Settings.{Settings}
-use Rattle.params.specs.declared.Answer.{Answer}
 use Rattle.picture.specs.declared.Shape.{Shape}
 use Rattle.detect_keypoint.specs.Search.{search_of}
 use Rattle.detect_keypoint.specs.declared.RawKeypoint.{RawKeypoint}

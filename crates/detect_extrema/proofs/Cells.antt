@@ -1,4 +1,5 @@
 -- What is decided of one cell: how a neighbour passes, and what the cell gives. Assumes nothing.
+use Rattle.std.specs.Prelude.{option_to_list}
 use Prim.Native.Nat.{ℕ, ◌+◌, ◌-◌}
 use mathlib.Core.Path.{◌≡◌, refl, sym, subst}
 use mathlib.Core.Bool.{Bool, true, false, ◌||◌}
@@ -12,7 +13,7 @@ use Rattle.picture.specs.declared.Shape.{Shape}
 use Rattle.detect_refine.specs.Settle.{refine_of}
 use Rattle.detect_keypoint.specs.declared.Search.{Search}
 use Rattle.detect_extrema.specs.Neighbours.{tied, keeps_as, keeps_over, centre, passes, is_extremum, loud, candidate}
-use Rattle.detect_extrema.specs.Scan.{kept, cell_of, found}
+use Rattle.detect_extrema.specs.Scan.{cell_of, found}
 
 -- what the code compared is what the definition compares
 pub kept_as : (b up : Bool) (v n v' n' : Float) → b ≡ keeps_as tied up v n → n ≡ n' → v ≡ v' → up ≡ (nought <ᶠ v) → keeps_over tied v' n' ≡ b
@@ -42,7 +43,7 @@ module _ (d : List Float) (t : Shape) (s : Search) (r c : ℕ) where
   unfolding found candidate
   found_quiet e = rw e
 
-  pub found_yes : loud s.threshold here ≡ true → is_extremum tied d t s.layer r c ≡ true → found tied d t s r c ≡ kept (refine_of d t s (cell_of s r c))
+  pub found_yes : loud s.threshold here ≡ true → is_extremum tied d t s.layer r c ≡ true → found tied d t s r c ≡ option_to_list (refine_of d t s (cell_of s r c))
   unfolding found candidate
   found_yes e g = rw (e, g)
 

@@ -1,8 +1,8 @@
 -- The places about a cell, by one index and two steps: from the corner, so many planes, rows and columns on. Assumes nothing.
-use Prim.Native.Nat.{ℕ, ◌+◌, ◌-◌, ◌*◌, ◌<◌, ◌≤◌}
-use mathlib.Core.Path.{◌≡◌, ◌∙◌}
+use Prim.Native.Nat.{ℕ, ◌+◌, ◌-◌, ◌*◌, ◌<◌}
+use mathlib.Core.Path.{◌≡◌}
 use mathlib.Core.List.{List}
-use native.Mathlib.Nat.{mul_assoc, mul_comm, add-mul, le-mul_of_pos_right}
+use native.Mathlib.Nat.{mul_assoc, add-mul}
 use native.Mathlib.Omega.{arith}
 use lib.ListN.{length, get_or}
 use lib.Ieee.{Float, nan}
@@ -10,7 +10,7 @@ use Rattle.picture.specs.Picture.{pixel}
 use Rattle.picture.specs.Stack.{sample}
 use Rattle.picture.specs.Place.{Inside}
 use Rattle.picture.specs.declared.Shape.{Shape}
-use Rattle.picture.proofs.Index.{Index, index}
+use Rattle.picture.proofs.Index.{index}
 use Rattle.detect_fit.specs.Place.{Around}
 
 -- the index of the place i, j, k steps on from (p, r, c)
@@ -27,20 +27,6 @@ module _ {len : ℕ} {t : Shape} {p r c : ℕ} (s : Around len t p r c) where
 
   abbrev h : ℕ
   h = t.height
-
-  pub corner : Inside len t (p - 1) (r - 1) (c - 1)
-  corner = record { whole = s.whole; plane = omega arith; row = omega arith; column = omega arith }
-
-  -- no step of working out the corner's index wraps
-  pub corner_index : Index len w h (p - 1) (r - 1) (c - 1)
-  corner_index = index corner
-
-  pub plane_below : h * w ≤ len
-  plane_below =
-      let n = t.planes in
-      let q = le-mul_of_pos_right {m = n} (h * w) (omega arith) in
-      let e : n * h * w ≡ h * w * n = mul_assoc n h w ∙ mul_comm n (h * w) in
-      omega arith
 
   module _ (i j k : ℕ) (a : i < 3) (b : j < 3) (e : k < 3) where
     near : Inside len t (p + i - 1) (r + j - 1) (c + k - 1)

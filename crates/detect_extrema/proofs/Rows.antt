@@ -1,4 +1,5 @@
 -- How many keypoints cells, rows and the whole give. Assumes nothing.
+use Rattle.std.specs.Prelude.{Option, Some, None, option_to_list}
 use Prim.Native.Nat.{ℕ, ◌-◌, ◌*◌, ◌≤◌}
 use mathlib.Core.Path.{◌≡◌}
 use mathlib.Core.Bool.{Bool, true, false, cond}
@@ -13,16 +14,15 @@ use Rattle.params.specs.Limits.{border}
 use Rattle.picture.specs.declared.Shape.{Shape}
 use Rattle.detect_refine.specs.Settle.{refine_of}
 use Rattle.detect_keypoint.specs.declared.Search.{Search}
-use Rattle.detect_refine.specs.declared.Refined.{Refined}
-use Rattle.detect_refine.specs.declared.Refined.TheVariants.{Dropped, At}
+use Rattle.detect_keypoint.specs.declared.RawKeypoint.{RawKeypoint}
 use Rattle.detect_extrema.specs.Neighbours.{Rule, candidate}
-use Rattle.detect_extrema.specs.Scan.{kept, cell_of, found, row_of, keypoints}
+use Rattle.detect_extrema.specs.Scan.{cell_of, found, row_of, keypoints}
 
-kept_one : (x : Refined) → length (kept x) ≤ 1
-kept_one Dropped = omega arith
-kept_one (At k) = omega arith
+kept_one : (x : Option RawKeypoint) → length (option_to_list x) ≤ 1
+kept_one None = omega arith
+kept_one (Some k) = omega arith
 
-chosen_one : (b : Bool) (x : Refined) → length (cond b (kept x) []) ≤ 1
+chosen_one : (b : Bool) (x : Option RawKeypoint) → length (cond b (option_to_list x) []) ≤ 1
 chosen_one true x = kept_one x
 chosen_one false x = omega arith
 

@@ -1,5 +1,6 @@
 -- With every sample negated, the cells give the same keypoints. All but `larger_turned` is for every rule of comparison.
 -- Assumes nothing.
+use Rattle.std.specs.Prelude.{Option, option_to_list}
 use Prim.Native.Nat.{ℕ, zero, suc, ◌-◌, ◌≤◌}
 use mathlib.Core.Path.{◌≡◌, refl, ap, ◌∙◌}
 use mathlib.Core.Bool.{Bool, true, false, ◌&&◌, ◌||◌, cond}
@@ -21,11 +22,10 @@ use Rattle.picture.specs.declared.Shape.{Shape}
 use Rattle.detect_refine.specs.Sign.{SameRefined, both_dropped, both_at}
 use Rattle.detect_keypoint.specs.declared.Search.{Search}
 use Rattle.detect_keypoint.specs.declared.RawKeypoint.{RawKeypoint}
-use Rattle.detect_refine.specs.declared.Refined.{Refined}
 use Rattle.detect_fit.proofs.SignLaw.{at_opp}
 use Rattle.detect_refine.proofs.SignLaw.{refine_same}
 use Rattle.detect_extrema.specs.Neighbours.{Rule, tied, larger, keeps_over, centre, passes, is_extremum, loud, candidate}
-use Rattle.detect_extrema.specs.Scan.{kept, cell_of, found, row_of, keypoints}
+use Rattle.detect_extrema.specs.Scan.{cell_of, found, row_of, keypoints}
 use Rattle.detect_extrema.specs.SameList.{SameList, none, more}
 
 -- ---- a candidate
@@ -68,7 +68,7 @@ unfolding joined
 joined_same lo zero f g h = none
 joined_same lo (suc hi) f g h = pick_same (leb lo hi) (λ e. append_same (joined_same lo hi f g h) (h hi (leb-true lo hi e)))
 
-kept_same : {a b : Refined} → SameRefined a b → SameList (kept a) (kept b)
+kept_same : {a b : Option RawKeypoint} → SameRefined a b → SameList (option_to_list a) (option_to_list b)
 kept_same both_dropped = none
 kept_same (both_at k) = more k none
 

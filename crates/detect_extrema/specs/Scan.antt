@@ -1,5 +1,5 @@
 -- The keypoints of one layer, row by row, rules D2 and D17, and the words that they go out as, rule A18. Definitions only.
-use Rattle.std.specs.Prelude.{ℕ, ◌-◌, cond, List, [], ◌∷◌, ◌++◌, Float}
+use Rattle.std.specs.Prelude.{ℕ, ◌-◌, cond, List, [], ◌∷◌, ◌++◌, option_to_list, Float}
 use Rattle.ieee.specs.F32.{bits_of}
 use Rattle.lists.specs.Ranges.{joined}
 use Rattle.params.specs.Limits.{border}
@@ -8,13 +8,7 @@ use Rattle.detect_refine.specs.Settle.{refine_of}
 use Rattle.detect_keypoint.specs.declared.Cell.{Cell}
 use Rattle.detect_keypoint.specs.declared.Search.{Search}
 use Rattle.detect_keypoint.specs.declared.RawKeypoint.{RawKeypoint}
-use Rattle.detect_refine.specs.declared.Refined.{Refined}
-use Rattle.detect_refine.specs.declared.Refined.TheVariants.{Dropped, At}
 use Rattle.detect_extrema.specs.Neighbours.{Rule, candidate}
-
-abbrev pub kept : Refined → List RawKeypoint
-kept Dropped = []
-kept (At k) = k ∷ []
 
 -- the cell of the layer that is searched, at row r, column c
 abbrev pub cell_of : Search → ℕ → ℕ → Cell
@@ -22,7 +16,7 @@ cell_of s r c = record { p = s.layer; r = r; c = c }
 
 -- what it gives: nothing, or the keypoint that it is refined to
 unfoldable pub found : Rule → List Float → Shape → Search → ℕ → ℕ → List RawKeypoint
-found rule d t s r c = cond (candidate rule s.threshold d t s.layer r c) (kept (refine_of d t s (cell_of s r c))) []
+found rule d t s r c = cond (candidate rule s.threshold d t s.layer r c) (option_to_list (refine_of d t s (cell_of s r c))) []
 
 -- the cells of a row from column lo to below hi, from left to right
 abbrev pub cells_of : Rule → List Float → Shape → Search → ℕ → ℕ → ℕ → List RawKeypoint

@@ -25,6 +25,7 @@ fn keeps(up: bool, val: f32, other: f32) -> bool
 }
 
 // Whether none of its 26 neighbours beats the cell (p, r, c). The search stops at the first that does: rule D4.
+#[tactic(auto, using(lists::proofs::Every::every_none), unfolding(crate::specs::Neighbours::is_extremum))]
 fn stands(dog: &[f32], t: Shape, p: usize, r: usize, c: usize, up: bool) -> bool
     requires around { Around (length dog.now) t p r c }
     requires up_value { up ≡ (nought <ᶠ sample dog.now t p r c) }
@@ -56,14 +57,11 @@ pub fn is_extremum(dog: &[f32], t: Shape, p: usize, r: usize, c: usize) -> bool
     requires { Around (length dog.now) t p r c }
     ensures { result ≡ is_extremum tied dog.now t p r c }
 {
-    if picture::at(dog, t, p, r, c) > 0.0 {
-        stands(dog, t, p, r, c, true)
-    } else {
-        stands(dog, t, p, r, c, false)
-    }
+    stands(dog, t, p, r, c, picture::at(dog, t, p, r, c) > 0.0)
 }
 
 // Whether the magnitude exceeds the threshold.
+#[tactic(auto, unfolding(crate::specs::Neighbours::loud))]
 pub fn is_loud(threshold: f32, val: f32) -> bool
     ensures { result ≡ loud threshold val }
 {

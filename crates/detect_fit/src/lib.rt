@@ -76,6 +76,7 @@ const DERIV: f32 = 0.001960784429684281;
 const CROSS: f32 = 0.0009803922148421407;
 
 // The sample at (p, r, c) and its four nearest in the plane.
+#[tactic(auto, unfolding(crate::specs::Place::near_of))]
 pub fn near_at(dog: &[f32], t: Shape, p: usize, r: usize, c: usize) -> Near
     requires { Amid (length dog.now) t p r c }
     ensures { result ≡ near_of dog.now t p r c }
@@ -90,6 +91,7 @@ pub fn near_at(dog: &[f32], t: Shape, p: usize, r: usize, c: usize) -> Near
 }
 
 // The samples about (p, r, c).
+#[tactic(auto, unfolding(crate::specs::Fit::patch_of, crate::specs::Place::near_of))]
 pub fn patch_at(dog: &[f32], t: Shape, p: usize, r: usize, c: usize) -> Patch
     requires { Around (length dog.now) t p r c }
     ensures { result ≡ patch_of dog.now t p r c }
@@ -120,6 +122,7 @@ pub fn patch_at(dog: &[f32], t: Shape, p: usize, r: usize, c: usize) -> Patch
     }
 }
 
+#[tactic(auto, unfolding(crate::specs::Fit::gradient_of))]
 pub fn gradient_of(patch: Patch) -> Gradient
     ensures { result ≡ gradient_of patch }
 {
@@ -130,6 +133,7 @@ pub fn gradient_of(patch: Patch) -> Gradient
     }
 }
 
+#[tactic(auto, unfolding(crate::specs::Fit::bend_of))]
 pub fn bend_of(patch: Patch) -> Bend
     ensures { result ≡ bend_of patch }
 {
@@ -145,6 +149,7 @@ pub fn bend_of(patch: Patch) -> Bend
 }
 
 // a * b - c * d: the second product is rounded, the first fused.
+#[tactic(auto, unfolding(crate::specs::Fit::mul_sub))]
 pub fn mul_sub(a: f32, b: f32, c: f32, d: f32) -> f32
     ensures { result ≡ mul_sub a b c d }
 {
@@ -152,12 +157,14 @@ pub fn mul_sub(a: f32, b: f32, c: f32, d: f32) -> f32
 }
 
 // p0 * p1 - q0 * q1 + r0 * r1, two fused operations from left to right.
+#[tactic(auto, unfolding(crate::specs::Fit::outer))]
 fn outer3(p0: f32, p1: f32, q0: f32, q1: f32, r0: f32, r1: f32) -> f32
     ensures { result ≡ outer p0 p1 q0 q1 r0 r1 }
 {
     ieee_fused::mul_add(r0, r1, ieee_fused::mul_add(p0, p1, -(q0 * q1)))
 }
 
+#[tactic(auto, unfolding(crate::specs::Fit::det_of))]
 pub fn det_of(h: Bend) -> f32
     ensures { result ≡ det_of h }
 {
@@ -168,6 +175,7 @@ pub fn det_of(h: Bend) -> f32
 }
 
 // The offset, where the determinant is det. The last cofactor is the negation of the first one's, as in the source.
+#[tactic(auto, unfolding(crate::specs::Fit::offset_of))]
 pub fn offset_of(g: Gradient, h: Bend, det: f32) -> Offset
     ensures { result ≡ offset_of g h det }
 {

@@ -1,7 +1,6 @@
 -- The rows whose keypoints' cells are held, and those behind them: what they leave together, and how many hints they have. Assumes nothing.
 use Prim.Native.Nat.{ℕ, suc, ◌+◌, ◌-◌, ◌*◌, ◌/◌, ◌<◌, ◌≤◌}
 use mathlib.Core.Path.{◌≡◌, refl, sym, ap, ◌∙◌}
-use mathlib.Core.Bool.{true, false}
 use mathlib.Core.List.{List, [], ◌∷◌, ◌++◌}
 use native.Mathlib.Nat.{le_trans, mul-le-mul}
 use native.Mathlib.Omega.{arith}
@@ -18,6 +17,7 @@ use Rattle.detect_extrema.specs.Neighbours.{tied}
 use Rattle.detect_extrema.specs.Scan.{row_of, keypoints, words}
 use Rattle.detect_look.specs.Hints.{hinted}
 use Rattle.detect_look.proofs.Counted.{hinted_bound, cells_hinted}
+use Rattle.detect_words.specs.declared.Form.TheVariants.{CellWord, KeypointWords}
 use Rattle.detect_rows.specs.Forms.{row_leaves, rows_leave, all_again}
 use Rattle.detect_words.proofs.Words.{length_words, words_append}
 use Rattle.detect_rows.proofs.Forms.{rows_of, rows_left, rows_count, rows_again}
@@ -50,7 +50,7 @@ module _ (d : List Float) (t : Shape) (s : Search) where
   rows_hinted_lem lo hi = joined_shorter lo hi _ _ (λ r _ _. cells_hinted d t s r border (t.width - border))
 
   -- all rows leave the words of all keypoints
-  pub all_left : rows_leave false d t s border (t.height - border) ≡ words (keypoints tied d t s)
+  pub all_left : rows_leave KeypointWords d t s border (t.height - border) ≡ words (keypoints tied d t s)
   unfolding keypoints
   all_left = rows_left d t s border (t.height - border)
 
@@ -89,24 +89,24 @@ module _ (d : List Float) (t : Shape) (s : Search) where
   pub held_none : (hold : List ℕ) → 2 * border < t.height → Holds d t s border 0 hold
   unfolding rows_leave
   held_none hold h =
-      let e = joined_start border (λ r. row_leaves true d t s r) in
+      let e = joined_start border (λ r. row_leaves CellWord d t s r) in
       record { above = omega arith; below = omega arith; count = rw e; fits = omega arith; cells = rw e }
 
-  module _ (r n m : ℕ) (hold new : List ℕ) (k : Holds d t s r n hold) (e : new ≡ sets hold n (row_leaves true d t s r)) where
+  module _ (r n m : ℕ) (hold new : List ℕ) (k : Holds d t s r n hold) (e : new ≡ sets hold n (row_leaves CellWord d t s r)) where
     pub held_kept : Holds d t s r n new
     held_kept =
-        record { above = k.above; below = k.below; count = k.count; fits = rw (e, length-sets) k.fits; cells = rw e (take_behind n hold (row_leaves true d t s r) n (omega arith)) ∙ k.cells }
+        record { above = k.above; below = k.below; count = k.count; fits = rw (e, length-sets) k.fits; cells = rw e (take_behind n hold (row_leaves CellWord d t s r) n (omega arith)) ∙ k.cells }
 
-    pub held_more : r < t.height - border → m ≡ length (row_leaves true d t s r) → m ≤ length hold - n → Holds d t s (r + 1) (n + m) new
+    pub held_more : r < t.height - border → m ≡ length (row_leaves CellWord d t s r) → m ≤ length hold - n → Holds d t s (r + 1) (n + m) new
     unfolding rows_leave
     held_more l q f =
-        let j = joined_more border r (λ r. row_leaves true d t s r) k.above in
+        let j = joined_more border r (λ r. row_leaves CellWord d t s r) k.above in
         record {
           above = omega (arith, k.above);
           below = omega arith;
           count = rw (j, length-append) (omega (arith, k.count, q));
           fits = rw (e, length-sets) (omega (arith, k.fits));
-          cells = rw (e, j, q) (take_with n hold (row_leaves true d t s r) (omega (arith, k.fits, q)) ∙ rw k.cells);
+          cells = rw (e, j, q) (take_with n hold (row_leaves CellWord d t s r) (omega (arith, k.fits, q)) ∙ rw k.cells);
         }
 
   -- ---- all of them written: the cells that are held refined again, and the rest searched
@@ -117,7 +117,7 @@ module _ (d : List Float) (t : Shape) (s : Search) where
     pub held_again : all_again d t s (take k hold) ≡ words (rows_of d t s border r)
     held_again = ap (all_again d t s) h.cells ∙ rows_again d t s len q border r
 
-    pub all_counted : (n : ℕ) → n ≡ length (rows_leave false d t s r (t.height - border)) → k + n / keypoint_words ≡ length (keypoints tied d t s)
+    pub all_counted : (n : ℕ) → n ≡ length (rows_leave KeypointWords d t s r (t.height - border)) → k + n / keypoint_words ≡ length (keypoints tied d t s)
     all_counted n e =
         let rest = rows_of d t s r (t.height - border) in
         let z : n ≡ keypoint_words * length rest = e ∙ ap length (rows_left d t s r (t.height - border)) ∙ length_words rest in
@@ -128,7 +128,7 @@ module _ (d : List Float) (t : Shape) (s : Search) where
     held_most x e =
         omega (arith, held_count, parts_count d t s r h.above h.below, rows_hinted_lem d t s r (t.height - border), e)
 
-    pub held_all : (x : ℕ) → x ≡ length (rows_leave true d t s r (t.height - border)) → k + x ≡ length (keypoints tied d t s)
+    pub held_all : (x : ℕ) → x ≡ length (rows_leave CellWord d t s r (t.height - border)) → k + x ≡ length (keypoints tied d t s)
     held_all x e =
         omega (arith, held_count, parts_count d t s r h.above h.below, rows_count d t s r (t.height - border), e)
 

@@ -1,7 +1,7 @@
 // What is held of a layer's keypoints until it is known that all fit, and what is written from it.
 #![tactic(auto)]
 
-ghost use Rattle.std.specs.Prelude.{◌≡◌, true, false, ◌+◌, ◌-◌, ◌*◌, ◌^◌, ◌<◌, ◌≤◌, length};
+ghost use Rattle.std.specs.Prelude.{◌≡◌, true, false, ◌+◌, ◌-◌, ◌*◌, ◌^◌, ◌<◌, ◌≤◌, length, OnOk, IfOk, IfErr};
 ghost use Rattle.std.proofs.lemmas.List.Edits.{sets};
 ghost use Rattle.params.specs.Limits.{border};
 ghost use Rattle.params.specs.Table.{all_good};
@@ -15,16 +15,15 @@ ghost use Rattle.detect_hold.specs.Front.{Holds, rows_hinted};
 use detect_keypoint::Search;
 use detect_look::Run;
 use detect_refine::BORDER;
-use detect_words::Place;
-use params::KEYPOINT_WORDS;
+use detect_words::{Form, Place};
+use params::{KEYPOINT_WORDS, Refusal};
 use picture::Shape;
 
-// What the rows above `row` gave, as far as the cells of their keypoints could be held: so many. Whether all samples of the stack are good.
+// What the rows above `row` gave, as far as the cells of their keypoints could be held: so many.
 #[derive(Clone, Copy)]
 pub struct Front {
     pub row: usize,
     pub count: usize,
-    pub good: bool,
 }
 
 // Finds the keypoints of the rows from `from` on, writes the words of their cells, or else their words, as far as there is room, and counts what it writes.
@@ -32,23 +31,23 @@ pub fn rest_words(dog: &[f32], t: Shape, s: Search, from: usize, p: Place, out: 
     requires searched { Searched (length dog.now) t s }
     requires border_bound { (2 * border < t.width) × (border ≤ from) × (from ≤ t.height - border) }
     requires from_bound { p.from < 2 ^ 38 }
-    ensures value { result ≡ length (rows_leave p.cells dog.now t s from (t.height - border)) }
-    ensures out_after { out.new ≡ sets out.old p.from (rows_leave p.cells dog.now t s from (t.height - border)) }
+    ensures value { result ≡ length (rows_leave p.form dog.now t s from (t.height - border)) }
+    ensures out_after { out.new ≡ sets out.old p.from (rows_leave p.form dog.now t s from (t.height - border)) }
 {
     let mut n: usize = 0;
     for r in from..t.height - BORDER {
-        let w = detect_rows::row_words(
+        n += detect_rows::row_words(
             dog,
             t,
             s,
             r,
             Place {
                 from: p.from + n,
-                cells: p.cells,
+                ..p
             },
             out,
-        );
-        n += w.words;
+        )
+        .words;
     }
     n
 }
@@ -77,18 +76,16 @@ pub fn rest_hints(dog: &[f32], t: Shape, s: Search, from: usize) -> usize
 
 // Searches rows, tests the samples of the row below each, and holds the cells of the keypoints, until all rows are searched, those of a row can't all be held, or a sample is bad.
 // Which row that is stays open: all that is asked of it is what is held, and which samples are known to be good.
-fn held_rows(dog: &[f32], t: Shape, s: Search, hold: &mut [u32]) -> Front
+fn held_rows(dog: &[f32], t: Shape, s: Search, hold: &mut [u32]) -> Result<Front, Refusal>
     requires searched { Searched (length dog.now) t s }
     requires border_bound { (2 * border < t.width) × (2 * border < t.height) }
     requires hold_len_bound { length hold.old < 2 ^ 38 }
-    ensures holds { Holds dog.now t s result.row result.count hold.new }
-    ensures dog_value { result.good ≡ true → rows_good t (border + 1) (result.row + 1) dog.now ≡ true }
-    ensures dog_value_2 { result.good ≡ false → all_good dog.now ≡ false }
+    ensures holds { IfOk result (λ f. Holds dog.now t s f.row f.count hold.new) }
+    ensures tested { IfOk result (λ f. rows_good t (border + 1) (f.row + 1) dog.now ≡ true) }
+    ensures bad { IfErr result (λ e. (e ≡ Refusal.Samples) × (all_good dog.now ≡ false)) }
 {
-    let end = t.height - BORDER;
     let mut n: usize = 0;
-    let mut r = BORDER;
-    while r < end {
+    for r in BORDER..t.height - BORDER {
         let w = detect_rows::row_words(
             dog,
             t,
@@ -96,50 +93,42 @@ fn held_rows(dog: &[f32], t: Shape, s: Search, hold: &mut [u32]) -> Front
             r,
             Place {
                 from: n,
-                cells: true,
+                form: Form::CellWord,
             },
             hold,
         );
         if !w.good {
-            return Front {
-                row: r,
-                count: n,
-                good: false,
-            };
+            return Err(Refusal::Samples);
         }
         if w.words > hold.len() - n {
-            return Front {
-                row: r,
-                count: n,
-                good: true,
-            };
+            return Ok(Front { row: r, count: n });
         }
         n += w.words;
-        r += 1;
     }
-    Front {
-        row: r,
+    Ok(Front {
+        row: t.height - BORDER,
         count: n,
-        good: true,
-    }
+    })
 }
 
-// The rows that are held, and the test of all samples: below each row that is searched as it is searched, and the rest before and after.
-pub fn front_of(dog: &[f32], t: Shape, s: Search, hold: &mut [u32]) -> Front
+// The rows that are held, where all samples are good: below each row that is searched they are tested as it is searched, and the rest before and after.
+pub fn front_of(dog: &[f32], t: Shape, s: Search, hold: &mut [u32]) -> Result<Front, Refusal>
     requires searched { Searched (length dog.now) t s }
     requires border_bound { (2 * border < t.width) × (2 * border < t.height) }
     requires hold_len_bound { length hold.old < 2 ^ 38 }
-    ensures holds { Holds dog.now t s result.row result.count hold.new }
-    ensures good_value { result.good ≡ all_good dog.now }
+    ensures holds { IfOk result (λ f. Holds dog.now t s f.row f.count hold.new) }
+    ensures good { OnOk result (all_good dog.now ≡ true) }
+    ensures bad { IfErr result (λ e. (e ≡ Refusal.Samples) × (all_good dog.now ≡ false)) }
+    ensures none { IfErr result (λ e. Holds dog.now t s border 0 hold.new) }
 {
-    let top = detect_samples::rows_good(dog, t, 0, BORDER + 1);
-    let f = held_rows(dog, t, s, hold);
-    let rest = detect_samples::rows_good(dog, t, f.row + 1, t.height);
-    Front {
-        row: f.row,
-        count: f.count,
-        good: top & (f.good & rest),
+    if !detect_samples::rows_good(dog, t, 0, BORDER + 1) {
+        return Err(Refusal::Samples);
     }
+    let f = held_rows(dog, t, s, hold)?;
+    if !detect_samples::rows_good(dog, t, f.row + 1, t.height) {
+        return Err(Refusal::Samples);
+    }
+    Ok(f)
 }
 
 // Writes the words of all keypoints: each cell that is held is refined again, and the rows behind them are searched. Counts the keypoints.
@@ -150,19 +139,10 @@ pub fn write(dog: &[f32], t: Shape, s: Search, f: Front, hold: &[u32], out: &mut
     ensures value { result ≡ length (keypoints tied dog.now t s) }
     ensures out_after { out.new ≡ sets out.old 0 (words (keypoints tied dog.now t s)) }
 {
-    let row = f.row;
-    let k = f.count;
-    detect_rows::refined_words(dog, t, s, hold, k, out);
-    let n = rest_words(
-        dog,
-        t,
-        s,
-        row,
-        Place {
-            from: KEYPOINT_WORDS * k,
-            cells: false,
-        },
-        out,
-    );
-    k + n / KEYPOINT_WORDS
+    detect_rows::refined_words(dog, t, s, &hold[..f.count], out);
+    let p = Place {
+        from: KEYPOINT_WORDS * f.count,
+        form: Form::KeypointWords,
+    };
+    f.count + rest_words(dog, t, s, f.row, p, out) / KEYPOINT_WORDS
 }

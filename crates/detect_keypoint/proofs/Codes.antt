@@ -15,10 +15,10 @@ use Rattle.detect_keypoint.specs.Keypoint.{code_of, octave_word}
 
 -- ---- a float that is not negative and small: `as i32` gives what a cast to a whole number without a sign gives
 
-cut_same : (a : ℕ) → min a (2 ^ 64 - 1) ≤ 255 → min a (2 ^ 31 - 1) ≡ min a (2 ^ 64 - 1)
+cut_same : (a : ℕ) → min a (2 ^ 32 - 1) ≤ 255 → min a (2 ^ 31 - 1) ≡ min a (2 ^ 32 - 1)
 cut_same a h = omega arith
 
-casts_agree : (x : Float) → le nil x ≡ true → finite x ≡ true → to_unsigned 64 x ≤ 255 → to_i32 x ≡ pos (to_unsigned 64 x)
+casts_agree : (x : Float) → le nil x ≡ true → finite x ≡ true → to_unsigned 32 x ≤ 255 → to_i32 x ≡ pos (to_unsigned 32 x)
 unfolding to_unsigned to_signed
 casts_agree nan h f l = refl
 casts_agree (inf s) h f l = absurd (false≢true f)
@@ -39,29 +39,20 @@ module _ (xi : Float) (small : (abs_of xi <ᶠ half) ≡ true) where
       (mul_bounds_by binary32 {a = nil} {b = one} top_byte refl refl refl refl
       (add_bounds binary32 {a = neg half} {b = half} {c = half} {d = half} refl refl (abs_bounds xi half refl small) (bounds_point half refl)))
 
-  -- what the cast asks
-  pub code_above : T (lt (fin true 1 (pos 0)) near)
-  unfolding lt
-  code_above = rw (lt_le_trans (fin true 1 (pos 0)) nil _ refl code_bounds.low) tt
-
-  pub code_below : T (lt near (fin false 1 (pos 64)))
-  unfolding lt of_bits
-  code_below = rw (le_lt_trans _ top_byte (fin false 1 (pos 64)) code_bounds.high refl) tt
-
   -- the code as a whole number without a sign
   abbrev pub code : ℕ
-  code = to_unsigned 64 near
+  code = to_unsigned 32 near
 
   pub code_le : code ≤ 255
   unfolding to_unsigned of_bits
-  code_le = to_unsigned_le 64 near top_byte code_bounds.high
+  code_le = to_unsigned_le 32 near top_byte code_bounds.high
 
   pub code_cast : pos code ≡ code_of xi
   unfolding code_of
   code_cast = sym (casts_agree near code_bounds.low (bounds_finite code_bounds) code_le)
 
-  pub code_is : (k : ℕ) (x : Float) → x ≡ near → k ≡ to_unsigned 64 x → (pos k ≡ code_of xi) × (k ≤ 255)
-  code_is k x e h = let i : k ≡ code = h ∙ ap (to_unsigned 64) e in rw i (code_cast, code_le)
+  pub code_is : (k : ℕ) (x : Float) → x ≡ near → k ≡ to_unsigned 32 x → (pos k ≡ code_of xi) × (k ≤ 255)
+  code_is k x e h = let i : k ≡ code = h ∙ ap (to_unsigned 32) e in rw i (code_cast, code_le)
 
 -- ---- the octave word of such a code
 

@@ -44,6 +44,7 @@ pub struct RawKeypoint {
 }
 
 // The contrast at the offset.
+#[tactic(auto, unfolding(crate::specs::Keypoint::contrast_of))]
 pub fn contrast_of(patch: Patch, o: Offset) -> f32
     ensures { result ≡ contrast_of patch o }
 {
@@ -53,6 +54,7 @@ pub fn contrast_of(patch: Patch, o: Offset) -> f32
 }
 
 // The contrast times the layers is below the setting.
+#[tactic(auto, unfolding(crate::specs::Keypoint::dim))]
 pub fn is_dim(s: Settings, contrast: f32) -> bool
     requires { s.layers ≤ max_layers }
     ensures { result ≡ dim s contrast }
@@ -61,6 +63,7 @@ pub fn is_dim(s: Settings, contrast: f32) -> bool
 }
 
 // The plane's bend about the cell is that of an edge: determinant not above 0, or too small beside the trace.
+#[tactic(auto, unfolding(crate::specs::Keypoint::edgy))]
 pub fn is_edgy(s: Settings, patch: Patch) -> bool
     ensures { result ≡ edgy s patch }
 {
@@ -71,20 +74,12 @@ pub fn is_edgy(s: Settings, patch: Patch) -> bool
     (det <= 0.0) | (tr * tr * et >= (et + 1.0) * (et + 1.0) * det)
 }
 
-// A whole number as an f32.
-fn float(n: usize) -> f32
-    requires { n ≤ 2 ^ 24 }
-    ensures { result ≡ float n }
-{
-    n as f32
-}
-
 // 2^octave as an f32.
 fn scale_of(octave: u32) -> f32
     requires { octave ≤ max_octave }
     ensures { result ≡ float (2 ^ octave) }
 {
-    (1u64 << octave) as f32
+    2u32.pow(octave) as f32
 }
 
 // (xi + 0.5) * 255, rounded: the third byte of the octave word. It lies in 0 to 255, so that a cast without a sign gives what the source's signed one gives.
@@ -92,7 +87,7 @@ fn code_of(xi: f32) -> u32
     requires { (abs_of xi <ᶠ half) ≡ true }
     ensures { (pos result ≡ code_of xi) × (result ≤ 255) }
 {
-    std::num::truncating_f32_to_u64(ieee_whole::round_ties_even((xi + 0.5) * 255.0)) as u32
+    std::num::saturating_f32_to_u32(ieee_whole::round_ties_even((xi + 0.5) * 255.0))
 }
 
 // The keypoint that settled at the cell k with the offset o after so many moves; `response` is the contrast there, without its sign.
@@ -102,17 +97,17 @@ pub fn keypoint_of(s: Search, moves: u32, k: Cell, o: Offset, response: f32) -> 
     ensures { result ≡ keypoint_with s moves k o response }
 {
     let scale = scale_of(s.octave);
-    let power = hal::exp2((float(k.p) + o.xi) / float(s.settings.layers));
+    let power = hal::exp2((k.p as f32 + o.xi) / s.settings.layers as f32);
     RawKeypoint {
-        x: (float(k.c) + o.xc) * scale,
-        y: (float(k.r) + o.xr) * scale,
+        x: (k.c as f32 + o.xc) * scale,
+        y: (k.r as f32 + o.xr) * scale,
         size: ieee_fused::narrow(s.settings.sigma) * power * scale * 2.0,
-        response: response,
+        response,
         octave: s.octave + k.p as u32 * 256 + code_of(o.xi) * 65536,
         layer: k.p as u32,
         xi: o.xi,
         cc: k.c as u32,
         rr: k.r as u32,
-        moves: moves,
+        moves,
     }
 }

@@ -1,4 +1,5 @@
 -- How many cells of a run have a hint, one more cell at a time, and that they give no more keypoints than that. Assumes nothing.
+use Rattle.std.specs.Int.{from_bool}
 use Prim.Native.Nat.{ℕ, ◌+◌, ◌-◌, ◌*◌, ◌≤◌}
 use mathlib.Core.Path.{◌≡◌, refl}
 use mathlib.Core.Bool.{Bool, true, false, cond}
@@ -16,7 +17,7 @@ use Rattle.detect_extrema.specs.Scan.{cells_of}
 use Rattle.detect_look.specs.Hints.{hint_at, hinted}
 use Rattle.detect_look.proofs.Hints.{found_hinted}
 
-one_length : (b : Bool) (c : ℕ) → length (cond b (c ∷ []) []) ≡ cond b 1 0
+one_length : (b : Bool) (c : ℕ) → length (cond b (c ∷ []) []) ≡ from_bool b
 one_length true c = refl
 one_length false c = refl
 
@@ -24,7 +25,7 @@ one_bound : (b : Bool) (c : ℕ) → length (cond b (c ∷ []) []) ≤ 1
 one_bound true c = omega arith
 one_bound false c = omega arith
 
-pub one_few : (b : Bool) (x : ℕ) → x ≡ cond b 1 0 → x ≤ 1
+pub one_few : (b : Bool) (x : ℕ) → x ≡ from_bool b → x ≤ 1
 one_few true x e = omega arith
 one_few false x e = omega arith
 
@@ -39,7 +40,7 @@ module _ (d : List Float) (t : Shape) (s : Search) (r lo : ℕ) where
   unfolding hinted
   hinted_none = rw (joined_start lo columns)
 
-  pub hinted_more : (c n x : ℕ) (b : Bool) → lo ≤ c → n ≡ length (hinted d t s r lo c) → x ≡ cond b 1 0 → b ≡ look c → n + x ≡ length (hinted d t s r lo (c + 1))
+  pub hinted_more : (c n x : ℕ) (b : Bool) → lo ≤ c → n ≡ length (hinted d t s r lo c) → x ≡ from_bool b → b ≡ look c → n + x ≡ length (hinted d t s r lo (c + 1))
   unfolding hinted
   hinted_more c n x b o e f g =
       rw (joined_more lo c columns o, length-append, one_length (look c) c, ← g, f, e)

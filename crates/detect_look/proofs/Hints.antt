@@ -15,7 +15,8 @@ use Rattle.picture.specs.declared.Shape.{Shape}
 use Rattle.detect_keypoint.specs.declared.Search.{Search}
 use Rattle.detect_extrema.specs.Neighbours.{tied, keeps_as, keeps_over, centre, passes, is_extremum, loud, candidate}
 use Rattle.detect_extrema.specs.Scan.{found}
-use Rattle.detect_look.specs.Hints.{greater_of, lesser_of, of_near, greatest_near, least_near, hint_at}
+use Rattle.bounds.specs.Bounds.{greater_of, lesser_of}
+use Rattle.detect_look.specs.Hints.{of_near, greatest_near, least_near, hint_at}
 use Rattle.detect_extrema.proofs.Rows.{found_one}
 use Rattle.detect_look.proofs.Sides.{loud_above, loud_under, clash}
 
@@ -33,11 +34,9 @@ abbrev Selects : (Float → Float → Float) → Type 1
 Selects pick = (P : Float → Type 0) (a b : Float) → P a → P b → P (pick a b)
 
 greater_selects : Selects greater_of
-unfolding greater_of
 greater_selects P a b p q = one_of P (a <ᶠ b) b a q p
 
 lesser_selects : Selects lesser_of
-unfolding lesser_of
 lesser_selects P a b p q = one_of P (a <ᶠ b) a b p q
 
 module _ (d : List Float) (t : Shape) (p r c : ℕ) where

@@ -65,11 +65,11 @@ module _ (test : ℕ → Bool) (lo : ℕ) where
   abbrev fails : ℕ → Bool
   fails i = not (test (lo + i))
 
-  some_none : false ≡ some_cell lo lo test
+  pub some_none : false ≡ some_cell lo lo test
   unfolding some_cell
   some_none = let z : lo - lo ≡ 0 = omega arith in rw (z, every_none)
 
-  some_more : (c : ℕ) (any b : Bool) → lo ≤ c → any ≡ some_cell lo c test → b ≡ test c → (any || b) ≡ some_cell lo (c + 1) test
+  pub some_more : (c : ℕ) (any b : Bool) → lo ≤ c → any ≡ some_cell lo c test → b ≡ test c → (any || b) ≡ some_cell lo (c + 1) test
   unfolding some_cell every
   some_more c any b o e f =
       let z : c + 1 - lo ≡ suc (c - lo) = omega arith in
@@ -100,28 +100,10 @@ module _ (d : List Float) (t : Shape) (s : Search) (r lo : ℕ) where
   abbrev look : ℕ → Bool
   look c = hint_at s.threshold d t s.layer r c
 
-  -- ---- whether a cell of the run is loud
-  pub loud_none : false ≡ any_loud d t s r lo lo
-  unfolding any_loud
-  loud_none = some_none loud_at lo
-
-  pub loud_more : (c : ℕ) (any b : Bool) → lo ≤ c → any ≡ any_loud d t s r lo c → b ≡ loud_at c → (any || b) ≡ any_loud d t s r lo (c + 1)
-  unfolding any_loud
-  loud_more c any b o e f = some_more loud_at lo c any b o e f
-
   -- where none is, they give nothing
   pub quiet_cells : (hi : ℕ) → any_loud d t s r lo hi ≡ false → cells_of tied d t s r lo hi ≡ []
   unfolding any_loud
   quiet_cells hi e = blank lo hi _ (λ c a b. found_quiet d t s r c (loud_beyond _ _ (none_passes loud_at lo hi e c a b)))
-
-  -- ---- whether a cell of the run has a hint
-  pub hint_none : false ≡ any_hint d t s r lo lo
-  unfolding any_hint
-  hint_none = some_none look lo
-
-  pub hint_more : (c : ℕ) (any b : Bool) → lo ≤ c → any ≡ any_hint d t s r lo c → b ≡ look c → (any || b) ≡ any_hint d t s r lo (c + 1)
-  unfolding any_hint
-  hint_more c any b o e f = some_more look lo c any b o e f
 
   -- where none has, they give nothing
   pub unseen_cells : (hi : ℕ) → any_hint d t s r lo hi ≡ false → cells_of tied d t s r lo hi ≡ []

@@ -1,8 +1,9 @@
 -- Inner: a first look at a cell, which every candidate passes. It decides nothing, and spares the search among all neighbours for most cells; no part of a public contract.
 -- Definitions only.
-use Rattle.std.specs.Prelude.{ℕ, ◌+◌, ◌-◌, Bool, true, false, ◌&&◌, ◌||◌, not, cond, List, [], ◌∷◌, Float}
+use Rattle.std.specs.Prelude.{ℕ, ◌+◌, ◌-◌, ◌<◌, ◌≤◌, ◌≡◌, Bool, true, false, ◌&&◌, ◌||◌, not, cond, List, [], ◌∷◌, Float}
 use Rattle.std.specs.Float.Ieee.{neg}
 use Rattle.ieee.specs.F32.{◌<ᶠ◌}
+use Rattle.bounds.specs.Bounds.{greater_of, lesser_of}
 use Rattle.lists.specs.Ranges.{every, joined}
 use Rattle.picture.specs.Stack.{sample}
 use Rattle.picture.specs.declared.Shape.{Shape}
@@ -10,16 +11,13 @@ use Rattle.detect_fit.specs.declared.Near.{Near}
 use Rattle.detect_keypoint.specs.declared.Search.{Search}
 use Rattle.detect_extrema.specs.Neighbours.{tied, keeps_as}
 
--- of two, the one that a comparison leaves: the larger, and the smaller. Where one is no number, either.
-unfoldable pub greater_of : Float → Float → Float
-greater_of a b = cond (a <ᶠ b) b a
-
-unfoldable pub lesser_of : Float → Float → Float
-lesser_of a b = cond (a <ᶠ b) a b
-
 -- what a selection leaves of the four nearest neighbours in the plane, one before and one after
 unfoldable pub of_six : (Float → Float → Float) → Near → Float → Float → Float
 of_six pick n before after = pick (pick n.l n.r) (pick (pick n.u n.d) (pick before after))
+
+-- what a function of the code leaves of each two is what `choose` says
+abbrev pub Picks : (Float → Float → Float → Type 0) → (Float → Float → Float) → Type 0
+Picks Leaves choose = (a b x : Float) → Leaves a b x → x ≡ choose a b
 
 -- what a selection leaves of the six nearest neighbours: left and right, above and below, in the plane before and after
 unfoldable pub of_near : (Float → Float → Float) → List Float → Shape → ℕ → ℕ → ℕ → Float
@@ -43,6 +41,10 @@ hint_at threshold d t p r c =
 -- some number from lo to below hi passes the test: not every one of them fails
 unfoldable pub some_cell : ℕ → ℕ → (ℕ → Bool) → Bool
 some_cell lo hi test = not (every (hi - lo) (λ i. not (test (lo + i))))
+
+-- what a test of the code answers of each number from lo to below hi is what p says
+abbrev pub Tells : (ℕ → Bool → Type 0) → ℕ → ℕ → (ℕ → Bool) → Type 0
+Tells Answers lo hi p = (c : ℕ) → lo ≤ c → c < hi → (b : Bool) → Answers c b → b ≡ p c
 
 -- above the threshold, or below its negative, as every loud cell is
 abbrev pub beyond : Float → Float → Bool

@@ -1,11 +1,11 @@
 // The first look at the cells of a row, which every candidate passes, so that only the cells that it leaves are searched among their neighbours.
 #![tactic(auto)]
 
-ghost use Rattle.std.specs.Prelude.{◌≡◌, false, cond, ◌+◌, ◌≤◌, length, replicate};
+ghost use Rattle.std.specs.Prelude.{◌≡◌, ℕ, Bool, Float, false, ◌+◌, ◌<◌, ◌≤◌, length, replicate};
 ghost use Rattle.std.proofs.lemmas.List.Edits.{sets};
 ghost use Rattle.detect_fit.specs.Place.{Around};
 ghost use Rattle.detect_refine.specs.Place.{Searched};
-ghost use Rattle.detect_look.specs.Hints.{greater_of, lesser_of, of_six, hint_at, beyond, any_loud, any_hint, looks, hinted};
+ghost use Rattle.detect_look.specs.Hints.{Picks, of_six, hint_at, beyond, some_cell, Tells, any_loud, any_hint, looks, hinted};
 ghost use Rattle.detect_look.specs.Place.{group, Along};
 
 use detect_fit::Near;
@@ -27,36 +27,13 @@ pub struct Run {
     pub hi: usize,
 }
 
-// The larger of two, and the smaller: selections, with no branch that depends on a sample.
-fn greater(a: f32, b: f32) -> f32
-    ensures { result ≡ greater_of a b }
+// What a selection leaves of a cell's six nearest neighbours.
+#[tactic(auto, unfolding(crate::specs::Hints::of_six))]
+fn of_six<F: Fn(f32, f32) -> f32>(pick: F, n: Near, before: f32, after: f32) -> f32
+    requires { F.IsAlwaysCallable pick }
+    ensures { (choose : Float → Float → Float) → Picks (F.post pick) choose → result ≡ of_six choose n before after }
 {
-    if a < b { b } else { a }
-}
-
-fn lesser(a: f32, b: f32) -> f32
-    ensures { result ≡ lesser_of a b }
-{
-    if a < b { a } else { b }
-}
-
-// The greatest of a cell's six nearest neighbours, and the least.
-fn greatest(n: Near, before: f32, after: f32) -> f32
-    ensures { result ≡ of_six greater_of n before after }
-{
-    greater(
-        greater(n.l, n.r),
-        greater(greater(n.u, n.d), greater(before, after)),
-    )
-}
-
-fn least(n: Near, before: f32, after: f32) -> f32
-    ensures { result ≡ of_six lesser_of n before after }
-{
-    lesser(
-        lesser(n.l, n.r),
-        lesser(lesser(n.u, n.d), lesser(before, after)),
-    )
+    pick(pick(n.l, n.r), pick(pick(n.u, n.d), pick(before, after)))
 }
 
 // A first look: whether the cell (p, r, c) is above the threshold and not beaten by the greatest of its six nearest neighbours, or below its negative and not beaten
@@ -69,8 +46,8 @@ fn may_be(dog: &[f32], t: Shape, threshold: f32, p: usize, r: usize, c: usize) -
     let before = picture::at(dog, t, p - 1, r, c);
     let after = picture::at(dog, t, p + 1, r, c);
     let v = near.m;
-    let hi = greatest(near, before, after);
-    let lo = least(near, before, after);
+    let hi = of_six(bounds::greater, near, before, after);
+    let lo = of_six(bounds::lesser, near, before, after);
     ((v > threshold) & (v >= hi)) | ((v < -threshold) & (v <= lo))
 }
 
@@ -81,39 +58,45 @@ fn is_beyond(threshold: f32, v: f32) -> bool
     (v > threshold) | (v < -threshold)
 }
 
-// Whether one of a run's cells is loud. No branch depends on a sample, so that the machine looks at several at once; so in `any_hint`, `mark` and `hint_count`.
+// Whether one of a run's cells passes a test. No branch depends on a sample, so that the machine looks at several at once; so in `mark` and `hint_count`.
+#[tactic(auto, using(crate::proofs::Looks::some_none, crate::proofs::Looks::some_more))]
+fn some_cell<F: Fn(usize) -> bool>(u: Run, test: F) -> bool
+    requires order { u.lo ≤ u.hi }
+    requires callable { (c : ℕ) → u.lo ≤ c → c < u.hi → F.pre test c }
+    ensures { (p : ℕ → Bool) → Tells (F.post test) u.lo u.hi p → result ≡ some_cell u.lo u.hi p }
+{
+    let mut any = false;
+    for c in u.lo..u.hi {
+        any |= test(c);
+    }
+    any
+}
+
+// Whether one of a run's cells is loud.
+#[tactic(auto, unfolding(crate::specs::Hints::any_loud))]
 pub fn any_loud(dog: &[f32], t: Shape, s: Search, u: Run) -> bool
     requires searched { Searched (length dog.now) t s }
     requires along { Along t u }
     ensures { result ≡ any_loud dog.now t s u.row u.lo u.hi }
 {
-    let mut any = false;
-    for c in u.lo..u.hi {
-        any = any | is_beyond(s.threshold, picture::at(dog, t, s.layer, u.row, c));
-    }
-    any
+    some_cell(
+        u,
+        |c| is_beyond(s.threshold, picture::at(dog, t, s.layer, u.row, c)),
+    )
 }
 
 // Whether one of a run's cells has a hint.
+#[tactic(auto, unfolding(crate::specs::Hints::any_hint))]
 pub fn any_hint(dog: &[f32], t: Shape, s: Search, u: Run) -> bool
     requires searched { Searched (length dog.now) t s }
     requires along { Along t u }
     ensures { result ≡ any_hint dog.now t s u.row u.lo u.hi }
 {
-    let mut any = false;
-    for c in u.lo..u.hi {
-        any = any | may_be(dog, t, s.threshold, s.layer, u.row, c);
-    }
-    any
-}
-
-fn one_if(b: bool) -> usize
-    ensures { result ≡ cond b 1 0 }
-{
-    if b { 1 } else { 0 }
+    some_cell(u, |c| may_be(dog, t, s.threshold, s.layer, u.row, c))
 }
 
 // How many of a run's cells have a hint. They give no more keypoints than that.
+#[tactic(auto, using(crate::proofs::Counted::hinted_none, crate::proofs::Counted::hinted_more, crate::proofs::Counted::hinted_bound, crate::proofs::Counted::one_few))]
 pub fn hint_count(dog: &[f32], t: Shape, s: Search, u: Run) -> usize
     requires searched { Searched (length dog.now) t s }
     requires along { Along t u }
@@ -121,12 +104,13 @@ pub fn hint_count(dog: &[f32], t: Shape, s: Search, u: Run) -> usize
 {
     let mut n: usize = 0;
     for c in u.lo..u.hi {
-        n += one_if(may_be(dog, t, s.threshold, s.layer, u.row, c));
+        n += usize::from(may_be(dog, t, s.threshold, s.layer, u.row, c));
     }
     n
 }
 
 // Takes the first look at a group of cells. The marks past its end are false.
+#[tactic(auto, using(crate::proofs::Looks::marks_none))]
 pub fn mark(dog: &[f32], t: Shape, s: Search, u: Run) -> [bool; GROUP]
     requires searched { Searched (length dog.now) t s }
     requires along { Along t u }

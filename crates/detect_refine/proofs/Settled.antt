@@ -18,7 +18,7 @@ use Rattle.detect_refine.specs.Settle.{ended, on_step, patch_at, settle_from, re
 use Rattle.detect_refine.specs.Few.{FewMoves}
 use Rattle.detect_refine.specs.declared.Step.{Step}
 use Rattle.detect_refine.specs.declared.Step.TheVariants.{Lost, Stay, Go}
-use Rattle.detect_refine.specs.declared.Refined.TheVariants.{Dropped, At}
+use Rattle.std.specs.Prelude.{Some, None}
 
 one_less : (m : ℕ) → m < max_moves → max_moves - m ≡ suc (max_moves - (m + 1))
 one_less m h = omega arith
@@ -29,7 +29,7 @@ module _ (d : List Float) (t : Shape) (s : Search) (m : ℕ) (k : Cell) (more : 
   step_is : (e : Step) → step ≡ e → step_of t s.settings.layers k (patch_at d t k) ≡ e
   step_is e q = cc
 
-  pub settle_lost : step ≡ Lost → settle_from d t s (max_moves - m) m k ≡ Dropped
+  pub settle_lost : step ≡ Lost → settle_from d t s (max_moves - m) m k ≡ None
   unfolding settle_from
   settle_lost e = rw (one_less m more, step_is Lost e)
 
@@ -41,24 +41,24 @@ module _ (d : List Float) (t : Shape) (s : Search) (m : ℕ) (k : Cell) (more : 
   unfolding settle_from
   settle_go k' e = rw (one_less m more, step_is (Go k') e)
 
-pub settle_none : (d : List Float) (t : Shape) (s : Search) (m : ℕ) (k : Cell) → max_moves ≤ m → settle_from d t s (max_moves - m) m k ≡ Dropped
+pub settle_none : (d : List Float) (t : Shape) (s : Search) (m : ℕ) (k : Cell) → max_moves ≤ m → settle_from d t s (max_moves - m) m k ≡ None
 unfolding settle_from
 settle_none d t s m k e = let z : max_moves - m ≡ 0 = omega arith in rw z
 
 -- ---- a keypoint that refinement gives
 
-pub dropped_not : {A : Type 0} (found : RawKeypoint) → Dropped ≡ At found → A
+pub dropped_not : {A : Type 0} (found : RawKeypoint) → None ≡ Some found → A
 dropped_not found e = let z : ◌≡◌ {A = ℕ} 0 1 = cc in absurd (omega arith)
 
-at_same : (x y : RawKeypoint) → At x ≡ At y → x ≡ y
+at_same : (x y : RawKeypoint) → Some x ≡ Some y → x ≡ y
 at_same x y e = cc
 
-module _ (s : Search) (m : ℕ) (k : Cell) (patch : Patch) (o : Offset) (found : RawKeypoint) (e : ended s m k patch o ≡ At found) where
+module _ (s : Search) (m : ℕ) (k : Cell) (patch : Patch) (o : Offset) (found : RawKeypoint) (e : ended s m k patch o ≡ Some found) where
   pub ended_at : keypoint_of s m k patch o ≡ found
   unfolding ended
   ended_at = go (dim s.settings (contrast_of patch o) || edgy s.settings patch) e
     where
-      go : (b : Bool) → cond b Dropped (At (keypoint_of s m k patch o)) ≡ At found → keypoint_of s m k patch o ≡ found
+      go : (b : Bool) → cond b None (Some (keypoint_of s m k patch o)) ≡ Some found → keypoint_of s m k patch o ≡ found
       go true f = dropped_not found f
       go false f = at_same (keypoint_of s m k patch o) found f
 
@@ -69,14 +69,14 @@ module _ (s : Search) (m : ℕ) (k : Cell) (patch : Patch) (o : Offset) (found :
 
 -- and fewer than the most: no premise on the samples, the cell or the settings
 module _ (d : List Float) (t : Shape) (s : Search) (found : RawKeypoint) where
-  settle_few : (left m : ℕ) (k : Cell) → settle_from d t s left m k ≡ At found → found.moves < m + left
+  settle_few : (left m : ℕ) (k : Cell) → settle_from d t s left m k ≡ Some found → found.moves < m + left
   unfolding settle_from
   settle_few zero m k e = dropped_not found e
   settle_few (suc left) m k e = go (λ k' f. let l = settle_few left (m + 1) k' f in omega arith) (step_of t s.settings.layers k (patch_at d t k)) e
     where
-      go : ((k' : Cell) → settle_from d t s left (m + 1) k' ≡ At found → found.moves < m + suc left)
+      go : ((k' : Cell) → settle_from d t s left (m + 1) k' ≡ Some found → found.moves < m + suc left)
           → (step : Step)
-          → on_step step Dropped (λ o. ended s m k (patch_at d t k) o) (λ k'. settle_from d t s left (m + 1) k') ≡ At found
+          → on_step step None (λ o. ended s m k (patch_at d t k) o) (λ k'. settle_from d t s left (m + 1) k') ≡ Some found
           → found.moves < m + suc left
       go later Lost f = dropped_not found f
       go later (Stay o) f = let i = ended_moves s m k (patch_at d t k) o found f in omega arith

@@ -23,14 +23,12 @@ use Rattle.detect_keypoint.specs.Offsets.{small}
 use Rattle.detect_keypoint.specs.Keypoint.{contrast_of, dim, edgy}
 use Rattle.detect_keypoint.specs.declared.Cell.{Cell}
 use Rattle.detect_keypoint.specs.declared.Search.{Search}
+use Rattle.detect_keypoint.specs.declared.RawKeypoint.{RawKeypoint}
 use Rattle.detect_refine.specs.Moves.{huge, placed, moved, three, walk, step_of}
 use Rattle.detect_refine.specs.Settle.{ended, on_step, patch_at, settle_from, refine_of}
-use Rattle.detect_refine.specs.declared.Moved.{Moved}
-use Rattle.detect_refine.specs.declared.Moved.TheVariants.{Out, In}
+use Rattle.std.specs.Prelude.{Option, Some, None}
 use Rattle.detect_refine.specs.declared.Step.{Step}
 use Rattle.detect_refine.specs.declared.Step.TheVariants.{Lost, Stay, Go}
-use Rattle.detect_refine.specs.declared.Refined.{Refined}
-use Rattle.detect_refine.specs.declared.Refined.TheVariants.{Dropped}
 use Rattle.detect_refine.specs.Sign.{SameRefined, both_dropped, both_at}
 
 -- ---- one step. A move never leaves the layers from 1 on or the border
@@ -40,15 +38,15 @@ data SameStep : Step → Step → Type 0 where
   both_stay : {o q : Offset} → SameOffset o q → SameStep (Stay o) (Stay q)
   both_go : {k : Cell} → Deep k → SameStep (Go k) (Go k)
 
-data AtLeast (lo : ℕ) : Moved → Type 0 where
-  left_out : AtLeast lo Out
-  inside : {u : ℕ} → lo ≤ u → AtLeast lo (In u)
+data AtLeast (lo : ℕ) : Option ℕ → Type 0 where
+  left_out : AtLeast lo None
+  inside : {u : ℕ} → lo ≤ u → AtLeast lo (Some u)
 
 placed_at_least : (lo hi : ℕ) (z : ℤ) → AtLeast lo (placed lo hi z)
 unfolding placed
 placed_at_least lo hi (pos u) = go (leb lo u) (ltb u hi) refl
   where
-    go : (a b : Bool) → leb lo u ≡ a → AtLeast lo (cond (a && b) (In u) Out)
+    go : (a b : Bool) → leb lo u ≡ a → AtLeast lo (cond (a && b) (Some u) None)
     go true true e = inside (leb-true lo u e)
     go true false e = left_out
     go false b e = left_out
@@ -70,7 +68,7 @@ huge_same : {o q : Offset} → SameOffset o q → huge q ≡ huge o
 unfolding huge
 huge_same s = rw (abs_turned s.xi, abs_turned s.xr, abs_turned s.xc)
 
-three_same : {l m n : Moved} → AtLeast 1 l → AtLeast border m → AtLeast border n → SameStep (three l m n) (three l m n)
+three_same : {l m n : Option ℕ} → AtLeast 1 l → AtLeast border m → AtLeast border n → SameStep (three l m n) (three l m n)
 three_same (inside p) (inside r) (inside c) = both_go (p, r, c)
 three_same (inside p) (inside r) left_out = both_lost
 three_same (inside p) left_out n = both_lost
@@ -93,7 +91,7 @@ pick_step : (z z' : Bool) {s t : Step} → z' ≡ z → (z ≡ false → SameSte
 pick_step true z' e h = rw e both_lost
 pick_step false z' e h = rw e (h refl)
 
-cond_refined : (b : Bool) {s t : Refined} → SameRefined s t → SameRefined (cond b Dropped s) (cond b Dropped t)
+cond_refined : (b : Bool) {s t : Option RawKeypoint} → SameRefined s t → SameRefined (cond b None s) (cond b None t)
 cond_refined true p = both_dropped
 cond_refined false p = p
 
@@ -128,8 +126,8 @@ module _ (d e : List Float) (t : Shape) (s : Search) (o : (i : ℕ) → Opp (get
       follow : {a b : Step}
           → ((k' : Cell) → Deep k' → SameRefined (settle_from d t s left (moves + 1) k') (settle_from e t s left (moves + 1) k'))
           → SameStep a b
-          → SameRefined (on_step a Dropped (λ u. ended s moves k (here k) u) (λ k'. settle_from d t s left (moves + 1) k'))
-          (on_step b Dropped (λ u. ended s moves k (there k) u) (λ k'. settle_from e t s left (moves + 1) k'))
+          → SameRefined (on_step a None (λ u. ended s moves k (here k) u) (λ k'. settle_from d t s left (moves + 1) k'))
+          (on_step b None (λ u. ended s moves k (there k) u) (λ k'. settle_from e t s left (moves + 1) k'))
       follow rest both_lost = both_dropped
       follow rest (both_stay q) = ended_same k moves deep q
       follow rest (both_go {k = k'} in') = rest k' in'

@@ -35,7 +35,7 @@ use Rattle.detect_refine.specs.Settle.{ended, on_step, patch_at, settle_from, re
 use Rattle.detect_refine.specs.Place.{Searched, Placed}
 use Rattle.detect_refine.specs.declared.Step.{Step}
 use Rattle.detect_refine.specs.declared.Step.TheVariants.{Lost, Stay, Go}
-use Rattle.detect_refine.specs.declared.Refined.TheVariants.{Dropped, At}
+use Rattle.std.specs.Prelude.{Some, None}
 use Rattle.detect_refine.proofs.Settled.{dropped_not, ended_at, ended_moves, few_moves}
 use Rattle.detect_refine.proofs.Steps.{step_stay, step_offset, step_go}
 
@@ -122,14 +122,14 @@ module _ (d : List Float) (t : Shape) (s : Search) (a : Searched (length d) t s)
   abbrev IsSound : RawKeypoint → Type 0
   IsSound x = Sound t.width t.height s.settings s.octave x
 
-  settle_sound : (left m : ℕ) (k : Cell) → Placed t s.settings.layers k → settle_from d t s left m k ≡ At found → IsSound found
+  settle_sound : (left m : ℕ) (k : Cell) → Placed t s.settings.layers k → settle_from d t s left m k ≡ Some found → IsSound found
   unfolding settle_from
   settle_sound zero m k at e = dropped_not found e
   settle_sound (suc left) m k at e = go (λ k' b f. settle_sound left (m + 1) k' b f) (step_of t s.settings.layers k (patch_at d t k)) refl e
     where
-      go : ((k' : Cell) → Placed t s.settings.layers k' → settle_from d t s left (m + 1) k' ≡ At found → IsSound found)
+      go : ((k' : Cell) → Placed t s.settings.layers k' → settle_from d t s left (m + 1) k' ≡ Some found → IsSound found)
           → (step : Step) → step_of t s.settings.layers k (patch_at d t k) ≡ step
-          → on_step step Dropped (λ o. ended s m k (patch_at d t k) o) (λ k'. settle_from d t s left (m + 1) k') ≡ At found
+          → on_step step None (λ o. ended s m k (patch_at d t k) o) (λ k'. settle_from d t s left (m + 1) k') ≡ Some found
           → IsSound found
       go later Lost i f = dropped_not found f
       go later (Stay o) i f =
@@ -141,7 +141,7 @@ module _ (d : List Float) (t : Shape) (s : Search) (a : Searched (length d) t s)
 -- the keypoint that a candidate is refined to, in a stack that the table accepts
 pub refine_sound : (d : List Float) (t : Shape) (s : Search) (k : Cell) (found : RawKeypoint)
     → Searched (length d) t s → Placed t s.settings.layers k → settings_wrong s.settings s.octave ≡ false → all_good d ≡ true
-    → refine_of d t s k ≡ At found → Sound t.width t.height s.settings s.octave found
+    → refine_of d t s k ≡ Some found → Sound t.width t.height s.settings s.octave found
 unfolding refine_of
 refine_sound d t s k found a at q g e =
     settle_sound d t s a (accepted s.settings s.octave q) g found (few_moves d t s k found e) max_moves 0 k at e

@@ -13,38 +13,37 @@ use Rattle.detect_keypoint.specs.Offsets.{small}
 use Rattle.detect_keypoint.specs.declared.Cell.{Cell}
 use Rattle.detect_refine.specs.Moves.{huge, moved, three, walk, singular, step_of}
 use Rattle.detect_refine.specs.Place.{Placed}
-use Rattle.detect_refine.specs.declared.Moved.{Moved}
-use Rattle.detect_refine.specs.declared.Moved.TheVariants.{Out, In}
+use Rattle.std.specs.Prelude.{Option, Some, None}
 use Rattle.detect_refine.specs.declared.Step.{Step}
 use Rattle.detect_refine.specs.declared.Step.TheVariants.{Lost, Stay, Go}
 use Rattle.detect_refine.proofs.Places.{placed_in}
 
 -- ---- a step that stays is small; one that goes stays within the layers and the border
 
-three_stay : (a b d : Moved) (o : Offset) → three a b d ≡ Stay o → ⊥
-three_stay (In p) (In r) (In c) o e = let z : ◌≡◌ {A = ℕ} 0 1 = cc in omega arith
-three_stay (In p) (In r) Out o e = let z : ◌≡◌ {A = ℕ} 0 1 = cc in omega arith
-three_stay (In p) Out m o e = let z : ◌≡◌ {A = ℕ} 0 1 = cc in omega arith
-three_stay Out l m o e = let z : ◌≡◌ {A = ℕ} 0 1 = cc in omega arith
+three_stay : (a b d : Option ℕ) (o : Offset) → three a b d ≡ Stay o → ⊥
+three_stay (Some p) (Some r) (Some c) o e = let z : ◌≡◌ {A = ℕ} 0 1 = cc in omega arith
+three_stay (Some p) (Some r) None o e = let z : ◌≡◌ {A = ℕ} 0 1 = cc in omega arith
+three_stay (Some p) None m o e = let z : ◌≡◌ {A = ℕ} 0 1 = cc in omega arith
+three_stay None l m o e = let z : ◌≡◌ {A = ℕ} 0 1 = cc in omega arith
 
-three_go : (a b d : Moved) (k : Cell) → three a b d ≡ Go k → (a ≡ In k.p) × (b ≡ In k.r) × (d ≡ In k.c)
-three_go (In p) (In r) (In c) k e = let z : record { p = p; r = r; c = c } ≡ k = cc in (ap (λ (x : Cell). In x.p) z, ap (λ (x : Cell). In x.r) z, ap (λ (x : Cell). In x.c) z)
-three_go (In p) (In r) Out k e = let z : ◌≡◌ {A = ℕ} 0 1 = cc in absurd (omega arith)
-three_go (In p) Out m k e = let z : ◌≡◌ {A = ℕ} 0 1 = cc in absurd (omega arith)
-three_go Out l m k e = let z : ◌≡◌ {A = ℕ} 0 1 = cc in absurd (omega arith)
+three_go : (a b d : Option ℕ) (k : Cell) → three a b d ≡ Go k → (a ≡ Some k.p) × (b ≡ Some k.r) × (d ≡ Some k.c)
+three_go (Some p) (Some r) (Some c) k e = let z : record { p = p; r = r; c = c } ≡ k = cc in (ap (λ (x : Cell). Some x.p) z, ap (λ (x : Cell). Some x.r) z, ap (λ (x : Cell). Some x.c) z)
+three_go (Some p) (Some r) None k e = let z : ◌≡◌ {A = ℕ} 0 1 = cc in absurd (omega arith)
+three_go (Some p) None m k e = let z : ◌≡◌ {A = ℕ} 0 1 = cc in absurd (omega arith)
+three_go None l m k e = let z : ◌≡◌ {A = ℕ} 0 1 = cc in absurd (omega arith)
 
-moved_in : (lo hi v : ℕ) (x : Float) (u : ℕ) → moved lo hi v x ≡ In u → (lo ≤ u) × (u < hi)
+moved_in : (lo hi v : ℕ) (x : Float) (u : ℕ) → moved lo hi v x ≡ Some u → (lo ≤ u) × (u < hi)
 unfolding moved
 moved_in lo hi v x u e = placed_in lo hi _ u e
 
 module _ (t : Shape) (layers : ℕ) (k : Cell) where
-  abbrev layer_by : Offset → Moved
+  abbrev layer_by : Offset → Option ℕ
   layer_by o = moved 1 (layers + 1) k.p o.xi
 
-  abbrev row_by : Offset → Moved
+  abbrev row_by : Offset → Option ℕ
   row_by o = moved border (t.height - border) k.r o.xr
 
-  abbrev column_by : Offset → Moved
+  abbrev column_by : Offset → Option ℕ
   column_by o = moved border (t.width - border) k.c o.xc
 
   abbrev goes : Offset → Step

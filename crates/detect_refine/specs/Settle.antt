@@ -1,5 +1,5 @@
 -- Where a candidate settles, and what it gives there: rules D12 and D17. Definitions only.
-use Rattle.std.specs.Prelude.{ℕ, zero, suc, ◌+◌, ◌||◌, cond, List, Float}
+use Rattle.std.specs.Prelude.{ℕ, zero, suc, ◌+◌, ◌||◌, cond, List, Option, Some, None, Float}
 use Rattle.params.specs.Limits.{max_moves}
 use Rattle.picture.specs.declared.Shape.{Shape}
 use Rattle.detect_fit.specs.Fit.{patch_of}
@@ -8,18 +8,17 @@ use Rattle.detect_fit.specs.declared.Offset.{Offset}
 use Rattle.detect_keypoint.specs.Keypoint.{contrast_of, dim, edgy, keypoint_of}
 use Rattle.detect_keypoint.specs.declared.Cell.{Cell}
 use Rattle.detect_keypoint.specs.declared.Search.{Search}
+use Rattle.detect_keypoint.specs.declared.RawKeypoint.{RawKeypoint}
 use Rattle.detect_refine.specs.Moves.{step_of}
 use Rattle.detect_refine.specs.declared.Step.{Step}
 use Rattle.detect_refine.specs.declared.Step.TheVariants.{Lost, Stay, Go}
-use Rattle.detect_refine.specs.declared.Refined.{Refined}
-use Rattle.detect_refine.specs.declared.Refined.TheVariants.{Dropped, At}
 
 -- what a settled cell gives: dropped by its contrast or its edge, or the keypoint
-unfoldable pub ended : Search → ℕ → Cell → Patch → Offset → Refined
+unfoldable pub ended : Search → ℕ → Cell → Patch → Offset → Option RawKeypoint
 ended s moves k patch o =
-    cond (dim s.settings (contrast_of patch o) || edgy s.settings patch) Dropped (At (keypoint_of s moves k patch o))
+    cond (dim s.settings (contrast_of patch o) || edgy s.settings patch) None (Some (keypoint_of s moves k patch o))
 
-abbrev pub on_step : Step → Refined → (Offset → Refined) → (Cell → Refined) → Refined
+abbrev pub on_step : Step → Option RawKeypoint → (Offset → Option RawKeypoint) → (Cell → Option RawKeypoint) → Option RawKeypoint
 on_step Lost lost stay go = lost
 on_step (Stay o) lost stay go = stay o
 on_step (Go k) lost stay go = go k
@@ -29,14 +28,14 @@ abbrev pub patch_at : List Float → Shape → Cell → Patch
 patch_at d t k = patch_of d t k.p k.r k.c
 
 -- where a candidate settles with so many moves left, after so many made; dropped when none is left
-unfoldable pub settle_from : List Float → Shape → Search → ℕ → ℕ → Cell → Refined
-settle_from d t s zero moves k = Dropped
+unfoldable pub settle_from : List Float → Shape → Search → ℕ → ℕ → Cell → Option RawKeypoint
+settle_from d t s zero moves k = None
 settle_from d t s (suc left) moves k =
     on_step (step_of t s.settings.layers k (patch_at d t k))
-    Dropped
+    None
     (λ o. ended s moves k (patch_at d t k) o)
     (λ k'. settle_from d t s left (moves + 1) k')
 
 -- the refinement of the candidate at the cell k
-unfoldable pub refine_of : List Float → Shape → Search → Cell → Refined
+unfoldable pub refine_of : List Float → Shape → Search → Cell → Option RawKeypoint
 refine_of d t s k = settle_from d t s max_moves 0 k

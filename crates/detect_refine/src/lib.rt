@@ -1,10 +1,10 @@
 // The refinement of a candidate: the moves by the offsets of the fit, and what it gives where it settles.
 #![tactic(auto)]
 
-ghost use Rattle.std.specs.Prelude.{◌≡◌, true, ◌≤◌, length};
-ghost use Rattle.params.specs.Limits.{max_side, max_layers, max_octave};
+ghost use Rattle.std.specs.Prelude.{◌≡◌, true, ◌+◌, ◌-◌, ◌≤◌, length};
+ghost use Rattle.params.specs.Limits.{border, max_side, max_layers, max_octave};
 ghost use Rattle.detect_keypoint.specs.Offsets.{small};
-ghost use Rattle.detect_refine.specs.Moves.{huge, placed, moved, walk, step_of};
+ghost use Rattle.detect_refine.specs.Moves.{huge, placed, moved, three, gone, walk, step_of};
 ghost use Rattle.detect_refine.specs.Settle.{ended, refine_of};
 ghost use Rattle.detect_refine.specs.Place.{Searched, Placed};
 
@@ -13,22 +13,10 @@ use detect_keypoint::{Cell, RawKeypoint, Search};
 use picture::Shape;
 
 #[derive(Clone, Copy)]
-pub enum Moved {
-    Out,
-    In(usize),
-}
-
-#[derive(Clone, Copy)]
 pub enum Step {
     Lost,
     Stay(Offset),
     Go(Cell),
-}
-
-#[derive(Clone, Copy)]
-pub enum Refined {
-    Dropped,
-    At(RawKeypoint),
 }
 
 // Cells this near to an edge are not searched.
@@ -41,6 +29,7 @@ const MAX_MOVES: u32 = 5;
 const LIM: f32 = 715827882.0;
 
 // All three offsets are below 0.5 in magnitude: no not-a-number is.
+#[tactic(auto, unfolding(detect_keypoint::specs::Offsets::small))]
 fn is_small(o: Offset) -> bool
     ensures { result ≡ small o }
 {
@@ -51,6 +40,7 @@ fn is_small(o: Offset) -> bool
 }
 
 // One of them is above the limit: no not-a-number is.
+#[tactic(auto, unfolding(crate::specs::Moves::huge))]
 fn is_huge(o: Offset) -> bool
     ensures { result ≡ huge o }
 {
@@ -61,28 +51,37 @@ fn is_huge(o: Offset) -> bool
 }
 
 // u, where it lies from lo to below hi.
-fn place(lo: usize, hi: usize, u: i64) -> Moved
+#[tactic(auto, unfolding(crate::specs::Moves::placed))]
+fn place(lo: usize, hi: usize, u: i64) -> Option<usize>
     ensures { result ≡ placed lo hi u }
 {
-    if u < 0 {
-        return Moved::Out;
-    }
-    let n = u as usize;
-    if n < lo {
-        return Moved::Out;
-    }
-    if n < hi { Moved::In(n) } else { Moved::Out }
+    let n = usize::try_from(u).ok()?;
+    ((lo <= n) & (n < hi)).then_some(n)
 }
 
 // v moved by the rounded offset x; a not-a-number moves by 0.
-fn move_by(lo: usize, hi: usize, v: usize, x: f32) -> Moved
+#[tactic(auto, unfolding(crate::specs::Moves::moved))]
+fn move_by(lo: usize, hi: usize, v: usize, x: f32) -> Option<usize>
     requires { v ≤ max_side }
     ensures { result ≡ moved lo hi v x }
 {
-    place(lo, hi, v as i64 + ieee_whole::round_to_i32(x) as i64)
+    place(lo, hi, v as i64 + i64::from(ieee_whole::round_to_i32(x)))
+}
+
+// The cell k moved by the rounded offsets, where that lies within the layers and the border.
+fn move_cell(t: Shape, layers: usize, k: Cell, o: Offset) -> Option<Cell>
+    requires width_le_max_side { (t.width ≤ max_side) × (t.height ≤ max_side) × (layers ≤ max_layers) }
+    requires placed { Placed t layers k }
+    ensures { gone result ≡ three (moved 1 (layers + 1) k.p o.xi) (moved border (t.height - border) k.r o.xr) (moved border (t.width - border) k.c o.xc) }
+{
+    let p = move_by(1, layers + 1, k.p, o.xi)?;
+    let r = move_by(BORDER, t.height - BORDER, k.r, o.xr)?;
+    let c = move_by(BORDER, t.width - BORDER, k.c, o.xc)?;
+    Some(Cell { p, r, c })
 }
 
 // One step from the cell k with the offset o: it stays, is lost, or moves within the layers and the border.
+#[tactic(auto, unfolding(crate::specs::Moves::walk))]
 fn walk_by(t: Shape, layers: usize, k: Cell, o: Offset) -> Step
     requires width_le_max_side { (t.width ≤ max_side) × (t.height ≤ max_side) × (layers ≤ max_layers) }
     requires placed { Placed t layers k }
@@ -94,23 +93,14 @@ fn walk_by(t: Shape, layers: usize, k: Cell, o: Offset) -> Step
     if is_huge(o) {
         return Step::Lost;
     }
-    let Moved::In(plane) = move_by(1, layers + 1, k.p, o.xi) else {
-        return Step::Lost;
-    };
-    let Moved::In(row) = move_by(BORDER, t.height - BORDER, k.r, o.xr) else {
-        return Step::Lost;
-    };
-    let Moved::In(column) = move_by(BORDER, t.width - BORDER, k.c, o.xc) else {
-        return Step::Lost;
-    };
-    Step::Go(Cell {
-        p: plane,
-        r: row,
-        c: column,
-    })
+    match move_cell(t, layers, k, o) {
+        Some(next) => Step::Go(next),
+        None => Step::Lost,
+    }
 }
 
 // One step on the samples about the cell k: lost where the determinant is 0.
+#[tactic(auto, unfolding(crate::specs::Moves::step_of))]
 pub fn step_of(t: Shape, layers: usize, k: Cell, patch: Patch) -> Step
     requires width_le_max_side { (t.width ≤ max_side) × (t.height ≤ max_side) × (layers ≤ max_layers) }
     requires placed { Placed t layers k }
@@ -130,40 +120,37 @@ pub fn step_of(t: Shape, layers: usize, k: Cell, patch: Patch) -> Step
 }
 
 // What a settled cell gives: dropped by its contrast or its edge, or the keypoint.
-fn end_at(s: Search, moves: u32, k: Cell, patch: Patch, o: Offset) -> Refined
+#[tactic(auto, unfolding(crate::specs::Settle::ended, detect_keypoint::specs::Keypoint::keypoint_of))]
+fn end_at(s: Search, moves: u32, k: Cell, patch: Patch, o: Offset) -> Option<RawKeypoint>
     requires octave_le_max_octave { (s.octave ≤ max_octave) × (s.settings.layers ≤ max_layers) × (k.p ≤ max_layers) × (k.r ≤ max_side) × (k.c ≤ max_side) }
     requires o_value { small o ≡ true }
     ensures { result ≡ ended s moves k patch o }
 {
     let contrast = detect_keypoint::contrast_of(patch, o);
-    if detect_keypoint::is_dim(s.settings, contrast) {
-        return Refined::Dropped;
+    if detect_keypoint::is_dim(s.settings, contrast)
+        || detect_keypoint::is_edgy(s.settings, patch)
+    {
+        return None;
     }
-    if detect_keypoint::is_edgy(s.settings, patch) {
-        return Refined::Dropped;
-    }
-    Refined::At(detect_keypoint::keypoint_of(s, moves, k, o, ieee::abs(contrast)))
+    Some(detect_keypoint::keypoint_of(s, moves, k, o, ieee::abs(contrast)))
 }
 
 // The refinement of the candidate at the cell k: it moves until it settles, at most so many times.
-pub fn refine(dog: &[f32], t: Shape, s: Search, k: Cell) -> Refined
+#[tactic(auto, using(crate::proofs::Settled::settle_lost, crate::proofs::Settled::settle_stay, crate::proofs::Settled::settle_none, crate::proofs::Steps::step_stay), unfolding(crate::specs::Settle::refine_of))]
+pub fn refine(dog: &[f32], t: Shape, s: Search, k: Cell) -> Option<RawKeypoint>
     requires searched { Searched (length dog.now) t s }
     requires placed { Placed t s.settings.layers k }
     ensures { result ≡ refine_of dog.now t s k }
 {
     let layers = s.settings.layers;
     let mut at = k;
-    let mut moves: u32 = 0;
-    while moves < MAX_MOVES {
+    for moves in 0..MAX_MOVES {
         let patch = detect_fit::patch_at(dog, t, at.p, at.r, at.c);
         match step_of(t, layers, at, patch) {
-            Step::Lost => return Refined::Dropped,
+            Step::Lost => return None,
             Step::Stay(o) => return end_at(s, moves, at, patch, o),
-            Step::Go(next) => {
-                at = next;
-                moves += 1;
-            }
+            Step::Go(next) => at = next,
         }
     }
-    Refined::Dropped
+    None
 }

@@ -10,9 +10,7 @@ use lib.Seq.{sets}
 use lib.Ieee.{Float}
 use Rattle.params.specs.Limits.{keypoint_words}
 use Rattle.params.specs.Table.{first_fault, all_good}
-use Rattle.params.specs.Answers.{answer_of, landed}
-use Rattle.params.specs.declared.Answer.{Answer}
-use Rattle.params.specs.declared.Answer.TheVariants.{Done, Short, Refused}
+use Rattle.params.specs.Answers.{Answer, Done, Short, Refused, answer_of, landed}
 use Rattle.detect_keypoint.specs.declared.RawKeypoint.{RawKeypoint}
 use Rattle.detect_extrema.specs.Scan.{words}
 use Rattle.detect_words.proofs.Words.{length_words, words_none, sets_pasted}

@@ -2,8 +2,7 @@
 use Rattle.std.specs.Prelude.{ℕ, ◌*◌, not, List, [], ◌∷◌, length, Float}
 use Rattle.params.specs.Limits.{keypoint_words}
 use Rattle.params.specs.Table.{line, first_fault, all_good}
-use Rattle.params.specs.Answers.{answer_of}
-use Rattle.params.specs.declared.Answer.{Answer}
+use Rattle.params.specs.Answers.{Answer, answer_of}
 use Rattle.detect_keypoint.specs.declared.RawKeypoint.{RawKeypoint}
 
 -- the check of rule A3 that reads the samples

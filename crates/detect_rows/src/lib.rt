@@ -1,7 +1,7 @@
 // What a row of cells gives, as words, written as far as there is room.
 #![tactic(auto)]
 
-ghost use Rattle.std.specs.Prelude.{◌≡◌, ◌+◌, ◌-◌, ◌*◌, ◌^◌, ◌<◌, ◌≤◌, min, length, take};
+ghost use Rattle.std.specs.Prelude.{◌≡◌, ◌+◌, ◌-◌, ◌*◌, ◌^◌, ◌<◌, ◌≤◌, min, length};
 ghost use Rattle.std.proofs.lemmas.List.Edits.{sets};
 ghost use Rattle.params.specs.Limits.{border, max_side};
 ghost use Rattle.detect_samples.specs.Rows.{span_good};
@@ -12,7 +12,8 @@ ghost use Rattle.detect_rows.specs.Forms.{run_leaves, row_leaves, again, all_aga
 
 use detect_keypoint::{Cell, Search};
 use detect_look::Run;
-use detect_words::Place;
+use detect_refine::BORDER;
+use detect_words::{Form, Place};
 use params::MAX_SIDE;
 use picture::Shape;
 
@@ -30,8 +31,8 @@ fn marked_words(dog: &[f32], t: Shape, s: Search, u: Run, p: Place, out: &mut [u
     requires along { Along t u }
     requires hi_bound { u.hi ≤ u.lo + group }
     requires from_bound { p.from < 2 ^ 39 + 2 ^ 21 }
-    ensures value { result ≡ length (run_leaves p.cells dog.now t s u.row u.lo u.hi) }
-    ensures out_after { out.new ≡ sets out.old p.from (run_leaves p.cells dog.now t s u.row u.lo u.hi) }
+    ensures value { result ≡ length (run_leaves p.form dog.now t s u.row u.lo u.hi) }
+    ensures out_after { out.new ≡ sets out.old p.from (run_leaves p.form dog.now t s u.row u.lo u.hi) }
 {
     let marks = detect_look::mark(dog, t, s, u);
     let mut n: usize = 0;
@@ -43,7 +44,7 @@ fn marked_words(dog: &[f32], t: Shape, s: Search, u: Run, p: Place, out: &mut [u
             c,
             Place {
                 from: p.from + n,
-                cells: p.cells,
+                ..p
             },
             out,
         );
@@ -57,8 +58,8 @@ fn group_words(dog: &[f32], t: Shape, s: Search, u: Run, p: Place, out: &mut [u3
     requires along { Along t u }
     requires hi_bound { u.hi ≤ u.lo + group }
     requires from_bound { p.from < 2 ^ 39 + 2 ^ 21 }
-    ensures value { result ≡ length (run_leaves p.cells dog.now t s u.row u.lo u.hi) }
-    ensures out_after { out.new ≡ sets out.old p.from (run_leaves p.cells dog.now t s u.row u.lo u.hi) }
+    ensures value { result ≡ length (run_leaves p.form dog.now t s u.row u.lo u.hi) }
+    ensures out_after { out.new ≡ sets out.old p.from (run_leaves p.form dog.now t s u.row u.lo u.hi) }
 {
     if !detect_look::any_hint(dog, t, s, u) {
         return 0;
@@ -71,7 +72,7 @@ pub fn run_end(c: usize, end: usize, most: usize) -> usize
     requires { (c < end) × (0 < most) }
     ensures { (result ≡ min (c + most) end) × (c < result) × (result ≤ end) × (result ≤ c + most) }
 {
-    if end - c > most { c + most } else { end }
+    c + most.min(end - c)
 }
 
 // Finds the keypoints of a block of cells, group by group, and none where no cell of it is loud.
@@ -79,32 +80,26 @@ pub fn block_words(dog: &[f32], t: Shape, s: Search, u: Run, p: Place, out: &mut
     requires searched { Searched (length dog.now) t s }
     requires along { Along t u }
     requires from_bound { p.from < 2 ^ 39 + 2 ^ 20 }
-    ensures value { result ≡ length (run_leaves p.cells dog.now t s u.row u.lo u.hi) }
-    ensures out_after { out.new ≡ sets out.old p.from (run_leaves p.cells dog.now t s u.row u.lo u.hi) }
+    ensures value { result ≡ length (run_leaves p.form dog.now t s u.row u.lo u.hi) }
+    ensures out_after { out.new ≡ sets out.old p.from (run_leaves p.form dog.now t s u.row u.lo u.hi) }
 {
     if !detect_look::any_loud(dog, t, s, u) {
         return 0;
     }
     let mut n: usize = 0;
-    let mut c = u.lo;
-    while c < u.hi {
-        let to = run_end(c, u.hi, detect_look::GROUP);
+    for lo in (u.lo..u.hi).step_by(detect_look::GROUP) {
+        let hi = run_end(lo, u.hi, detect_look::GROUP);
         n += group_words(
             dog,
             t,
             s,
-            Run {
-                row: u.row,
-                lo: c,
-                hi: to,
-            },
+            Run { row: u.row, lo, hi },
             Place {
                 from: p.from + n,
-                cells: p.cells,
+                ..p
             },
             out,
         );
-        c = to;
     }
     n
 }
@@ -116,36 +111,30 @@ pub fn row_words(dog: &[f32], t: Shape, s: Search, r: usize, p: Place, out: &mut
     requires searched { Searched (length dog.now) t s }
     requires border_bound { (2 * border < t.width) × (border ≤ r) × (r < t.height - border) }
     requires from_bound { p.from < 2 ^ 39 }
-    ensures words_value { result.words ≡ length (row_leaves p.cells dog.now t s r) }
+    ensures words_value { result.words ≡ length (row_leaves p.form dog.now t s r) }
     ensures good_value { result.good ≡ span_good t (r + 1) 0 t.width dog.now }
-    ensures out_after { out.new ≡ sets out.old p.from (row_leaves p.cells dog.now t s r) }
+    ensures out_after { out.new ≡ sets out.old p.from (row_leaves p.form dog.now t s r) }
 {
     let below = r + 1;
-    let end = t.width - detect_refine::BORDER;
+    let end = t.width - BORDER;
     let mut n: usize = 0;
-    let mut c = detect_refine::BORDER;
-    let mut ok = detect_samples::span_good(dog, t, below, 0, c);
-    while c < end {
-        let to = run_end(c, end, detect_look::BLOCK);
-        ok = ok & detect_samples::span_good(dog, t, below, c, to);
+    let mut ok = detect_samples::span_good(dog, t, below, 0, BORDER);
+    for lo in (BORDER..end).step_by(detect_look::BLOCK) {
+        let hi = run_end(lo, end, detect_look::BLOCK);
+        ok &= detect_samples::span_good(dog, t, below, lo, hi);
         n += block_words(
             dog,
             t,
             s,
-            Run {
-                row: r,
-                lo: c,
-                hi: to,
-            },
+            Run { row: r, lo, hi },
             Place {
                 from: p.from + n,
-                cells: p.cells,
+                ..p
             },
             out,
         );
-        c = to;
     }
-    ok = ok & detect_samples::span_good(dog, t, below, end, t.width);
+    ok &= detect_samples::span_good(dog, t, below, end, t.width);
     Row { words: n, good: ok }
 }
 
@@ -159,37 +148,28 @@ fn refined(dog: &[f32], t: Shape, s: Search, w: u32, from: usize, out: &mut [u32
 {
     let r = w as usize / MAX_SIDE;
     let c = w as usize % MAX_SIDE;
-    let x = detect_refine::refine(
-        dog,
-        t,
-        s,
-        Cell {
-            p: s.layer,
-            r: r,
-            c: c,
-        },
-    );
+    let x = detect_refine::refine(dog, t, s, Cell { p: s.layer, r, c });
     detect_words::leave(
         x,
         r,
         c,
         Place {
-            from: from,
-            cells: false,
+            from,
+            form: Form::KeypointWords,
         },
         out,
     )
 }
 
-// Refines the cells of the first k words of `hold` again, and writes the words that they give, as far as there is room.
-pub fn refined_words(dog: &[f32], t: Shape, s: Search, hold: &[u32], k: usize, out: &mut [u32])
+// Refines the cells of the words of `hold` again, and writes the words that they give, as far as there is room.
+pub fn refined_words(dog: &[f32], t: Shape, s: Search, hold: &[u32], out: &mut [u32])
     requires searched { Searched (length dog.now) t s }
-    requires k_in_bounds { (k ≤ length hold.now) × (k ≤ max_side * max_side) }
-    requires cells { Cells t s k hold.now }
-    ensures { out.new ≡ sets out.old 0 (all_again dog.now t s (take k hold.now)) }
+    requires few { length hold.now ≤ max_side * max_side }
+    requires cells { Cells t s hold.now }
+    ensures { out.new ≡ sets out.old 0 (all_again dog.now t s hold.now) }
 {
     let mut n: usize = 0;
-    for i in 0..k {
-        n += refined(dog, t, s, hold[i], n, out);
+    for word in hold {
+        n += refined(dog, t, s, *word, n, out);
     }
 }

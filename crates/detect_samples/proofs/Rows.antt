@@ -1,18 +1,22 @@
 -- Rows of a stack, good in every plane: one row more, and that all rows are all samples. Assumes nothing.
-use Prim.Native.Nat.{ℕ, suc, ◌+◌, ◌-◌, ◌*◌, ◌/◌, ◌%◌, ◌<◌, ◌≤◌}
-use mathlib.Core.Path.{◌≡◌, refl, sym, ◌∙◌}
+use Prim.Native.Nat.{ℕ, zero, suc, ◌+◌, ◌-◌, ◌*◌, ◌/◌, ◌%◌, ◌<◌, ◌≤◌}
+use mathlib.Core.Path.{◌≡◌, refl, sym, ap, ◌∙◌}
 use mathlib.Core.Bool.{Bool, true, false}
 use mathlib.Core.Logic.{⊎_elim}
-use mathlib.Core.List.{List, [], ◌∷◌}
+use mathlib.Core.List.{List, [], ◌∷◌, ◌++◌, map}
 use native.Mathlib.Nat.{div-add-mod', div-lt_iff_lt-mul, mod-lt}
+use native.Mathlib.Numerals.{add-one}
 use native.Mathlib.Omega.{arith}
+use Rattle.std.specs.List.{list_all, range_with_len}
+use Rattle.std.proofs.lemmas.List.FromFn.{map-range_with_len_more}
+use Rattle.std.proofs.lemmas.List.Folds.{list_all-map, list_all-append}
 use lib.ListN.{length, get_or, take, drop, take-append-drop}
 use lib.Seq.{length-take-le}
 use lib.Ieee.{Float, nan}
 use Rattle.lists.specs.Ranges.{every}
-use Rattle.lists.proofs.Bools.{and_left, and_right, both_and, both_ways}
+use Rattle.lists.proofs.Bools.{and_true, and_left, and_right, both_and, both_ways}
 use Rattle.lists.proofs.Naturals.{le_or_lt}
-use Rattle.lists.proofs.Every.{every_none, every_more, every_to, every_stop, every_all, all_every}
+use Rattle.lists.proofs.Every.{every_none, every_more, every_to, every_all, all_every}
 use Rattle.params.specs.Table.{good_sample, all_good}
 use Rattle.picture.specs.declared.Shape.{Shape}
 use Rattle.samples.specs.Samples.{good_from}
@@ -50,7 +54,7 @@ module _ (d : List Float) (t : Shape) (whole : length d ≡ t.planes * t.height 
       go true g = sym (span_of r l g) ∙ e
       go false g = refl
 
-  rows_of : (a b : ℕ) → b ≤ t.height → all_good d ≡ true → rows_good t a b d ≡ true
+  pub rows_of : (a b : ℕ) → b ≤ t.height → all_good d ≡ true → rows_good t a b d ≡ true
   unfolding rows_good
   rows_of a b l e = all_every (b - a) _ (λ i h. span_of (a + i) (omega arith) e)
 
@@ -82,12 +86,17 @@ module _ (d : List Float) (t : Shape) (a : ℕ) where
   pub rows_none : rows a ≡ true
   rows_none = every_to _ (omega arith) ∙ every_none _
 
-  module _ (r : ℕ) (on : a ≤ r) (b : Bool) (is : b ≡ span_good t r 0 t.width d) where
-    this : b ≡ span_good t (a + (r - a)) 0 t.width d
-    this = let z : a + (r - a) ≡ r = omega arith in rw z is
+  pub rows_more : (r : ℕ) → a ≤ r → (b : Bool) → b ≡ span_good t r 0 t.width d → b ≡ true → rows r ≡ true → rows (r + 1) ≡ true
+  rows_more r on b is e k =
+      let z : a + (r - a) ≡ r = omega arith in
+      every_to {n = r + 1 - a} {m = r - a + 1} _ (omega arith) ∙ every_more (r - a) _ k (rw z (sym is ∙ e))
 
-    pub rows_more : b ≡ true → rows r ≡ true → rows (r + 1) ≡ true
-    rows_more e k = every_to {n = r + 1 - a} {m = r - a + 1} _ (omega arith) ∙ every_more (r - a) _ k (sym this ∙ e)
-
-    pub rows_stop : (past : ℕ) → r < past → b ≡ false → false ≡ rows past
-    rows_stop past l e = sym (every_stop (past - a) (r - a) _ (omega arith) (sym this ∙ e))
+-- ---- the numbers from one on, tested in turn
+pub every_range : (test : ℕ → Bool) (a n : ℕ) → list_all test (range_with_len a n) ≡ every n (λ i. test (a + i))
+unfolding every
+every_range test a zero = refl
+every_range test a (suc n) =
+    let id : Bool → Bool = λ b. b in
+    let e : map test (range_with_len a (suc n)) ≡ map test (range_with_len a n) ++ (test (a + n) ∷ []) = rw (add-one n) at (map-range_with_len_more test a n (a + n) refl) in
+    sym (list_all-map id test (range_with_len a (suc n))) ∙ ap (λ l. list_all id l) e ∙ list_all-append id (map test (range_with_len a n)) (test (a + n) ∷ [])
+    ∙ rw (list_all-map id test (range_with_len a n), and_true, every_range test a n) refl

@@ -16,7 +16,7 @@ fn column_good(d: &[f32], t: Shape, r: usize, c: usize) -> bool
 {
     let mut ok = true;
     for p in 0..USUAL {
-        ok = ok & samples::good_sample(d[p * (t.height * t.width) + r * t.width + c]);
+        ok &= samples::good_sample(d[p * (t.height * t.width) + r * t.width + c]);
     }
     ok
 }
@@ -28,7 +28,7 @@ fn columns_good(d: &[f32], t: Shape, r: usize, lo: usize, hi: usize) -> bool
 {
     let mut ok = true;
     for c in lo..hi {
-        ok = ok & column_good(d, t, r, c);
+        ok &= column_good(d, t, r, c);
     }
     ok
 }
@@ -44,7 +44,7 @@ pub fn span_good(d: &[f32], t: Shape, r: usize, lo: usize, hi: usize) -> bool
     let mut ok = true;
     for p in 0..t.planes {
         let from = p * (t.height * t.width) + r * t.width;
-        ok = ok & samples::block_good(d, from + lo, from + hi);
+        ok &= samples::block_good(d, from + lo, from + hi);
     }
     ok
 }
@@ -54,10 +54,5 @@ pub fn rows_good(d: &[f32], t: Shape, a: usize, b: usize) -> bool
     requires { (length d.now ≡ t.planes * t.height * t.width) × ((a ≤ b) × (b ≤ t.height)) }
     ensures { result ≡ rows_good t a b d.now }
 {
-    for r in a..b {
-        if !span_good(d, t, r, 0, t.width) {
-            return false;
-        }
-    }
-    true
+    (a..b).all(|r| span_good(d, t, r, 0, t.width))
 }

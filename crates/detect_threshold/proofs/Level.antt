@@ -1,11 +1,13 @@
 -- The bounds of the level and of the threshold, of a contrast and layers that the table accepts. Assumes nothing.
-use Rattle.std.proofs.Common.{◌≡◌, ℕ, ◌≤◌, true, false, pos, refl}
-use lib.Ieee.{Float, fin, binary32, binary64, of_bits, of_int, mul, div, lt, le}
+use Rattle.std.proofs.Common.{◌≡◌, ℕ, ◌+◌, ◌-◌, ◌*◌, ◌≤◌, arith, true, false, pos, refl}
+use Rattle.std.specs.Float as Lib
+use Rattle.std.specs.Float.{round_with}
+use lib.Ieee.Fits.{down_pos}
+use lib.Ieee.{Float, Format, nan, inf, fin, binary32, binary64, up, down, of_bits, of_int, mul, div, le}
 use Rattle.ieee.specs.Fused.{convert}
 use Rattle.ieee.specs.Whole.{floor}
 use Rattle.ieee.specs.F32.{f32}
 use Rattle.ieee.specs.Numbers.{nought}
-use Rattle.ieee_laws.proofs.Order.{le_lt_trans}
 use Rattle.ieee_laws.proofs.Monotone.{nil}
 use Rattle.ieee_laws.proofs.Bounds.{Bounds, bounds_point, mul_bounds, mul_bounds_by, div_bounds, floor_bounds, convert_bounds, of_int_bounds}
 use Rattle.params.specs.Limits.{max_layers, contrast_low, contrast_high}
@@ -22,18 +24,25 @@ module _ (contrast : Float) (right : contrast_wrong contrast ≡ false) (layers 
   level = level_of contrast layers
 
   pub level_bounds : Bounds nil most level
-  unfolding of_bits mul div of_int lt le
+  unfolding of_bits mul div of_int le
   level_bounds =
       mul_bounds_by binary64 {a = nil} {b = half64} full64 refl refl refl refl
       (div_bounds binary64 {a = nil} {b = half64} {c = of_int binary64 (pos 1)} {d = of_int binary64 (pos 15)} refl refl refl refl
       (mul_bounds binary64 {a = half64} {b = half64} {c = contrast_low} {d = contrast_high} refl refl refl refl (bounds_point half64 refl) (contrast_bounds contrast right))
       (of_int_bounds binary64 1 15 layers refl refl some few))
 
-  pub level_below : lt level (fin false 1 (pos 64)) ≡ true
-  unfolding of_bits lt
-  level_below = le_lt_trans level most (fin false 1 (pos 64)) level_bounds.high refl
-
   -- the threshold lies in 0 to 127
   pub threshold_bounds : Bounds nought (f32 0x42fe_0000) (threshold_of contrast layers)
   unfolding threshold_of of_bits floor convert
   threshold_bounds = convert_bounds binary32 {a = nil} {b = of_bits binary64 0x405f_c000_0000_0000} refl refl (floor_bounds binary64 {a = nil} {b = most} refl refl level_bounds)
+
+-- the library's floor is the rule's
+pub floor_is : (f : Format) (x : Float) → Lib.floor f x ≡ floor f x
+unfolding floor round_with
+floor_is f nan = refl
+floor_is f (inf s) = refl
+floor_is f (fin false m e) = refl
+floor_is f (fin true m e) =
+    let d = down_pos e in
+    let n : m * up e + down e - 1 ≡ m * up e + (down e - 1) = omega arith in
+    rw n refl

@@ -1,5 +1,5 @@
 -- The threshold of detection, rule D1. Definitions only.
-use Rattle.std.specs.Prelude.{ℕ, ◌||◌, [], ◌∷◌, pos, ◌==◌, from_bits, nat_lt, Float}
+use Rattle.std.specs.Prelude.{ℕ, ◌||◌, [], ◌∷◌, pos, ◌==◌, from_bits, nat_lt, Result, Ok, Err, Float}
 use Rattle.std.specs.Float.{binary64}
 use Rattle.std.specs.Float.Ieee.{of_int, mul, div}
 use Rattle.ieee.specs.F32.{narrowed}
@@ -7,9 +7,8 @@ use Rattle.ieee.specs.Whole.{floor}
 use Rattle.ieee.specs.Numbers.{nought}
 use Rattle.params.specs.Limits.{max_layers}
 use Rattle.params.specs.Table.{line, first_fault, contrast_wrong}
-use Rattle.params.specs.Answers.{on_fault}
-use Rattle.detect_threshold.specs.declared.Threshold.{Threshold}
-use Rattle.detect_threshold.specs.declared.Threshold.TheVariants.{Given, Refused}
+use Rattle.params.specs.Answers.{on_fault, refusal_number}
+use Rattle.params.specs.declared.Refusal.{Refusal}
 
 -- 0.5 and 255, as f64s
 abbrev pub half64 : Float
@@ -25,6 +24,16 @@ level_of contrast layers = mul binary64 (div binary64 (mul binary64 half64 contr
 -- its floor, as f32
 unfoldable pub threshold_of : Float → ℕ → Float
 threshold_of contrast layers = narrowed (floor binary64 (level_of contrast layers))
+
+-- What the threshold's entry answers: the threshold, or a refusal by the number of rule A2.
+pub data Threshold : Type 0 where
+  Given : Float → Threshold
+  Refused : ℕ → Threshold
+
+-- what a result of the code says in these words
+abbrev pub threshold_told : Result Float Refusal → Threshold
+threshold_told (Ok x) = Given x
+threshold_told (Err r) = Refused (refusal_number r)
 
 -- the threshold's own refusals: 2 for the layers, 4 for the contrast
 unfoldable pub threshold_fault : Float → ℕ → ℕ

@@ -1,22 +1,17 @@
 use Prim.Native.Nat.{◌+◌, ◌-◌, ◌<◌}
-use mathlib.Core.Path.{◌≡◌, refl, sym, ap, ◌∙◌}
+use mathlib.Core.Path.{◌≡◌, sym, ap, ◌∙◌}
 use native.Mathlib.Omega.{arith}
-use Rattle.lists.proofs.Every.{every_none, every_more, every_stop}
+use Rattle.lists.proofs.Every.{every_more, every_stop}
 use Rattle.picture.specs.Stack.{sample}
 use Rattle.detect_extrema.specs.Neighbours.{tied, keeps_over, is_extremum}
 use lib.ListN.{length}
 use lib.Ieee.{Float}
 use Rattle.ieee.specs.F32.{◌<ᶠ◌}
 use Rattle.ieee.specs.Numbers.{nought}
-use Rattle.picture.proofs.Index.{Index}
-use Rattle.detect_extrema.proofs.Near.{along, corner_index, plane_below, near_below, near_sample}
+use Rattle.detect_extrema.proofs.Near.{along, near_below, near_sample}
 use Rattle.detect_extrema.proofs.Cells.{pass_centre, pass_kept, pass_none, kept_as}
 use Rattle.detect_extrema.proofs.stands.Goals as goal
-use Rattle.detect_extrema.proofs.stands.Goals.{Start, In-loop-k, After-keeps}
-
--- no step of working out the corner's index wraps
-edge : (c : Start) → let a = c.args in Index (length a.dog.now) a.t.width a.t.height (a.p - 1) (a.r - 1) (a.c - 1)
-edge c = corner_index c.requires.around
+use Rattle.detect_extrema.proofs.stands.Goals.{In-loop-k, After-keeps}
 
 -- the neighbour that is read lies in the list
 reach : (c : In-loop-k) →
@@ -24,44 +19,17 @@ reach : (c : In-loop-k) →
     along a.t.width a.t.height (a.p - 1) (a.r - 1) (a.c - 1) c.nb.i c.loop-j.j c.loop-k.k < length a.dog.now
 reach c = near_below c.requires.around _ _ _ c.nb-test.true c.loop-j-test.true c.loop-k-test.true
 
-pub overflow_mul-plane : goal.overflow_mul-plane
-overflow_mul-plane c = omega (arith, plane_below c.requires.around)
-
-pub overflow_mul-first : goal.overflow_mul-first
-overflow_mul-first c = let q = edge (goal.at.overflow_mul-first c).Start in omega (arith, q.low, q.mid, q.below)
-
-pub overflow_add-first : goal.overflow_add-first
-overflow_add-first c = let q = edge (goal.at.overflow_add-first c).Start in omega (arith, q.low, q.mid, q.below)
-
-pub overflow_mul-first-2 : goal.overflow_mul-first-2
-overflow_mul-first-2 c = let q = edge (goal.at.overflow_mul-first-2 c).Start in omega (arith, q.low, q.mid, q.below)
-
-pub overflow_add-first-2 : goal.overflow_add-first-2
-overflow_add-first-2 c = let q = edge (goal.at.overflow_add-first-2 c).Start in omega (arith, q.low, q.mid, q.below)
-
-pub nb-init : goal.nb-init
-nb-init c = (omega arith, refl, every_none _)
-
-pub loop-j-init : goal.loop-j-init
-loop-j-init c = (omega arith, c.nb.invariant.1, every_none _)
-
-pub loop-k-init : goal.loop-k-init
-loop-k-init c = (omega arith, c.loop-j.invariant.1, every_none _)
-
 pub loop-k-preserved-then-is_centre : goal.loop-k-preserved-then-is_centre
 loop-k-preserved-then-is_centre c =
     let l = c.loop-k in
     let e = sym c.is_centre.ensures ∙ c.if-is_centre.true in
-    (omega arith, l.invariant.1, every_more _ _ l.invariant.2 (pass_centre _ _ _ _ _ _ _ _ e))
+    (l.invariant.0, every_more _ _ l.invariant.1 (pass_centre _ _ _ _ _ _ _ _ e))
 
 pub overflow_mul-other : goal.overflow_mul-other
 overflow_mul-other c = omega (arith, reach (goal.at.overflow_mul-other c).In-loop-k)
 
 pub overflow_add-other : goal.overflow_add-other
 overflow_add-other c = omega (arith, reach (goal.at.overflow_add-other c).In-loop-k)
-
-pub overflow_mul-other-in-loop-k : goal.overflow_mul-other-in-loop-k
-overflow_mul-other-in-loop-k c = omega (arith, reach (goal.at.overflow_mul-other-in-loop-k c).In-loop-k)
 
 pub overflow_add-other-in-loop-k : goal.overflow_add-other-in-loop-k
 overflow_add-other-in-loop-k c = omega (arith, reach (goal.at.overflow_add-other-in-loop-k c).In-loop-k)
@@ -90,25 +58,19 @@ compared c =
 pub loop-k-preserved : goal.loop-k-preserved
 loop-k-preserved c =
     let l = c.loop-k in
-    (omega arith, l.invariant.1, every_more _ _ l.invariant.2 (pass_kept _ _ _ _ _ _ _ _ (compared (goal.at.loop-k-preserved c).After-keeps ∙ c.if-not-keeps.false)))
+    (l.invariant.0, every_more _ _ l.invariant.1 (pass_kept _ _ _ _ _ _ _ _ (compared (goal.at.loop-k-preserved c).After-keeps ∙ c.if-not-keeps.false)))
 
 pub loop-j-preserved : goal.loop-j-preserved
 loop-j-preserved c =
     let l = c.loop-j in
     let e : c.loop-k.k ≡ 3 = omega arith in
-    (omega arith, c.loop-k.invariant.1, every_more _ _ l.invariant.2 (rw e at c.loop-k.invariant.2))
+    (c.loop-k.invariant.0, every_more _ _ l.invariant.1 (rw e at c.loop-k.invariant.1))
 
 pub nb-preserved : goal.nb-preserved
 nb-preserved c =
     let l = c.nb in
     let e : c.loop-j.j ≡ 3 = omega arith in
-    (omega arith, c.loop-j.invariant.1, every_more _ _ l.invariant.2 (rw e at c.loop-j.invariant.2))
-
-pub returns-after-nb : goal.returns-after-nb
-unfolding is_extremum
-returns-after-nb c =
-    let e : c.nb.i ≡ 3 = omega arith in
-    c.nb.invariant.1 ∙ sym (rw e at c.nb.invariant.2)
+    (c.loop-j.invariant.0, every_more _ _ l.invariant.1 (rw e at c.loop-j.invariant.1))
 
 pub returns-then-not-keeps : goal.returns-then-not-keeps
 unfolding is_extremum

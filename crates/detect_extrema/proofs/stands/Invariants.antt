@@ -1,4 +1,3 @@
-use Prim.Native.Nat.{◌-◌, ◌≤◌}
 use mathlib.Core.Path.{◌≡◌}
 use mathlib.Core.Bool.{true}
 use Rattle.lists.specs.Ranges.{every}
@@ -7,21 +6,12 @@ use Rattle.detect_extrema.proofs.stands.Given as goal
 
 abbrev pub invariant-loop-k : goal.invariant-loop-k
 invariant-loop-k l =
-    (l.k ≤ 3) × (l.ok ≡ true) × (every l.k (λ k. passes tied l.dog l.t l.p l.r l.c l.i l.j k) ≡ true)
-
-abbrev pub decreases-loop-k : goal.decreases-loop-k
-decreases-loop-k l = 3 - l.k
+    (l.ok ≡ true) × (every l.k (λ k. passes tied l.dog l.t l.p l.r l.c l.i l.j k) ≡ true)
 
 abbrev pub invariant-loop-j : goal.invariant-loop-j
 invariant-loop-j l =
-    (l.j ≤ 3) × (l.ok ≡ true) × (every l.j (λ j. every 3 (λ k. passes tied l.dog l.t l.p l.r l.c l.i j k)) ≡ true)
-
-abbrev pub decreases-loop-j : goal.decreases-loop-j
-decreases-loop-j l = 3 - l.j
+    (l.ok ≡ true) × (every l.j (λ j. every 3 (λ k. passes tied l.dog l.t l.p l.r l.c l.i j k)) ≡ true)
 
 abbrev pub invariant-nb : goal.invariant-nb
 invariant-nb l =
-    (l.i ≤ 3) × (l.ok ≡ true) × (every l.i (λ i. every 3 (λ j. every 3 (λ k. passes tied l.dog l.t l.p l.r l.c i j k))) ≡ true)
-
-abbrev pub decreases-nb : goal.decreases-nb
-decreases-nb l = 3 - l.i
+    (l.ok ≡ true) × (every l.i (λ i. every 3 (λ j. every 3 (λ k. passes tied l.dog l.t l.p l.r l.c i j k))) ≡ true)

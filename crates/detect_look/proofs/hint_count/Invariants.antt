@@ -1,12 +1,7 @@
-use Prim.Native.Nat.{◌≤◌, ◌-◌}
 use mathlib.Core.Path.{◌≡◌}
 use lib.ListN.{length}
 use Rattle.detect_look.specs.Hints.{hinted}
 use Rattle.detect_look.proofs.hint_count.Given as goal
 
 abbrev pub invariant-loop-c : goal.invariant-loop-c
-invariant-loop-c l =
-    (l.u.lo ≤ l.c) × (l.c ≤ l.u.hi) × (l.c-end ≡ l.u.hi) × (l.n ≡ length (hinted l.dog l.t l.s l.u.row l.u.lo l.c))
-
-abbrev pub decreases-loop-c : goal.decreases-loop-c
-decreases-loop-c l = l.u.hi - l.c
+invariant-loop-c l = l.n ≡ length (hinted l.dog l.t l.s l.u.row l.u.lo l.c)

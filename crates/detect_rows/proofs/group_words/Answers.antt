@@ -8,5 +8,5 @@ pub returns-then-not-any_hint : goal.returns-then-not-any_hint
 returns-then-not-any_hint c =
     let w = let a = c.args in
     let q = unseen_cells a.dog.now a.t a.s a.u.row a.u.lo a.u.hi (sym c.any_hint.ensures ∙ c.if-not-any_hint.true) in
-    filled_none _ _ a.p.from (run_quiet a.dog.now a.t a.s a.p.cells a.u.row a.u.lo a.u.hi q) in
+    filled_none _ _ a.p.from (run_quiet a.dog.now a.t a.s a.p.form a.u.row a.u.lo a.u.hi q) in
     record { value = w.0; out_after = w.1 }

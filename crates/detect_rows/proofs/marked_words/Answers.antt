@@ -1,5 +1,5 @@
 use Prim.Native.Nat.{ℕ, ◌*◌, ◌≤◌, ◌-◌}
-use mathlib.Core.Path.{◌≡◌, refl, ap, ◌∙◌}
+use mathlib.Core.Path.{◌≡◌, ap, ◌∙◌}
 use mathlib.Core.List.{List}
 use native.Mathlib.Omega.{arith}
 use lib.ListN.{length}
@@ -19,16 +19,15 @@ use Rattle.detect_rows.proofs.marked_words.Goals.{At-loop-c}
 bounded : (c : At-loop-c) → let u = c.args.u in c.loop-c.n ≤ keypoint_words * (c.loop-c.c - u.lo)
 bounded c =
     let a = c.args in
-    omega (arith, run_bound a.dog.now a.t a.s a.p.cells a.u.row a.u.lo c.loop-c.c, c.loop-c.invariant.3.0)
+    omega (arith, run_bound a.dog.now a.t a.s a.p.form a.u.row a.u.lo c.loop-c.c, c.loop-c.invariant.0)
 
 pub loop-c-init : goal.loop-c-init
-loop-c-init c = (omega arith, omega arith, refl, filled_none _ _ _ (joined_start _ _))
+loop-c-init c = filled_none _ _ _ (joined_start _ _)
 
 pub seen-x-requires-clause-mark_value : goal.seen-x-requires-clause-mark_value
 seen-x-requires-clause-mark_value c =
-    let l = c.loop-c in
     let a = c.args in
-    marks_read a.dog.now a.t a.s a.u _ (omega arith) c.mark-marks.ensures l.c l.invariant.0 (omega arith)
+    marks_read a.dog.now a.t a.s a.u _ (omega arith) c.mark-marks.ensures c.loop-c.c (omega arith) (omega arith)
 
 pub overflow_add-p : goal.overflow_add-p
 overflow_add-p c = omega (arith, bounded (goal.at.overflow_add-p c).At-loop-c)
@@ -40,24 +39,22 @@ pub overflow_add-n : goal.overflow_add-n
 overflow_add-n c =
     let b = (goal.at.overflow_add-n c).At-loop-c in
     let a = b.args in
-    let e = c.seen-x.ensures in
-    let g = rw e at c.leave-n.ensures.value in
-    omega (arith, bounded b, g, cell_bound a.dog.now a.t a.s a.p.cells a.u.row b.loop-c.c)
+    let g = rw c.seen-x.ensures at c.leave-n.ensures.value in
+    omega (arith, bounded b, g, cell_bound a.dog.now a.t a.s a.p.form a.u.row b.loop-c.c)
 
 pub loop-c-preserved : goal.loop-c-preserved
 loop-c-preserved c =
     let l = c.loop-c in
     let a = c.args in
     let e = c.seen-x.ensures in
-    let f : ℕ → List ℕ = λ i. leaves a.p.cells a.u.row i (found tied a.dog.now a.t a.s a.u.row i) in
-    (omega arith, omega arith, refl, filled_part _ a.p.from a.u.lo l.c f _ _ _ _ l.invariant.0 l.invariant.3 (rw e at c.leave-n.ensures.value, rw e at c.leave-n.ensures.out_after))
+    let f : ℕ → List ℕ = λ i. leaves a.p.form a.u.row i (found tied a.dog.now a.t a.s a.u.row i) in
+    filled_part _ a.p.from a.u.lo l.c f _ _ _ _ (omega arith) l.invariant (rw e at c.leave-n.ensures.value, rw e at c.leave-n.ensures.out_after)
 
 pub shape_of-out : goal.shape_of-out
-shape_of-out c = ap length c.loop-c.invariant.3.1 ∙ simp length-sets
+shape_of-out c = ap length c.loop-c.invariant.1 ∙ simp length-sets
 
 pub returns : goal.returns
 returns c =
-    let w = let l = c.loop-c in
-    let e : l.c ≡ c.args.u.hi = omega arith in
-    rw e at l.invariant.3 in
+    let e : c.loop-c.c ≡ c.args.u.hi = omega arith in
+    let w = rw e at c.loop-c.invariant in
     record { value = w.0; out_after = w.1 }

@@ -1,12 +1,8 @@
-use Prim.Native.Nat.{◌≤◌, ◌+◌, ◌-◌}
+use Prim.Native.Nat.{◌+◌}
 use mathlib.Core.Path.{◌≡◌}
 use Rattle.lists.specs.Ranges.{every}
-use Rattle.detect_samples.specs.Rows.{usual}
 use Rattle.detect_samples.proofs.Spans.{span_in}
 use Rattle.detect_samples.proofs.column_good.Given as goal
 
 abbrev pub invariant-loop-p : goal.invariant-loop-p
-invariant-loop-p l = (l.p ≤ usual) × (l.ok ≡ every l.p (span_in l.t l.r l.c (l.c + 1) l.d))
-
-abbrev pub decreases-loop-p : goal.decreases-loop-p
-decreases-loop-p l = usual - l.p
+invariant-loop-p l = l.ok ≡ every l.p (span_in l.t l.r l.c (l.c + 1) l.d)

@@ -1,24 +1,14 @@
-use mathlib.Core.Path.{◌≡◌, sym}
-use native.Mathlib.Omega.{arith}
-use Rattle.detect_samples.specs.Rows.{rows_good}
-use Rattle.detect_samples.proofs.Rows.{rows_none, rows_more, rows_stop}
+use mathlib.Core.Path.{◌∙◌, refl}
+use Rattle.std.proofs.Common.{rules}
+use Rattle.std.proofs.lemmas.Iterator.{YieldsList-from_range}
+use Rattle.std.proofs.lemmas.Iterator.Search.{all_from_yields_List}
+use Rattle.detect_samples.specs.Rows.{span_good, rows_good}
+use Rattle.detect_samples.proofs.Rows.{every_range}
 use Rattle.detect_samples.proofs.rows_good.Goals as goal
-
-pub loop-r-init : goal.loop-r-init
-loop-r-init c = (omega arith, omega arith, rows_none _ _ _)
-
-pub returns-then-not-span_good : goal.returns-then-not-span_good
-unfolding rows_good
-returns-then-not-span_good c = rows_stop _ _ _ _ c.loop-r.invariant.0 _ c.span_good.ensures _ c.loop-r-test.true c.if-not-span_good.true
-
-pub loop-r-preserved : goal.loop-r-preserved
-loop-r-preserved c =
-    let l = c.loop-r in
-    (omega arith, omega arith, rows_more _ _ _ _ l.invariant.0 _ c.span_good.ensures c.if-not-span_good.false l.invariant.2)
 
 pub returns : goal.returns
 unfolding rows_good
 returns c =
-    let l = c.loop-r in
-    let e : l.r ≡ c.args.b = omega arith in
-    sym (rw e at l.invariant.2)
+    let a = c.args in
+    all_from_yields_List (λ r. span_good a.t r 0 a.t.width a.d.now) _ _ _ c.all.ensures.ran (YieldsList-from_range a.a a.b _ refl refl) (λ x b q k. search rules)
+    ∙ every_range _ a.a _

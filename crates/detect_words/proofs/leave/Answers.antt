@@ -1,18 +1,17 @@
-use Rattle.detect_words.proofs.Leaves.{left_dropped, left_cell, left_words}
+use mathlib.Core.Path.{◌∙◌}
+use Rattle.detect_words.proofs.Leaves.{leaves_none, leaves_one}
 use Rattle.detect_words.proofs.leave.Goals as goal
 
-pub returns-in_default : goal.returns-in_default
-returns-in_default c =
-    let w = let a = c.args in
-    left_dropped a.p.cells a.r a.c _ _ a.p.from c.in_default.is in
-    record { value = w.0; out_after = w.1 }
+pub returns-in_default-clause-value : goal.returns-in_default-clause-value
+returns-in_default-clause-value c = rw (c.in_default.is, leaves_none)
 
-pub returns-then-p : goal.returns-then-p
-returns-then-p c =
-    let w = left_cell _ _ _ _ _ _ _ _ _ c.if-p.true c.in-At.is c.cell_word.ensures c.put_word.ensures in
-    record { value = w.0; out_after = w.1 }
+pub returns-in_default-clause-out_after : goal.returns-in_default-clause-out_after
+returns-in_default-clause-out_after c = rw (c.in_default.is, leaves_none)
 
-pub returns : goal.returns
-returns c =
-    let w = left_words _ _ _ _ _ _ _ _ c.if-p.false c.in-At.is c.put.ensures in
-    record { value = w.0; out_after = w.1 }
+pub returns-in-KeypointWords-clause-value : goal.returns-in-KeypointWords-clause-value
+returns-in-KeypointWords-clause-value c = let a = c.args in rw (c.in-KeypointWords.is, c.in-Some.is, leaves_one a.r a.c)
+
+pub returns-in-KeypointWords-clause-out_after : goal.returns-in-KeypointWords-clause-out_after
+returns-in-KeypointWords-clause-out_after c =
+    let a = c.args in
+    c.put.ensures ∙ rw (c.in-KeypointWords.is, c.in-Some.is, leaves_one a.r a.c)

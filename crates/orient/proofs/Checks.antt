@@ -1,10 +1,10 @@
--- What the checks up to 5 leave known, and the first fault step by step. Assumes nothing.
+-- What the checks leave known, and the last fault. Assumes nothing.
 use Prim.Native.Nat.{ℕ, ◌*◌, ◌≤◌}
 use mathlib.Core.Path.{◌≡◌, refl}
-use mathlib.Core.Bool.{true, false, ◌||◌}
+use mathlib.Core.Bool.{true, false}
 use mathlib.Core.List.{List}
 use native.Mathlib.Nat.{mul-le-mul}
-use borrow.Author.Tests.{ltb-true, ltb-false, not-false, eq-eqb, ne_eqb}
+use borrow.Author.Tests.{ltb-true, ltb-false, not-false, eq-eqb}
 use lib.Dec.{ltb}
 use lib.ListN.{length}
 use lib.Ieee.{Float}
@@ -43,18 +43,6 @@ unfolding octave_wrong
 octave_right_lem word e = ltb-false max_octave (octave_in word) (or_neither (ltb max_octave (octave_in word)) _ e).0
 
 module _ (s : Size) (k : RawKeypoint) where
-  pub cell_first : cell_wrong s k ≡ true → true ≡ keypoint_wrong s k
-  unfolding keypoint_wrong
-  cell_first e = rw e
-
-  pub octave_next : cell_wrong s k ≡ false → octave_wrong k.octave ≡ true → true ≡ keypoint_wrong s k
-  unfolding keypoint_wrong
-  octave_next e f = rw (e, f)
-
-  pub rest_last : cell_wrong s k ≡ false → octave_wrong k.octave ≡ false → (floats_wrong k || scale_wrong k) ≡ keypoint_wrong s k
-  unfolding keypoint_wrong
-  rest_last e f = rw (e, f)
-
   pub aimed : shape_wrong s.width s.height ≡ false → keypoint_wrong s k ≡ false → Aimed s k
   unfolding keypoint_wrong cell_wrong scale_wrong
   aimed p e =
@@ -96,34 +84,18 @@ module _ (s : Size) (k : RawKeypoint) where
     unfolding directions_of
     about_read = refl
 
-    abbrev fault : ℕ
-    fault = orient_fault img s k
-
-    pub fault_shape : shape_wrong s.width s.height ≡ true → 1 ≡ fault
-    unfolding orient_fault first_fault
-    fault_shape e = rw e
-
     module _ (shape : shape_wrong s.width s.height ≡ false) where
       pub size_small : s.height * s.width ≤ max_side * max_side
       size_small = let z = sides s shape in mul-le-mul {n₁ = s.height} {m₁ = s.width} {n₂ = max_side} {m₂ = max_side} z.1 z.0
 
-      pub fault_length : (length img ≡ s.height * s.width → ⊥) → 3 ≡ fault
-      unfolding orient_fault first_fault length_wrong
-      fault_length e = rw (shape, ne_eqb (length img) (s.height * s.width) e)
-
-      module _ (whole : length img ≡ s.height * s.width) where
-        pub fault_keypoint : keypoint_wrong s k ≡ true → 5 ≡ fault
+      module _ (whole : length img ≡ s.height * s.width) (right : keypoint_wrong s k ≡ false) where
+        pub fault_sample : window_good img (window_at s k) ≡ false → 6 ≡ orient_fault img s k
         unfolding orient_fault first_fault length_wrong
-        fault_keypoint e = rw (shape, eq-eqb (length img) (s.height * s.width) whole, e)
+        fault_sample e = rw (shape, eq-eqb (length img) (s.height * s.width) whole, right, e)
 
-        module _ (right : keypoint_wrong s k ≡ false) where
-          pub fault_sample : window_good img (window_at s k) ≡ false → 6 ≡ fault
-          unfolding orient_fault first_fault length_wrong
-          fault_sample e = rw (shape, eq-eqb (length img) (s.height * s.width) whole, right, e)
+        pub fault_none : window_good img (window_at s k) ≡ true → 0 ≡ orient_fault img s k
+        unfolding orient_fault first_fault length_wrong
+        fault_none e = rw (shape, eq-eqb (length img) (s.height * s.width) whole, right, e)
 
-          pub fault_none : window_good img (window_at s k) ≡ true → 0 ≡ fault
-          unfolding orient_fault first_fault length_wrong
-          fault_none e = rw (shape, eq-eqb (length img) (s.height * s.width) whole, right, e)
-
-          pub ready : window_good img (window_at s k) ≡ true → Ready img s k
-          ready e = record { whole = whole; aimed = aimed shape right; good = e }
+        pub ready : window_good img (window_at s k) ≡ true → Ready img s k
+        ready e = record { whole = whole; aimed = aimed shape right; good = e }

@@ -27,7 +27,7 @@ use Rattle.orient_peaks.specs.Rules.{max_peaks}
 use Rattle.orient_peaks.proofs.Rules.{peak_rule}
 use Rattle.orient_words.specs.Oriented.{oriented_of}
 use Rattle.orient_words.specs.declared.OrientedKeypoint.{OrientedKeypoint}
-use Rattle.orient_words.proofs.Words.{length_map}
+use Rattle.std.proofs.lemmas.List.{length-map}
 use Rattle.orient.specs.Keypoint.{octave_in, layer_in, cell_wrong, octave_wrong, floats_wrong, scale_of, scale_wrong, keypoint_wrong}
 use Rattle.orient.specs.Entry.{window_at, angles_at, oriented_list}
 use Rattle.orient.specs.Rules.{Passed, OrientRule}
@@ -35,7 +35,7 @@ use Rattle.orient.specs.Rules.{Passed, OrientRule}
 -- ---- number and fields
 few : (img : List Float) (s : Size) (k : RawKeypoint) → length (oriented_list img s k) ≤ max_peaks
 unfolding oriented_list angles_at
-few img s k = rw (length_map k (angles_at img s k)) (peak_rule.few _)
+few img s k = rw (length-map (angles_at img s k) (oriented_of k)) (peak_rule.few _)
 
 passed_by : (k : RawKeypoint) (a : Float) (o : OrientedKeypoint) → o ≡ oriented_of k a → Passed k o
 passed_by k a o e =

@@ -1,8 +1,7 @@
 -- What `assign_orientations` answers and leaves in the lent words (rules A16 to A19, O11 and O12). Definitions only.
 use Rattle.std.specs.Prelude.{ℕ, ◌*◌, not, List, [], ◌∷◌, map, length, Float}
 use Rattle.params.specs.Table.{line, first_fault, shape_wrong, length_wrong}
-use Rattle.params.specs.Answers.{answer_of, landed}
-use Rattle.params.specs.declared.Answer.{Answer}
+use Rattle.params.specs.Answers.{Answer, answer_of, landed}
 use Rattle.picture.specs.declared.Size.{Size}
 use Rattle.detect_keypoint.specs.declared.RawKeypoint.{RawKeypoint}
 use Rattle.orient_window.specs.Window.{window_of, cells_read}
@@ -10,9 +9,8 @@ use Rattle.orient_window.specs.Good.{window_good}
 use Rattle.orient_tally.specs.Tally.{tally_of}
 use Rattle.orient_window.specs.declared.Window.{Window}
 use Rattle.orient_peaks.specs.Peaks.{angles_of}
-use Rattle.orient_words.specs.Oriented.{oriented_of, oriented_words, words, answered_with}
+use Rattle.orient_words.specs.Oriented.{oriented_of, oriented_words, words, OrientAnswer, answered_with}
 use Rattle.orient_words.specs.declared.OrientedKeypoint.{OrientedKeypoint}
-use Rattle.orient_words.specs.declared.OrientAnswer.{OrientAnswer}
 use Rattle.orient.specs.Keypoint.{keypoint_wrong, scale_of}
 
 -- the window about a keypoint's cell

@@ -1,14 +1,11 @@
 -- Laws of runs of cells, by which the code goes over a window. Assumes nothing.
-use Prim.Native.Nat.{ℕ, ◌+◌, ◌-◌, ◌*◌, ◌/◌, ◌%◌, ◌<◌, ◌≤◌, min}
+use Prim.Native.Nat.{ℕ, ◌+◌, ◌*◌, ◌/◌, ◌%◌, ◌<◌, ◌≤◌}
 use mathlib.Core.Path.{◌≡◌, refl, sym, ap, ◌∙◌, subst}
 use mathlib.Core.List.{List}
-use mathlib.Core.Logic.{⊎_elim}
 use native.Mathlib.Nat.{div-add-mod', add-mul-div_right, mul-add-mod_self_right, mod-eq_of_lt, div-eq_of_lt, suc-mul, mul-le-mul_right}
 use native.Mathlib.Omega.{arith}
-use borrow.Author.Tests.{le-leb, lt-leb}
 use lib.Dec.{leb}
 use lib.Ieee.{Float}
-use Rattle.lists.proofs.Naturals.{le_or_lt}
 use Rattle.orient_window.specs.Window.{cell}
 use Rattle.orient_window.specs.Place.{Fits, cell_at}
 use Rattle.orient_window.specs.declared.Window.{Window}

@@ -3,9 +3,6 @@
 
 ghost use Rattle.std.specs.Prelude.{◌≡◌, ◌+◌, ◌*◌, ◌<◌, ◌≤◌};
 ghost use Rattle.params.specs.Limits.{max_side};
-ghost use Rattle.hal.specs.Powers.{pairs as pair_table};
-ghost use Rattle.hal_magnitude.specs.Cubics.{cubics as cubic_table};
-ghost use Rattle.hal_angle.specs.Turns.{turns as turn_table};
 ghost use Rattle.orient_tally.specs.Tally.{early, tally_of, gathered_of};
 ghost use Rattle.orient_tally.specs.Place.{InRange};
 ghost use Rattle.orient_gather.specs.Runs.{run_of, run_length};
@@ -25,12 +22,11 @@ fn run_at(win: Window, n: usize, k: usize) -> Run
     requires { (win.top + win.rows ≤ max_side) × ((win.left + win.cols ≤ max_side) × ((n ≡ win.rows * win.cols) × (k < n))) }
     ensures { result ≡ run_of win n k }
 {
-    let late = early_of(n) <= k;
     Run {
-        win: win,
+        win,
         y: win.top + k / win.cols,
         from: win.left + k % win.cols,
-        late: late,
+        late: early_of(n) <= k,
     }
 }
 
@@ -42,21 +38,16 @@ fn cells_at(win: Window, n: usize, k: usize) -> usize
     let early = early_of(n);
     let rest = win.cols - k % win.cols;
     if early <= k {
-        return rest;
+        rest
+    } else {
+        rest.min(early - k)
     }
-    if early - k < rest { early - k } else { rest }
 }
 
-// The tally is lent from sample to sample, run after run of the n cells that are read.
-fn gather<'a>(
-    img: &'a [f32],
-    pairs: &'a [u32; 512],
-    cubics: &'a [f64; 256],
-    turns: &'a [f32; 272],
-    win: Window,
-    n: usize,
-) -> Tally
-    requires { (pairs.now ≡ pair_table) × ((cubics.now ≡ cubic_table) × ((turns.now ≡ turn_table) × (InRange img.now win × (n ≡ win.rows * win.cols)))) }
+// The tally is lent from sample to sample, run after run of the n cells that are read: a step is as long as its run, so that nothing is asked of a cell but its sample.
+fn gather(img: &[f32], win: Window, n: usize) -> Tally
+    requires in_range { InRange img.now win }
+    requires cells { n ≡ win.rows * win.cols }
     ensures { result ≡ tally_of img.now win }
 {
     let mut t = orient_tally::fresh();
@@ -64,11 +55,8 @@ fn gather<'a>(
     while k < n {
         let run = run_at(win, n, k);
         let m = cells_at(win, n, k);
-        let mut i = 0;
-        while i < m {
-            let s = orient_tally::sample_at(img, pairs, cubics, turns, run, i);
-            orient_tally::add_sample(&mut t, s);
-            i += 1;
+        for i in 0..m {
+            orient_tally::add_sample(&mut t, orient_tally::sample_at(img, run, i));
         }
         k += m;
     }
@@ -80,10 +68,9 @@ pub fn tally_of(img: &[f32], win: Window) -> Gathered
     requires { InRange img.now win }
     ensures { result ≡ gathered_of img.now win }
 {
-    let pairs = hal::pair_table();
-    let cubics = hal_magnitude::cubic_table();
-    let turns = hal_angle::turn_table();
-    let n = win.rows * win.cols;
-    let t = gather(img, &pairs, &cubics, &turns, win, n);
-    Gathered { tally: t, read: n }
+    let read = win.rows * win.cols;
+    Gathered {
+        tally: gather(img, win, read),
+        read,
+    }
 }

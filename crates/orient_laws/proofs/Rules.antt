@@ -44,7 +44,7 @@ use Rattle.orient_tally.proofs.Rules.{tally_rule}
 use Rattle.orient_peaks.specs.Peaks.{around, is_peak, least_of, peak_angle, peak_of, angles_in, angles_of, smoothed, wrapped, crest_of}
 use Rattle.orient_words.specs.Oriented.{oriented_of}
 use Rattle.orient_words.specs.declared.OrientedKeypoint.{OrientedKeypoint}
-use Rattle.orient_words.proofs.Words.{length_map}
+use Rattle.std.proofs.lemmas.List.{length-map}
 use Rattle.orient.specs.Keypoint.{keypoint_wrong, scale_of}
 use Rattle.orient.specs.Accepted.{Aimed}
 use Rattle.orient.specs.Entry.{window_at, orient_fault, angles_at, oriented_list}
@@ -197,7 +197,7 @@ module _ (img : List Float) (s : Size) (k : RawKeypoint) (fine : orient_fault im
   unfolding oriented_list angles_at
   angle i l =
       let e = get_or-map (oriented_of k) (angles_at img s k) i nan in
-      subst (λ (o : OrientedKeypoint). Turn o.angle) (sym e) (turn_of_lem _ (each_at (each_angle _ filled) nan i (subst (λ (n : ℕ). i < n) (length_map k (angles_at img s k)) l)))
+      subst (λ (o : OrientedKeypoint). Turn o.angle) (sym e) (turn_of_lem _ (each_at (each_angle _ filled) nan i (subst (λ (n : ℕ). i < n) (length-map (angles_at img s k) (oriented_of k)) l)))
 
   -- ---- nothing rises or falls
   module _ (still : (i j : ℕ) → i < win.rows → j < win.cols → Still (slope_at img win.size.width (win.top + i) (win.left + j))) where

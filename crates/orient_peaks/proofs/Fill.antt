@@ -1,20 +1,19 @@
 -- Filling an array from the front with the parts of a range. Assumes nothing.
-use Prim.Native.Nat.{ℕ, zero, suc, ◌+◌, ◌-◌, ◌<◌, ◌≤◌}
+use Prim.Native.Nat.{ℕ, ◌+◌, ◌<◌, ◌≤◌}
 use mathlib.Core.Path.{◌≡◌, refl, sym, ap, ◌∙◌}
 use mathlib.Core.Bool.{Bool, true, false, cond}
 use mathlib.Core.List.{List, [], ◌∷◌, ◌++◌, append-nil}
 use native.Mathlib.Omega.{arith}
-use native.Mathlib.Numerals.{add-one}
-use lib.ListN.{length, take, drop, set, get_or, replicate, length-append, drop_of_length-le}
+use lib.ListN.{length, take, drop, set, replicate, length-append}
 use lib.Seq.{take_at}
-use lib.Ieee.{Float, nan}
+use lib.Ieee.{Float}
 use Rattle.ieee.specs.Numbers.{nought}
 use Rattle.lists.specs.Ranges.{joined}
 use Rattle.lists.specs.Pasted.{pasted}
 use Rattle.lists.proofs.Ranges.{joined_start, joined_more}
 use Rattle.lists.proofs.Pasted.{pasted_none, pasted_append, pasted_one, length_pasted}
 use Rattle.orient_tally.specs.Sample.{bins}
-use Rattle.orient_peaks.specs.Peaks.{largest_to, larger_of, least_of, is_peak, peak_angle, peak_of, angles_in}
+use Rattle.orient_peaks.specs.Peaks.{least_of, is_peak, peak_angle, peak_of, angles_in}
 use Rattle.orient_peaks.specs.Found.{held_of, Holds}
 
 -- one more value behind those written
@@ -24,11 +23,6 @@ pasted_more l d v h =
     let r : 0 + length (l ++ (v ∷ [])) ≤ length d = rw length-append (omega arith) in
     let k : length (pasted 0 l d) ≡ length d = length_pasted 0 l d (omega arith) in
     sym (pasted_append 0 l (v ∷ []) d r ∙ rw (z, pasted_one (length l) v (pasted 0 l d) (omega arith)))
-
--- all places are written
-pub pasted_all : {A : Type 0} (l d : List A) → length l ≡ length d → pasted 0 l d ≡ l
-unfolding pasted
-pasted_all l d h = let z : length d ≤ 0 + length l = omega arith in rw (drop_of_length-le d z, append-nil)
 
 -- what was written stands in front
 pub pasted_front : {A : Type 0} (l d : List A) → take (length l) (pasted 0 l d) ≡ l
@@ -62,31 +56,6 @@ module _ {A : Type 0} (f : ℕ → List A) where
         many = rw (z, length-append) (omega arith);
         few = omega arith;
       }
-
--- where each part is one value, there are as many as parts
-pub each_one : {A : Type 0} (f : ℕ → A) (n : ℕ) → length (joined 0 n (λ i. f i ∷ [])) ≡ n
-each_one f zero = rw (joined_start 0 (λ i. f i ∷ []))
-each_one f (suc n) =
-    let z : length (joined 0 (n + 1) (λ i. f i ∷ [])) ≡ n + 1 = rw (joined_more 0 n (λ i. f i ∷ []) (omega arith), length-append) (omega (arith, each_one f n)) in
-    rw (← add-one n) z
-
--- the largest of one bin more
-largest_more : (h : List Float) (i : ℕ) → 1 ≤ i → largest_to h (i + 1 - 1) ≡ larger_of (largest_to h (i - 1)) (get_or h i nan)
-unfolding largest_to
-largest_more h zero l = absurd (omega arith)
-largest_more h (suc n) l =
-    let z : suc n + 1 - 1 ≡ suc n = omega arith in
-    let y : suc n - 1 ≡ n = omega arith in
-    rw (z, y)
-
--- a turn of the search for the largest
-pub largest_next : (h : List Float) (i : ℕ) (top x : Float) → 1 ≤ i → top ≡ largest_to h (i - 1) → x ≡ larger_of top (get_or h i nan) → x ≡ largest_to h (i + 1 - 1)
-largest_next h i top x l et ex = rw (ex, et) (sym (largest_more h i l))
-
--- filled to the end, by one value each
-pub filled_all : {A : Type 0} (f : ℕ → A) (N : ℕ) {n count : ℕ} {d now : List A} → Filled (λ k. f k ∷ []) n d now count → n ≡ N → length d ≡ N → now ≡ joined 0 N (λ k. f k ∷ [])
-filled_all f N {n} {count} {d} {now} r e l =
-    r.values ∙ rw e (pasted_all (joined 0 N (λ k. f k ∷ [])) d (each_one f N ∙ sym l))
 
 -- a bin gives at most one angle
 pub peak_short : (h : List Float) (least : Float) (j : ℕ) → length (peak_of h least j) ≤ 1

@@ -1,3 +1,3 @@
 pub mod Fill
+pub mod Made
 pub mod Rules
-pub mod Steps

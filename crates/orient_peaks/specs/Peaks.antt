@@ -4,6 +4,7 @@ use Rattle.std.specs.Float.{nan, binary32}
 use Rattle.std.specs.Float.Ieee.{of_int, neg}
 use Rattle.ieee.specs.F32.{◌⊕◌, ◌⊖◌, ◌⊗◌, ◌⊘◌, ◌<ᶠ◌, ◌≤ᶠ◌, f32, fused, abs_of}
 use Rattle.ieee.specs.Numbers.{nought, half, two, ten, whole_turn, epsilon}
+use Rattle.bounds.specs.Bounds.{greater_of}
 use Rattle.lists.specs.Ranges.{joined}
 use Rattle.orient_tally.specs.Sample.{bins}
 
@@ -31,12 +32,9 @@ unfoldable pub smoothed : List Float → List Float
 smoothed b = joined 0 bins (λ i. smooth_at b i ∷ [])
 
 -- the largest of the bins 0 to n, taken from left to right
-abbrev pub larger_of : Float → Float → Float
-larger_of m v = cond (m <ᶠ v) v m
-
 unfoldable pub largest_to : List Float → ℕ → Float
 largest_to h zero = get_or h 0 nan
-largest_to h (suc n) = larger_of (largest_to h n) (get_or h (suc n) nan)
+largest_to h (suc n) = greater_of (largest_to h n) (get_or h (suc n) nan)
 
 -- 0.8
 abbrev pub ratio : Float

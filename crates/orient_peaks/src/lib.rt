@@ -1,24 +1,26 @@
 // From the tally of 36 bins to the angles of a keypoint: smoothing, the strict peaks, and the parabola through each.
 #![tactic(auto)]
 
-ghost use Rattle.std.specs.Prelude.{◌≡◌, ◌<◌, ◌≤◌};
+ghost use Rattle.std.specs.Prelude.{◌≡◌, ◌<◌};
 ghost use Rattle.orient_tally.specs.Sample.{bins};
-ghost use Rattle.orient_peaks.specs.Peaks.{around, smooth_at, smoothed, larger_of, largest_to, least_of, is_peak, crest_of, wrapped, closed, degrees_of, peak_angle, angles_in, angles_of};
+ghost use Rattle.orient_peaks.specs.Peaks.{around, smooth_at, smoothed, largest_to, least_of, is_peak, crest_of, wrapped, closed, degrees_of, peak_angle, angles_in, angles_of};
 ghost use Rattle.orient_peaks.specs.Found.{held_of};
 
-// The angles found, in the first `count` places; the other places hold +0.
+// The angles found, in the first `count` places; the other places hold +0. An array with its count beside it, since the law PeakRule says of these two that each angle has a place.
 #[derive(Clone, Copy)]
 pub struct Angles {
     pub all: [f32; 36],
     pub count: usize,
 }
 
+#[tactic(auto, unfolding(crate::specs::Peaks::around))]
 fn bin_around(b: &[f32; 36], k: usize) -> f32
     ensures { result ≡ around b.now k }
 {
     b[k % 36]
 }
 
+#[tactic(auto, unfolding(crate::specs::Peaks::smooth_at))]
 fn smooth_at(b: &[f32; 36], i: usize) -> f32
     requires { i < bins }
     ensures { result ≡ smooth_at b.now i }
@@ -32,34 +34,20 @@ fn smooth_at(b: &[f32; 36], i: usize) -> f32
 fn smooth(b: &[f32; 36]) -> [f32; 36]
     ensures { result ≡ smoothed b.now }
 {
-    let mut h = [0.0; 36];
-    let mut i: usize = 0;
-    while i < 36 {
-        h[i] = smooth_at(b, i);
-        i += 1;
-    }
-    h
-}
-
-// The larger of two, and the first where neither is.
-fn larger(m: f32, v: f32) -> f32
-    ensures { result ≡ larger_of m v }
-{
-    if v > m { v } else { m }
+    std::array::from_fn(|i| smooth_at(b, i))
 }
 
 fn least_of(h: &[f32; 36]) -> f32
     ensures { result ≡ least_of h.now }
 {
     let mut top = h[0];
-    let mut i: usize = 1;
-    while i < 36 {
-        top = larger(top, h[i]);
-        i += 1;
+    for v in &h[1..] {
+        top = bounds::greater(top, *v);
     }
     top * 0.8
 }
 
+#[tactic(auto, unfolding(crate::specs::Peaks::is_peak))]
 fn is_peak(h: &[f32; 36], least: f32, j: usize) -> bool
     requires { j < bins }
     ensures { result ≡ is_peak h.now least j }
@@ -71,6 +59,7 @@ fn is_peak(h: &[f32; 36], least: f32, j: usize) -> bool
 }
 
 // The top of the parabola through a peak at bin j and its neighbours.
+#[tactic(auto, unfolding(crate::specs::Peaks::crest_of))]
 fn crest(j: usize, l: f32, m: f32, r: f32) -> f32
     requires { j < bins }
     ensures { result ≡ crest_of j l m r }
@@ -79,6 +68,7 @@ fn crest(j: usize, l: f32, m: f32, r: f32) -> f32
     (j as u16) as f32 + 0.5 * (l - r) / den
 }
 
+#[tactic(auto, unfolding(crate::specs::Peaks::wrapped))]
 fn back_in(b: f32) -> f32
     ensures { result ≡ wrapped b }
 {
@@ -92,6 +82,7 @@ fn back_in(b: f32) -> f32
 }
 
 // An angle within f32 epsilon, 2^-23 = 0.00000011920929, of a whole turn is 0. Next to 360 an f32 is 2^-15 away, so that this is 360 itself.
+#[tactic(auto, unfolding(crate::specs::Peaks::closed))]
 fn closed_at(a: f32) -> f32
     ensures { result ≡ closed a }
 {
@@ -102,6 +93,7 @@ fn closed_at(a: f32) -> f32
     }
 }
 
+#[tactic(auto, unfolding(crate::specs::Peaks::peak_angle, crate::specs::Peaks::degrees_of))]
 fn peak_angle(h: &[f32; 36], j: usize) -> f32
     requires { j < bins }
     ensures { result ≡ peak_angle h.now j }
@@ -118,21 +110,17 @@ fn angles_in(h: &[f32; 36]) -> Angles
     let least = least_of(h);
     let mut all = [0.0; 36];
     let mut count: usize = 0;
-    let mut j: usize = 0;
-    while j < 36 {
+    for j in 0..36 {
         if is_peak(h, least, j) {
             all[count] = peak_angle(h, j);
             count += 1;
         }
-        j += 1;
     }
-    Angles {
-        all: all,
-        count: count,
-    }
+    Angles { all, count }
 }
 
 // The angles that a tally gives, none where there is no peak.
+#[tactic(auto, unfolding(crate::specs::Peaks::angles_of))]
 pub fn angles_of(b: &[f32; 36]) -> Angles
     ensures { result ≡ held_of (angles_of b.now) }
 {

@@ -1,11 +1,7 @@
 // The tally of 36 bins about a keypoint: the sample of a cell, and the tally that it is added to where it lies.
 #![tactic(auto)]
 
-ghost use Rattle.std.specs.Prelude.{◌≡◌, true, ◌+◌, ◌*◌, ◌<◌, ◌≤◌, pos};
-ghost use Rattle.params.specs.Limits.{max_side};
-ghost use Rattle.hal.specs.Powers.{pairs as pair_table};
-ghost use Rattle.hal_magnitude.specs.Cubics.{cubics as cubic_table};
-ghost use Rattle.hal_angle.specs.Turns.{turns as turn_table};
+ghost use Rattle.std.specs.Prelude.{◌≡◌, true, ◌+◌, ◌*◌, ◌<◌, ◌≤◌};
 ghost use Rattle.hal.specs.Exp.{in_down};
 ghost use Rattle.hal_angle.specs.Angle.{angle_of};
 ghost use Rattle.hal_reach.specs.Reach.{in_angle};
@@ -52,54 +48,49 @@ pub struct Gathered {
 // ---- a sample
 
 // The square of how far apart two places are.
-fn square(a: usize, b: usize) -> i32
-    requires { (a ≤ max_side) × (apart a b ≤ max_reach) }
-    ensures { result ≡ pos (apart a b * apart a b) }
+fn square(a: usize, b: usize) -> u32
+    requires { apart a b ≤ max_reach }
+    ensures { result ≡ apart a b * apart a b }
 {
-    let d = a as i32 - b as i32;
+    let d = a.abs_diff(b) as u32;
     d * d
 }
 
-fn weight_at(pairs: &[u32; 512], win: Window, y: usize, x: usize) -> f32
-    requires { (pairs.now ≡ pair_table) × (Near win y x × (in_down (exponent_at win (cell y x)) ≡ true)) }
+fn weight_at(win: Window, y: usize, x: usize) -> f32
+    requires near { Near win y x }
+    requires down { in_down (exponent_at win (cell y x)) ≡ true }
     ensures { result ≡ weight_at win (cell y x) }
 {
     let sum = square(y, win.row) + square(x, win.col);
-    hal::exp_in(pairs, (sum as f32) * win.falloff)
+    hal::exp_in((sum as f32) * win.falloff)
 }
 
 // The bin of a direction. From 2^23 = 8388608 on every f32 is whole, so that the sum rounds the turn, ties to even, and its last bits are the whole number: at most 36,
 // which six of them hold.
-fn bin_of(turns: &[f32; 272], dx: f32, dy: f32) -> usize
-    requires { (turns.now ≡ turn_table) × (in_angle dx dy ≡ true) }
-    ensures { (result ≡ bin_of (angle_of dx dy)) × (result < bins) }
+fn bin_of(dx: f32, dy: f32) -> usize
+    requires { in_angle dx dy ≡ true }
+    ensures value { result ≡ bin_of (angle_of dx dy) }
+    ensures small { result < bins }
 {
-    let turn = 0.1 * hal_angle::angle_in(turns, dx, dy);
-    let b = (f32::to_bits(turn + 8388608.0) % 64) as usize;
+    let turn = 0.1 * hal_angle::angle_in(dx, dy);
+    let b = ((turn + 8388608.0).to_bits() % 64) as usize;
     if b >= 36 { b - 36 } else { b }
 }
 
 // The sample of cell i of a run.
-pub fn sample_at<'a>(
-    img: &'a [f32],
-    pairs: &'a [u32; 512],
-    cubics: &'a [f64; 256],
-    turns: &'a [f32; 272],
-    run: Run,
-    i: usize,
-) -> Sample
-    requires { (pairs.now ≡ pair_table) × ((cubics.now ≡ cubic_table) × ((turns.now ≡ turn_table) × Asked img.now run.win run.y (run.from + i))) }
-    ensures { (result ≡ sample_in img.now run i) × (result.bin < bins) }
+#[tactic(auto, unfolding(crate::specs::Runs::sample_in))]
+pub fn sample_at(img: &[f32], run: Run, i: usize) -> Sample
+    requires { Asked img.now run.win run.y (run.from + i) }
+    ensures value { result ≡ sample_in img.now run i }
+    ensures placed { result.bin < bins }
 {
     let win = run.win;
     let x = run.from + i;
-    let weight = weight_at(pairs, win, run.y, x);
     let s = picture::slope_at(img, win.size, run.y, x);
-    let magnitude = hal_magnitude::magnitude_in(cubics, s.dx, s.dy);
     Sample {
-        bin: bin_of(turns, s.dx, s.dy),
-        weight: weight,
-        magnitude: magnitude,
+        bin: bin_of(s.dx, s.dy),
+        weight: weight_at(win, run.y, x),
+        magnitude: hal_magnitude::magnitude_in(s.dx, s.dy),
         late: run.late,
     }
 }
@@ -108,6 +99,7 @@ pub fn sample_at<'a>(
 
 // At most three samples are late. They take the general form, since the short one begins with the plain product: shared with the early samples it would make each of them
 // wait for the one before.
+#[tactic(auto, unfolding(crate::specs::Tally::share_of))]
 fn share(old: f32, s: Sample) -> f32
     ensures { result ≡ share_of old s }
 {
@@ -118,14 +110,7 @@ fn share(old: f32, s: Sample) -> f32
     }
 }
 
-fn add_in(b: &mut [f32; 36], s: Sample)
-    requires { s.bin < bins }
-    ensures { b.new ≡ added b.old s }
-{
-    let bin = s.bin;
-    b[bin] = share(b[bin], s);
-}
-
+#[tactic(auto, unfolding(crate::specs::Tally::empty))]
 pub fn fresh() -> Tally
     ensures { result ≡ empty }
 {
@@ -133,9 +118,11 @@ pub fn fresh() -> Tally
 }
 
 // The tally is lent, and filled where it lies.
+#[tactic(auto, unfolding(crate::specs::Tally::tallied, crate::specs::Tally::added))]
 pub fn add_sample(t: &mut Tally, s: Sample)
     requires { s.bin < bins }
     ensures { t.new ≡ tallied t.old s }
 {
-    add_in(&mut t.bins, s);
+    let bin = s.bin;
+    t.bins[bin] = share(t.bins[bin], s);
 }

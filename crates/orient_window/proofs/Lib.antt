@@ -2,4 +2,5 @@ pub mod Cells
 pub mod Radius
 pub mod Spans
 pub mod Round
+pub mod Rows
 pub mod Rules

@@ -43,10 +43,3 @@ window_fits len s row col scale l h w r c k =
       before = omega (arith, x.back);
       after = omega (arith, x.forth);
     }
-
--- the window of what the calls gave: the radius, the first row and column, one past the last of each, and how many there are
-pub window_is : (s : Size) (row col : ℕ) (scale : Float) (radius top left down right rows cols : ℕ) (f : Float)
-    → radius ≡ radius_of scale → top ≡ first_in row radius → left ≡ first_in col radius → down ≡ past_in row radius s.height → rows ≡ down - top → right ≡ past_in col radius s.width → cols ≡ right - left → f ≡ falloff_of scale
-    → ◌≡◌ {A = Window} (record { size = s; row = row; col = col; top = top; left = left; rows = rows; cols = cols; falloff = f }) (window_of s row col scale)
-unfolding window_of
-window_is s row col scale radius top left down right rows cols f er et el ed em ep en ef = rw (em, en, ed, ep, et, el, er, ef) refl

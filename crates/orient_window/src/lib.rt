@@ -1,7 +1,7 @@
 // The window about a keypoint: the cells that are read, and the test of what they read.
 #![tactic(auto)]
 
-ghost use Rattle.std.specs.Prelude.{◌≡◌, ◌+◌, ◌-◌, ◌<◌, ◌≤◌, true, length};
+ghost use Rattle.std.specs.Prelude.{◌≡◌, ◌+◌, ◌<◌, ◌≤◌, true, length};
 ghost use Rattle.params.specs.Limits.{max_side, scale_low, scale_high};
 ghost use Rattle.params.specs.Table.{within};
 ghost use Rattle.orient_window.specs.Window.{radius_of, falloff_of, window_of};
@@ -33,6 +33,7 @@ fn radius_of(scale: f32) -> usize
     std::num::truncating_f32_to_u64(ieee_whole::round_ties_even(4.5 * scale)) as usize
 }
 
+#[tactic(auto, unfolding(crate::specs::Window::falloff_of))]
 fn falloff(scale: f32) -> f32
     ensures { result ≡ falloff_of scale }
 {
@@ -40,14 +41,8 @@ fn falloff(scale: f32) -> f32
     -1.0 / (2.0 * sigma * sigma)
 }
 
-// How many places there are from one to below another.
-fn count(from: usize, past: usize) -> usize
-    ensures { result ≡ past - from }
-{
-    if from < past { past - from } else { 0 }
-}
-
 // The window about a cell.
+#[tactic(auto, unfolding(crate::specs::Window::window_of))]
 pub fn window_of(s: Size, row: usize, col: usize, scale: f32) -> Window
     requires { (row < s.height) × ((col < s.width) × ((s.height ≤ max_side) × ((s.width ≤ max_side) × (within scale_low scale_high scale ≡ true)))) }
     ensures { result ≡ window_of s row col scale }
@@ -57,12 +52,12 @@ pub fn window_of(s: Size, row: usize, col: usize, scale: f32) -> Window
     let left = picture::first_in(col, radius);
     Window {
         size: s,
-        row: row,
-        col: col,
-        top: top,
-        left: left,
-        rows: count(top, picture::past_in(row, radius, s.height)),
-        cols: count(left, picture::past_in(col, radius, s.width)),
+        row,
+        col,
+        top,
+        left,
+        rows: picture::past_in(row, radius, s.height).saturating_sub(top),
+        cols: picture::past_in(col, radius, s.width).saturating_sub(left),
         falloff: falloff(scale),
     }
 }
@@ -76,10 +71,8 @@ fn row_good(img: &[f32], win: Window, i: usize) -> bool
 {
     let y = win.top + i;
     let mut ok = true;
-    let mut j: usize = 0;
-    while j < win.cols {
-        ok = ok & samples::four_good(img, win.size, y, win.left + j);
-        j += 1;
+    for j in 0..win.cols {
+        ok &= samples::four_good(img, win.size, y, win.left + j);
     }
     ok
 }
@@ -89,14 +82,7 @@ fn cells_good(img: &[f32], win: Window) -> bool
     requires { Fits (length img.now) win }
     ensures { result ≡ window_good img.now win }
 {
-    let mut i: usize = 0;
-    while i < win.rows {
-        if !row_good(img, win, i) {
-            return false;
-        }
-        i += 1;
-    }
-    true
+    (0..win.rows).all(|i| row_good(img, win, i))
 }
 
 // Whether the four neighbours of each cell are in range. The window with the cells round it holds them all, and its corners beside: where these are good nothing else is asked.

@@ -1,11 +1,9 @@
 -- Inner: what the last step makes of the angles found and the cells read: the answer, and the lent words. No part of what a caller is promised. Definitions only.
 use Rattle.std.specs.Prelude.{ℕ, ◌*◌, List, map, length, take}
-use Rattle.params.specs.Answers.{answer_of, landed}
-use Rattle.params.specs.declared.Answer.{Answer}
+use Rattle.params.specs.Answers.{Answer, answer_of, landed}
 use Rattle.detect_keypoint.specs.declared.RawKeypoint.{RawKeypoint}
-use Rattle.orient_words.specs.Oriented.{oriented_of, oriented_words, words, answered_with}
+use Rattle.orient_words.specs.Oriented.{oriented_of, oriented_words, words, OrientAnswer, answered_with}
 use Rattle.orient_words.specs.declared.Directions.{Directions}
-use Rattle.orient_words.specs.declared.OrientAnswer.{OrientAnswer}
 
 unfoldable pub room_for : Directions → ℕ → Answer
 room_for d room = answer_of 0 d.angles.count (oriented_words * d.angles.count) room

@@ -1,15 +1,15 @@
 // The oriented keypoints of the angles found about a keypoint, as words: six each, all or none.
 #![tactic(auto)]
 
-ghost use Rattle.std.specs.Prelude.{◌≡◌, map, ◌+◌, ◌*◌, ◌≤◌, length, take};
+ghost use Rattle.std.specs.Prelude.{◌≡◌, map, ◌*◌, ◌≤◌, length};
 ghost use Rattle.lists.specs.Pasted.{pasted};
 ghost use Rattle.orient_tally.specs.Sample.{bins};
-ghost use Rattle.orient_words.specs.Oriented.{oriented_of, oriented_words, words_of, words};
+ghost use Rattle.orient_words.specs.Oriented.{oriented_of, oriented_words, words_of, words, oriented_told};
 ghost use Rattle.orient_words.specs.Given.{given_with, left_with};
 
 use detect_keypoint::RawKeypoint;
 use orient_peaks::Angles;
-use params::Answer;
+use params::Refusal;
 
 // A keypoint with an angle, in degrees.
 #[derive(Clone, Copy)]
@@ -22,10 +22,10 @@ pub struct OrientedKeypoint {
     pub angle: f32,
 }
 
-// The number and the count, and beside them the number of cells read.
-#[derive(Clone, Copy)]
-pub struct OrientAnswer {
-    pub answer: Answer,
+// How many oriented keypoints were written, and the number of cells read for them.
+#[derive(Clone, Copy, Debug, PartialEq, Eq)]
+pub struct Oriented {
+    pub count: usize,
     pub samples: usize,
 }
 
@@ -36,7 +36,7 @@ pub struct Directions {
     pub read: usize,
 }
 
-fn oriented(k: RawKeypoint, angle: f32) -> OrientedKeypoint
+fn with_angle(k: RawKeypoint, angle: f32) -> OrientedKeypoint
     ensures { result ≡ oriented_of k angle }
 {
     OrientedKeypoint {
@@ -45,58 +45,48 @@ fn oriented(k: RawKeypoint, angle: f32) -> OrientedKeypoint
         size: k.size,
         response: k.response,
         octave: k.octave,
-        angle: angle,
+        angle,
     }
 }
 
-// Six words at a place.
-fn put(out: &mut [u32], at: usize, o: OrientedKeypoint)
-    requires { at + oriented_words ≤ length out.old }
-    ensures { out.new ≡ pasted at (words_of o) out.old }
+fn words_of(o: OrientedKeypoint) -> [u32; 6]
+    ensures { result ≡ words_of o }
 {
-    out[at] = ieee::bits_of(o.x);
-    let y = at + 1;
-    out[y] = ieee::bits_of(o.y);
-    let size = y + 1;
-    out[size] = ieee::bits_of(o.size);
-    let response = size + 1;
-    out[response] = ieee::bits_of(o.response);
-    let octave = response + 1;
-    out[octave] = o.octave;
-    let angle = octave + 1;
-    out[angle] = ieee::bits_of(o.angle);
+    [
+        ieee::bits_of(o.x),
+        ieee::bits_of(o.y),
+        ieee::bits_of(o.size),
+        ieee::bits_of(o.response),
+        o.octave,
+        ieee::bits_of(o.angle),
+    ]
 }
 
-fn put_all(k: RawKeypoint, all: &[f32; 36], count: usize, out: &mut [u32])
-    requires { (count ≤ bins) × ((count ≤ length all.now) × (oriented_words * count ≤ length out.old)) }
-    ensures { out.new ≡ pasted 0 (words (map (oriented_of k) (take count all.now))) out.old }
+// Six words for each angle, from the front on.
+fn put_all(k: RawKeypoint, found: &[f32], out: &mut [u32])
+    requires { oriented_words * length found.now ≤ length out.old }
+    ensures { out.new ≡ pasted 0 (words (map (oriented_of k) found.now)) out.old }
 {
-    let mut i: usize = 0;
-    while i < count {
-        put(out, i * 6, oriented(k, all[i]));
-        i += 1;
+    for (i, angle) in found.iter().enumerate() {
+        let at = i * 6;
+        out[at..at + 6].copy_from_slice(&words_of(with_angle(k, *angle)));
     }
 }
 
 // Room is counted first: all words are written, or none.
-pub fn give(k: RawKeypoint, d: Directions, out: &mut [u32]) -> OrientAnswer
-    requires { (d.angles.count ≤ bins) × (d.angles.count ≤ length d.angles.all) }
-    ensures value { result ≡ given_with d (length out.old) }
+#[tactic(auto, unfolding(crate::specs::Given::room_for, crate::specs::Given::given_with, crate::specs::Given::left_with, params::specs::Answers::answer_of))]
+pub fn give(k: RawKeypoint, d: Directions, out: &mut [u32]) -> Result<Oriented, Refusal>
+    requires { d.angles.count ≤ bins }
+    ensures value { oriented_told result ≡ given_with d (length out.old) }
     ensures out_after { out.new ≡ left_with k d out.old }
 {
-    let found = d.angles;
-    let count = found.count;
-    if count * 6 <= out.len() {
-        let all = found.all;
-        put_all(k, &all, count, out);
-        OrientAnswer {
-            answer: Answer::Done(count),
-            samples: d.read,
-        }
-    } else {
-        OrientAnswer {
-            answer: Answer::Short(count),
-            samples: 0,
-        }
+    let count = d.angles.count;
+    if count * 6 > out.len() {
+        return Err(Refusal::Room(count));
     }
+    put_all(k, &d.angles.all[..count], out);
+    Ok(Oriented {
+        count,
+        samples: d.read,
+    })
 }

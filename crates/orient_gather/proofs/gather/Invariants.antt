@@ -11,7 +11,4 @@ decreases-loop-k l = l.n - l.k
 
 -- and of those of the run up to its cell i
 abbrev pub invariant-loop-i : goal.invariant-loop-i
-invariant-loop-i l = (l.i ≤ l.m) × (l.t ≡ after l.img l.win (l.k + l.i))
-
-abbrev pub decreases-loop-i : goal.decreases-loop-i
-decreases-loop-i l = l.m - l.i
+invariant-loop-i l = l.t ≡ after l.img l.win (l.k + l.i)

@@ -1,27 +1,27 @@
-use mathlib.Core.Path.{◌≡◌, refl}
-use native.Mathlib.Omega.{arith}
+use Rattle.std.proofs.Common.{◌≡◌, suc, ◌+◌, ◌-◌, ◌<◌, ap, ◌∙◌, take, drop, get_or, refl, arith, add-one, length-take, length-drop, Float}
+use Rattle.std.specs.Float.{nan}
+use Rattle.std.proofs.lemmas.Grind.{get_or_after_one}
+use Rattle.std.proofs.lemmas.List.{get_or-take}
 use Rattle.orient_tally.specs.Sample.{bins}
 use Rattle.orient_peaks.specs.Peaks.{largest_to, least_of}
-use Rattle.orient_peaks.proofs.Fill.{largest_next}
 use Rattle.orient_peaks.proofs.least_of.Goals as goal
 
-pub loop-i-init : goal.loop-i-init
+pub loop-v-init : goal.loop-v-init
 unfolding largest_to
-loop-i-init c = (omega arith, (omega arith, refl))
+loop-v-init c = refl
 
-pub overflow_add-i : goal.overflow_add-i
-overflow_add-i c = omega arith
-
-pub loop-i-smaller : goal.loop-i-smaller
-loop-i-smaller c = omega arith
-
-pub loop-i-preserved : goal.loop-i-preserved
-loop-i-preserved c =
-    let l = c.loop-i in
-    (omega arith, (omega arith, largest_next c.args.h.now l.i l.top c.larger-top.result l.invariant.0 l.invariant.1.1 c.larger-top.ensures))
+pub loop-v-preserved : goal.loop-v-preserved
+unfolding largest_to
+loop-v-preserved c =
+    let h = c.args.h.now in
+    let i = c.loop-v.v-index in
+    let s : 1 + i ≡ suc i = omega arith in
+    let l : i < 35 = omega (arith, length-take {A = Float}) in
+    let e : get_or (take 35 (drop 1 h)) i nan ≡ get_or h (suc i) nan = get_or-take 35 (drop 1 h) i nan l ∙ get_or_after_one h i nan ∙ ap (λ k. get_or h k nan) s in
+    rw (add-one, c.greater-top.ensures, c.loop-v.invariant, e) refl
 
 pub returns : goal.returns
 unfolding least_of
 returns c =
-    let z : c.loop-i.i ≡ bins = omega arith in
-    rw (c.loop-i.invariant.1.1, z)
+    let z : c.loop-v.v-index ≡ bins - 1 = omega (arith, length-take {A = Float}, length-drop {A = Float}) in
+    rw (c.loop-v.invariant, z) refl

@@ -21,7 +21,7 @@ use Rattle.descriptor_run.specs.Cells.{reads_of}
 use Rattle.descriptor_patch.specs.Place.{Sides}
 use Rattle.descriptor_words.specs.Words.{turn_at}
 use Rattle.descriptor_words.specs.Accepted.{Aimed, Ready}
-use Rattle.descriptor_words.specs.declared.Spot.{Spot}
+use Rattle.picture.specs.declared.Spot.{Spot}
 use Rattle.descriptor.specs.Place.{on_side, spot_wrong, turn_wrong}
 use Rattle.descriptor.specs.Entry.{fault_of}
 use Rattle.descriptor.proofs.Cells.{side_cell}
@@ -56,6 +56,13 @@ module _ (s : Size) (p : Spot) where
         angled = d.1;
       }
 
+  -- of what the two tests gave
+  pub either_wrong : {a b : Bool} → a ≡ wrong_spot → b ≡ wrong_turn → (a || b) ≡ true → (wrong_spot || wrong_turn) ≡ true
+  either_wrong g h e = rw (g, h) at e
+
+  pub neither_wrong : {a b : Bool} → a ≡ wrong_spot → b ≡ wrong_turn → (a || b) ≡ false → (wrong_spot ≡ false) × (wrong_turn ≡ false)
+  neither_wrong g h e = or_neither wrong_spot wrong_turn (rw (g, h) at e)
+
   module _ (img : List Float) where
     abbrev fault : ℕ
     fault = fault_of img s p
@@ -76,15 +83,11 @@ module _ (s : Size) (p : Spot) where
       fault_length e = rw (shape, ne_eqb (length img) (s.height * s.width) e)
 
       module _ (whole : length img ≡ s.height * s.width) where
-        pub fault_spot : wrong_spot ≡ true → 5 ≡ fault
+        pub fault_fields : (wrong_spot || wrong_turn) ≡ true → 5 ≡ fault
         unfolding fault_of first_fault length_wrong
-        fault_spot e = rw (shape, eq-eqb (length img) (s.height * s.width) whole, e)
+        fault_fields e = rw (shape, eq-eqb (length img) (s.height * s.width) whole, e)
 
         module _ (lies : wrong_spot ≡ false) where
-          pub fault_turn : wrong_turn ≡ true → 5 ≡ fault
-          unfolding fault_of first_fault length_wrong
-          fault_turn e = rw (shape, eq-eqb (length img) (s.height * s.width) whole, lies, e)
-
           module _ (turns : wrong_turn ≡ false) where
             pub fault_sample : good ≡ false → 6 ≡ fault
             unfolding fault_of first_fault length_wrong

@@ -24,7 +24,7 @@ use Rattle.descriptor_laws.proofs.GridRules.{grid_rule}
 use Rattle.descriptor_laws.proofs.ValuesRules.{value_rule}
 use Rattle.descriptor_words.specs.Words.{turn_at, values_at, words_at}
 use Rattle.descriptor_words.specs.Accepted.{Ready}
-use Rattle.descriptor_words.specs.declared.Spot.{Spot}
+use Rattle.picture.specs.declared.Spot.{Spot}
 use Rattle.descriptor_words.proofs.Filled.{in_turn_lem}
 use Rattle.descriptor.specs.Entry.{fault_of, used_of, described_of, described_out}
 use Rattle.descriptor.specs.Nothing.{Level, zeros, Told, NothingRule}

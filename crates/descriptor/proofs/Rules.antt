@@ -23,7 +23,7 @@ use Rattle.descriptor_laws.specs.ValuesRules.{Byte}
 use Rattle.descriptor_laws.proofs.ValuesRules.{value_rule}
 use Rattle.descriptor_words.specs.Words.{turn_at, values_at}
 use Rattle.descriptor_words.specs.Accepted.{Ready}
-use Rattle.descriptor_words.specs.declared.Spot.{Spot}
+use Rattle.picture.specs.declared.Spot.{Spot}
 use Rattle.descriptor_words.proofs.Filled.{in_turn_lem}
 use Rattle.descriptor.specs.Place.{spot_wrong, turn_wrong}
 use Rattle.descriptor.specs.Entry.{fault_of}

@@ -1,15 +1,21 @@
 -- What `compute_descriptor` answers and leaves in the lent words. Definitions only.
-use Rattle.std.specs.Prelude.{ℕ, ◌*◌, not, ◌||◌, cond, List, [], ◌∷◌, eqb, length, Float}
+use Rattle.std.specs.Prelude.{ℕ, ◌*◌, not, ◌||◌, cond, List, [], ◌∷◌, eqb, length, Float, Result, Ok, Err}
 use Rattle.params.specs.Limits.{value_count}
 use Rattle.params.specs.Table.{line, first_fault, shape_wrong, length_wrong, all_good}
 use Rattle.params.specs.Answers.{on_fault}
+use Rattle.params.specs.declared.Refusal.{Refusal}
+use Rattle.params.specs.declared.Refusal.TheVariants.{Shape, Layers, Length, Settings, Fields, Samples, Room, Sheet}
 use Rattle.picture.specs.declared.Size.{Size}
 use Rattle.descriptor_run.specs.Cells.{samples_of, reads_of}
 use Rattle.descriptor_words.specs.Words.{turn_at, words_at}
-use Rattle.descriptor_words.specs.declared.Spot.{Spot}
+use Rattle.picture.specs.declared.Spot.{Spot}
 use Rattle.descriptor.specs.Place.{spot_wrong, turn_wrong}
-use Rattle.descriptor.specs.declared.Described.{Described}
-use Rattle.descriptor.specs.declared.Described.TheVariants.{Done, Short, Refused}
+
+-- What `compute_descriptor` answers: done, with the samples used; not 128 places lent; or refused, by its number (rule A2).
+pub data Described : Type 0 where
+  Done : ℕ → Described
+  Short : Described
+  Refused : ℕ → Described
 
 -- the number, count and samples of an answer (rules A2, A17 and P18)
 abbrev pub number_of : Described → ℕ
@@ -54,3 +60,18 @@ landed (Refused k) new old = old
 unfoldable pub described_out : List Float → Size → Spot → List ℕ → List ℕ
 described_out img s p out =
     landed (described_of img s p (length out)) (words_at img s p) out
+
+-- What a result of the code is in these words. No two are told alike, but for a lack of room, whose places the contract says besides.
+abbrev pub refused_told : Refusal → Described
+refused_told Shape = Refused 1
+refused_told Layers = Refused 2
+refused_told Length = Refused 3
+refused_told Settings = Refused 4
+refused_told Fields = Refused 5
+refused_told Samples = Refused 6
+refused_told (Room n) = Short
+refused_told Sheet = Refused 8
+
+abbrev pub described_told : Result ℕ Refusal → Described
+described_told (Ok n) = Done n
+described_told (Err r) = refused_told r

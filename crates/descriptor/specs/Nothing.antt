@@ -8,7 +8,7 @@ use Rattle.params.specs.Limits.{value_count}
 use Rattle.picture.specs.declared.Size.{Size}
 use Rattle.descriptor_run.specs.Cells.{reads_of}
 use Rattle.descriptor_words.specs.Words.{turn_at}
-use Rattle.descriptor_words.specs.declared.Spot.{Spot}
+use Rattle.picture.specs.declared.Spot.{Spot}
 use Rattle.descriptor.specs.Entry.{fault_of, used_of, described_of, described_out}
 
 -- all samples of a list are equal as numbers: +0 beside −0 is level too

@@ -6,7 +6,7 @@ use Rattle.params.specs.Limits.{scale_low, scale_high}
 use Rattle.params.specs.Table.{within}
 use Rattle.picture.specs.declared.Size.{Size}
 use Rattle.descriptor_patch.specs.Patch.{cell_of}
-use Rattle.descriptor_words.specs.declared.Spot.{Spot}
+use Rattle.picture.specs.declared.Spot.{Spot}
 
 -- a cell of a side of n
 abbrev pub on_side : ℕ → ℤ → Bool

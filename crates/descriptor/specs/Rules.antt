@@ -9,7 +9,7 @@ use Rattle.picture.specs.declared.Size.{Size}
 use Rattle.descriptor_patch.specs.Patch.{cell_of}
 use Rattle.descriptor_laws.specs.ValuesRules.{Byte}
 use Rattle.descriptor_words.specs.Words.{values_at}
-use Rattle.descriptor_words.specs.declared.Spot.{Spot}
+use Rattle.picture.specs.declared.Spot.{Spot}
 use Rattle.descriptor.specs.Place.{on_side, spot_wrong, turn_wrong}
 use Rattle.descriptor.specs.Entry.{fault_of}
 

@@ -9,7 +9,7 @@ use lib.Dec.{leb}
 use lib.Ieee.{Float}
 use Rattle.lists.proofs.Bools.{and_true}
 use Rattle.descriptor_values.specs.Places.{slots, row_places, place}
-use Rattle.descriptor_grid.specs.Grid.{live, when, scattered}
+use Rattle.descriptor_grid.specs.Grid.{live, pair_at, when, scattered}
 use Rattle.descriptor_shares.specs.Reach.{Inside}
 use Rattle.descriptor_shares.specs.declared.Spread.{Spread}
 
@@ -26,9 +26,33 @@ live_next r h = let a : leb 1 (r + 1) ≡ true = le-leb 1 (r + 1) (omega arith) 
     go true e = let l = leb-true r 3 e in le-leb (r + 1) 4 (omega arith) ∙ sym e
     go false e = let l = leb-false r 3 e in lt-leb (r + 1) 4 (omega arith) ∙ sym e
 
+-- what is put in where a test holds
+pub when_put : {t : Bool} (h : List Float) (i : ℕ) (a b : Float) {h1 h2 : List Float} → t ≡ true → h1 ≡ h → h2 ≡ pair_at h1 i a b → h2 ≡ when t h i a b
+unfolding when
+when_put h i a b e p q = rw (e, ← p) q
+
+pub when_left : {t : Bool} (h : List Float) (i : ℕ) (a b : Float) {h1 : List Float} → t ≡ false → h1 ≡ h → h1 ≡ when t h i a b
+unfolding when
+when_left h i a b e p = rw e p
+
+-- the pairs of one row of the grid at i, of a spread at column c
+abbrev pub in_row : List Float → ℕ → ℕ → Float → Float → Float → Float → List Float
+in_row h i c v00 v01 v10 v11 = when (leb c 3) (when (leb 1 c) h i v00 v01) (i + slots) v10 v11
+
+-- the same where a test of the row holds besides
+abbrev pub row_when : Bool → List Float → ℕ → ℕ → Float → Float → Float → Float → List Float
+row_when t h i c v00 v01 v10 v11 = when (t && leb c 3) (when (t && leb 1 c) h i v00 v01) (i + slots) v10 v11
+
+pub row_put : {t : Bool} (h : List Float) (i c : ℕ) (v00 v01 v10 v11 : Float) {h1 h2 : List Float} → t ≡ true → h1 ≡ h → h2 ≡ in_row h1 i c v00 v01 v10 v11 → h2 ≡ row_when t h i c v00 v01 v10 v11
+row_put h i c v00 v01 v10 v11 e p q = rw (e, ← p) q
+
+pub row_left : {t : Bool} (h : List Float) (i c : ℕ) (v00 v01 v10 v11 : Float) {h1 : List Float} → t ≡ false → h1 ≡ h → h1 ≡ row_when t h i c v00 v01 v10 v11
+unfolding when
+row_left h i c v00 v01 v10 v11 e p = rw e p
+
 pub four : (p : Spread) (h : List Float) {h1 h2 : List Float} → Inside p
-    → h1 ≡ when (leb 1 p.row && leb p.col 3) (when (leb 1 p.row && leb 1 p.col) h (place p.row p.col p.slot) p.shares.v000 p.shares.v001) (place p.row p.col p.slot + slots) p.shares.v010 p.shares.v011
-    → h2 ≡ when (leb p.row 3 && leb p.col 3) (when (leb p.row 3 && leb 1 p.col) h1 (place p.row p.col p.slot + row_places) p.shares.v100 p.shares.v101) (place p.row p.col p.slot + row_places + slots) p.shares.v110 p.shares.v111
+    → h1 ≡ row_when (leb 1 p.row) h (place p.row p.col p.slot) p.col p.shares.v000 p.shares.v001 p.shares.v010 p.shares.v011
+    → h2 ≡ row_when (leb p.row 3) h1 (place p.row p.col p.slot + row_places) p.col p.shares.v100 p.shares.v101 p.shares.v110 p.shares.v111
     → h2 ≡ scattered h p
 unfolding scattered
 four p h i e1 e2 =

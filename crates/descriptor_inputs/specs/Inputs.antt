@@ -1,14 +1,23 @@
 -- What the descriptor is asked with for an oriented keypoint: position and scale in its octave's cells, and the angle turned round. Operation by operation as `descriptor_inputs` of the source. Definitions only.
-use Rattle.std.specs.Prelude.{ℕ, ◌^◌, Bool, true, ◌&&◌, not, cond, [], ◌∷◌, ltb, ℤ, pos, negsuc, Float}
+use Rattle.std.specs.Prelude.{ℕ, ◌^◌, Bool, true, ◌&&◌, not, cond, [], ◌∷◌, ltb, ℤ, pos, negsuc, Float, Result, Ok, Err}
 use Rattle.std.specs.Float.Ieee.{is_nan}
 use Rattle.std.specs.Float.Ieee.Scale.{finite}
 use Rattle.ieee.specs.F32.{◌⊖◌, ◌⊗◌, ◌⊘◌, ◌<ᶠ◌, ◌≤ᶠ◌, abs_of, float}
 use Rattle.ieee.specs.Numbers.{nought, half, one, whole_turn, epsilon}
 use Rattle.params.specs.Limits.{max_octave}
 use Rattle.params.specs.Table.{line, first_fault, within}
-use Rattle.params.specs.Answers.{on_fault}
+use Rattle.params.specs.Answers.{on_fault, refusal_number}
+use Rattle.params.specs.declared.Refusal.{Refusal}
 use Rattle.orient_words.specs.declared.OrientedKeypoint.{OrientedKeypoint}
-use Rattle.descriptor_inputs.specs.declared.Inputs.{Inputs}
+use Rattle.picture.specs.declared.Spot.{Spot}
+
+-- The number of a refusal, or 0, and what the descriptor is asked with; all +0 on a refusal (rule A16).
+pub record Inputs : Type 0 where
+  pub number : ℕ
+  pub x : Float
+  pub y : Float
+  pub scale : Float
+  pub angle : Float
 
 -- 4: octave not in 0 to 15 (rule A7)
 abbrev pub octave_wrong : ℤ → Bool
@@ -51,3 +60,8 @@ refused_with n = record { number = n; x = nought; y = nought; scale = nought; an
 
 unfoldable pub inputs_of : OrientedKeypoint → ℤ → Inputs
 inputs_of o octave = on_fault (inputs_fault o octave) (given_of o (octave_of octave)) (refused_with (inputs_fault o octave))
+
+-- What a result of the code is in these words: a refusal's floats are +0. No two of those that it gives are told alike.
+abbrev pub inputs_told : Result Spot Refusal → Inputs
+inputs_told (Ok p) = record { number = 0; x = p.x; y = p.y; scale = p.scale; angle = p.angle }
+inputs_told (Err r) = record { number = refusal_number r; x = nought; y = nought; scale = nought; angle = nought }

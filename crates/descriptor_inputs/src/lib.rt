@@ -3,19 +3,11 @@
 
 ghost use Rattle.std.specs.Prelude.{◌≡◌, ◌≤◌};
 ghost use Rattle.params.specs.Limits.{max_octave};
-ghost use Rattle.descriptor_inputs.specs.Inputs.{octave_wrong, octave_of, oriented_wrong, shrink_of, reversed_of, given_of, refused_with, inputs_of};
+ghost use Rattle.descriptor_inputs.specs.Inputs.{octave_wrong, octave_of, oriented_wrong, shrink_of, reversed_of, inputs_of, inputs_told};
 
 use orient_words::OrientedKeypoint;
-
-// The number of a refusal, or 0, and what the descriptor is asked with; all +0 on a refusal (rule A16).
-#[derive(Clone, Copy)]
-pub struct Inputs {
-    pub number: u32,
-    pub x: f32,
-    pub y: f32,
-    pub scale: f32,
-    pub angle: f32,
-}
+use params::Refusal;
+use picture::Spot;
 
 // Number 4: octave not in 0 to 15.
 fn octave_wrong(octave: i32) -> bool
@@ -56,41 +48,21 @@ fn reversed(angle: f32) -> f32
     }
 }
 
-fn given(o: OrientedKeypoint, octave: u32) -> Inputs
-    requires { octave ≤ max_octave }
-    ensures { result ≡ given_of o octave }
+// The inputs of an oriented keypoint in its octave, 0 to 15.
+pub fn descriptor_inputs(o: OrientedKeypoint, octave: i32) -> Result<Spot, Refusal>
+    ensures { inputs_told result ≡ inputs_of o octave }
 {
-    let by = shrink(octave);
-    Inputs {
-        number: 0,
+    if octave_wrong(octave) {
+        return Err(Refusal::Settings);
+    }
+    if oriented_wrong(o) {
+        return Err(Refusal::Fields);
+    }
+    let by = shrink(octave as u32);
+    Ok(Spot {
         x: o.x * by,
         y: o.y * by,
         scale: o.size * by * 0.5,
         angle: reversed(o.angle),
-    }
-}
-
-fn refused(number: u32) -> Inputs
-    ensures { result ≡ refused_with number }
-{
-    Inputs {
-        number: number,
-        x: 0.0,
-        y: 0.0,
-        scale: 0.0,
-        angle: 0.0,
-    }
-}
-
-// The inputs of an oriented keypoint in its octave, 0 to 15.
-pub fn descriptor_inputs(o: OrientedKeypoint, octave: i32) -> Inputs
-    ensures { result ≡ inputs_of o octave }
-{
-    if octave_wrong(octave) {
-        return refused(4);
-    }
-    if oriented_wrong(o) {
-        return refused(5);
-    }
-    given(o, octave as u32)
+    })
 }

@@ -9,19 +9,11 @@ use native.Mathlib.Omega.{arith}
 use lib.ListN.{length, get_or, replicate, length-append, length-replicate, get_or-replicate, get_or-append}
 use lib.Seq.{get_or_at, ext_get_or}
 use lib.Ieee.{Float, nan}
-use Rattle.lists.specs.Ranges.{joined}
-use Rattle.lists.proofs.Ranges.{joined_none, joined_more}
-
--- the first n of them
-abbrev pub up_to : (ℕ → Float) → ℕ → List Float
-up_to f n = joined 0 n (λ m. f m ∷ [])
+use Rattle.lists.proofs.Ranges.{joined_more}
+use Rattle.descriptor_values.proofs.Listed.{up_to, up_to_length}
 
 step : (f : ℕ → Float) (n : ℕ) → up_to f (suc n) ≡ up_to f n ++ (f n ∷ [])
 step f n = rw (← add-one n) (joined_more 0 n (λ m. f m ∷ []) (omega arith))
-
-pub up_to_length : (f : ℕ → Float) (n : ℕ) → length (up_to f n) ≡ n
-up_to_length f zero = ap length (joined_none 0 0 (λ m. f m ∷ []) (omega arith))
-up_to_length f (suc n) = ap length (step f n) ∙ simp (length-append, up_to_length f n) (omega arith)
 
 pub up_to_at : (f : ℕ → Float) (n i : ℕ) → i < n → get_or (up_to f n) i nan ≡ f i
 up_to_at f zero i h = absurd (omega arith)

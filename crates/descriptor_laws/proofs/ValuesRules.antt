@@ -18,7 +18,8 @@ use Rattle.params.specs.Limits.{value_count}
 use Rattle.descriptor_values.specs.Places.{places, place, bins}
 use Rattle.descriptor_values.specs.Values.{clamp_ratio, factor, at, folded_at, raw_of, lane, norm2, clamped, plain_norm, scale_of, finished, values_of}
 use Rattle.descriptor_laws.specs.ValuesRules.{most, Held, Byte, ValueRule}
-use Rattle.descriptor_laws.proofs.Lists.{up_to_length, up_to_at}
+use Rattle.descriptor_values.proofs.Listed.{up_to_length}
+use Rattle.descriptor_laws.proofs.Lists.{up_to_at}
 use Rattle.descriptor_laws.proofs.Signs.{Plain, marked_plain, abs_marked, add_marked, fused_marked, root_marked, limit_marked, mul_marked, min_plain, scale_plain, held_byte}
 use Rattle.descriptor_laws.proofs.Zeros.{zeros}
 

@@ -1,9 +1,9 @@
 -- The reach of a patch, and the picture's diagonal. Assumes nothing.
-use Rattle.std.proofs.Common.{◌≡◌, ℕ, zero, suc, ◌*◌, ◌/◌, ◌^◌, ◌<◌, ◌≤◌, min, true, false, not, T, pos, sym, refl, ◌∙◌, ⊎_elim, arith}
+use Rattle.std.proofs.Common.{◌≡◌, ℕ, zero, suc, ◌*◌, ◌/◌, ◌^◌, ◌≤◌, min, true, false, not, T, pos, sym, refl, ◌∙◌, ⊎_elim, arith}
 use mathlib.Core.Bool.{false≢true}
 use lib.Ieee.{Float, nan, inf, fin, binary32, up, down, of_bits, of_int, add, mul, lt, le, to_unsigned, is_nan}
 use Rattle.lists.proofs.Bools.{is_T}
-use Rattle.ieee.specs.F32.{◌⊕◌, ◌⊗◌, f32, rounded, root_of, float}
+use Rattle.ieee.specs.F32.{◌⊗◌, f32, rounded, root_of, float}
 use Rattle.ieee.specs.Root.{sqrt, halves}
 use Rattle.ieee.specs.Whole.{round_even}
 use Rattle.ieee.specs.Numbers.{half, three, five, root2}
@@ -102,18 +102,10 @@ diagonal_far s r p k e =
 
 -- ---- the radius, of what the calls gave
 
-pub diagonal_is : (s : Size) (x y d : Float) → x ≡ float s.width → y ≡ float s.height → d ≡ root_of (x ⊗ x ⊕ y ⊗ y) → d ≡ diagonal_of s
-unfolding diagonal_of
-diagonal_is s x y d ex ey ed = rw (ed, ex, ey) refl
-
 -- k is the diagonal and r the reach: the smaller one is the radius
-pub radius_cut : (s : Size) (scale d : Float) (k r : ℕ) → k ≡ to_unsigned 64 d → d ≡ diagonal_of s → (r ≡ reach_of scale) × (r ≤ max_radius) → k < r → (k ≡ radius_of s scale) × (k ≤ max_radius)
+pub radius_near : (s : Size) (scale d : Float) (k r : ℕ) → k ≡ to_unsigned 64 d → d ≡ diagonal_of s → (r ≡ reach_of scale) × (r ≤ max_radius) → (min k r ≡ radius_of s scale) × (min k r ≤ max_radius)
 unfolding radius_of
-radius_cut s scale d k r ek ed er less = (rw (← er.0, ← ed, ← ek) (omega (arith, less)), omega (arith, less, er.1))
-
-pub radius_reach : (s : Size) (scale d : Float) (k r : ℕ) → k ≡ to_unsigned 64 d → d ≡ diagonal_of s → (r ≡ reach_of scale) × (r ≤ max_radius) → r ≤ k → (r ≡ radius_of s scale) × (r ≤ max_radius)
-unfolding radius_of
-radius_reach s scale d k r ek ed er less = (rw (← er.0, ← ed, ← ek) (omega (arith, less)), er.1)
+radius_near s scale d k r ek ed er = (rw (← er.0, ← ed, ← ek) (omega arith), omega (arith, er.1))
 
 pub radius_far : (s : Size) (scale d : Float) (r : ℕ) → Sides s → lt d far ≡ false → d ≡ diagonal_of s → (r ≡ reach_of scale) × (r ≤ max_radius) → (r ≡ radius_of s scale) × (r ≤ max_radius)
 unfolding radius_of

@@ -2,7 +2,7 @@
 #![tactic(auto)]
 
 ghost use Rattle.std.specs.Prelude.{◌≡◌, ◌<◌, ◌≤◌, true, length, pos, ◌-ℤ◌};
-ghost use Rattle.ieee.specs.F32.{float as float_of, float_z};
+ghost use Rattle.ieee.specs.F32.{float_z};
 ghost use Rattle.params.specs.Limits.{max_side, scale_low, scale_high};
 ghost use Rattle.params.specs.Table.{within};
 ghost use Rattle.picture.specs.Place.{Around};
@@ -42,13 +42,6 @@ pub struct Sample {
 
 // ---- how the patch lies
 
-pub fn float(n: usize) -> f32
-    requires { n ≤ max_side }
-    ensures { result ≡ float_of n }
-{
-    n as f32
-}
-
 // a - b as a float.
 pub fn apart(a: usize, b: usize) -> f32
     requires { (a ≤ max_side) × (b ≤ max_side) }
@@ -74,12 +67,12 @@ fn radius_of(s: Size, scale: f32) -> usize
     ensures { (result ≡ radius_of s scale) × (result ≤ max_radius) }
 {
     let reach = reach_of(scale);
-    let x = float(s.width);
-    let y = float(s.height);
+    let x = s.width as f32;
+    let y = s.height as f32;
     let d = ieee_root::sqrt(x * x + y * y);
     if d < 1024.0 {
         let k = std::num::truncating_f32_to_u64(d) as usize;
-        if k < reach { k } else { reach }
+        k.min(reach)
     } else {
         reach
     }
@@ -93,12 +86,12 @@ pub fn patch_of(s: Size, px: usize, py: usize, scale: f32, angle: f32) -> Patch
     let width = 3.0 * scale;
     Patch {
         size: s,
-        angle: angle,
+        angle,
         cos: hal_turn::cos(angle) / width,
         sin: hal_turn::sin(angle) / width,
         radius: radius_of(s, scale),
-        px: px,
-        py: py,
+        px,
+        py,
     }
 }
 
@@ -130,7 +123,7 @@ pub fn bin_of(rot: f32) -> f32
 pub fn in_grid(bin: f32) -> bool
     ensures { result ≡ in_grid bin }
 {
-    if bin > -1.0 { bin < 4.0 } else { false }
+    bin > -1.0 && bin < 4.0
 }
 
 // The cell (r, c), which lies at p in the turned patch, as a sample.

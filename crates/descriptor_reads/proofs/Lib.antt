@@ -1,3 +1,2 @@
 pub mod Good
 pub mod Window
-pub mod Steps

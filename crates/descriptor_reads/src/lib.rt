@@ -38,12 +38,9 @@ fn row_good(img: &[f32], t: Patch, r: usize, e: Run) -> bool
     requires { (length img.now ≡ t.size.height * t.size.width) × (Lies t × Inner t r e) }
     ensures { result ≡ all_good (over_run t r (four_at img.now t.size.width) e) }
 {
-    let end = e.past;
     let mut ok = true;
-    let mut c = e.first;
-    while c < end {
-        ok = ok & cell_good(img, t, r, c);
-        c += 1;
+    for c in e.first..e.past {
+        ok &= cell_good(img, t, r, c);
     }
     ok
 }
@@ -53,12 +50,11 @@ fn reads_good(img: &[f32], t: Patch) -> bool
     requires { (length img.now ≡ t.size.height * t.size.width) × Lies t }
     ensures { result ≡ all_good (reads_of img.now t) }
 {
-    let end = picture::past_in(t.py, t.radius, t.size.height);
+    let top = picture::first_in(t.py, t.radius);
+    let bottom = picture::past_in(t.py, t.radius, t.size.height);
     let mut ok = true;
-    let mut r = picture::first_in(t.py, t.radius);
-    while r < end {
-        ok = ok & row_good(img, t, r, descriptor_run::run_of(t, r));
-        r += 1;
+    for r in top..bottom {
+        ok &= row_good(img, t, r, descriptor_run::run_of(t, r));
     }
     ok
 }
@@ -74,9 +70,5 @@ pub fn patch_good(img: &[f32], t: Patch) -> bool
         left: picture::first_in(t.px, t.radius),
         right: picture::past_in(t.px, t.radius, t.size.width),
     };
-    if samples::area_good(img, t.size, window) {
-        true
-    } else {
-        reads_good(img, t)
-    }
+    samples::area_good(img, t.size, window) || reads_good(img, t)
 }

@@ -1,4 +1,3 @@
 pub mod Whole
 pub mod Runs
 pub mod Rules
-pub mod Steps

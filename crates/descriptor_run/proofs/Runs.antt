@@ -8,8 +8,8 @@ use native.Mathlib.Numerals.{add-one}
 use native.Mathlib.Omega.{arith}
 use borrow.Author.Tests.{lt-ltb, le-ltb, le-leb, lt-leb}
 use lib.Dec.{leb, ltb}
-use lib.IntN.{ℤ, pos, ◌-ℤ◌}
-use lib.Ieee.{Float, neg}
+use lib.IntN.{pos, ◌-ℤ◌}
+use lib.Ieee.{neg}
 use Rattle.lists.proofs.Naturals.{le_or_lt}
 use Rattle.ieee.specs.F32.{◌<ᶠ◌, floor_of, to_i32}
 use Rattle.lists.specs.Ranges.{joined}
@@ -81,12 +81,6 @@ none a = record { first = a; past = 0 }
 
 abbrev some : ℕ → ℕ → ℕ → Ends → Run
 some a b px e = record { first = max a (lowest px e - 1); past = min b (highest px e) }
-
-pub columns_long : (a b px : ℕ) (e : Ends) (lo hi f p m : ℕ) (d d' : ℤ) (g : Float) → (e.hi <ᶠ e.lo) ≡ false
-    → d ≡ to_i32 (floor_of e.lo) → lo ≡ shifted px d → g ≡ floor_of (neg e.hi) → d' ≡ to_i32 (neg g) → hi ≡ shifted (px + 2) d'
-    → m ≡ lo - 1 → f ≡ max a m → p ≡ min b hi → record { first = f; past = p } ≡ columns a b px e
-unfolding columns
-columns_long a b px e lo hi f p m d d' g k x l y z n o u v = rw (k, v, u, o, n, z, y, l, x)
 
 pub run_start : (a b px : ℕ) (e : Ends) → a ≤ (columns a b px e).first
 unfolding columns
@@ -168,11 +162,3 @@ pub inner : (t : Patch) (r : ℕ) → Lies t → first_in t.py t.radius ≤ r �
 inner t r l a b =
     let q = run_within t r l in
     record { up = inner_first t.py t.radius a; down = inner_last t.py t.radius t.size.height b; left = q.0; right = q.1 }
-
--- ---- a loop that counts up
-
-pub fewer : {r e : ℕ} → r < e → e - (r + 1) < e - r
-fewer h = omega arith
-
-pub further : {r e : ℕ} (a : ℕ) → r < e → r + 1 ≤ max a e
-further a h = omega arith

@@ -1,44 +1,40 @@
 -- The ends of a run as columns. Assumes nothing.
 use Prim.Native.Nat.{ℕ, zero, suc, ◌+◌, ◌-◌, ◌^◌, ◌<◌, ◌≤◌}
-use mathlib.Core.Path.{◌≡◌, refl, sym}
-use mathlib.Core.Bool.{Bool, true, false, cond, true≢false}
+use mathlib.Core.Path.{◌≡◌, sym, ap, ◌∙◌}
 use mathlib.Core.Logic.{⊎_elim}
 use native.Mathlib.Omega.{arith}
-use borrow.Author.Tests.{lt-ltb, le-ltb, le-leb, lt-leb, ltb-true}
-use lib.Dec.{T, leb, ltb}
-use lib.IntN.{ℤ, pos, negsuc, nat_abs, suc_ℤ, pred_ℤ, ◌+ℤ◌, ◌-ℤ◌, +ℤ_one, -ℤ_one}
-use lib.Signed.{le_z, lt_z, mag, non_neg}
+use borrow.Author.Tests.{lt-ltb, le-ltb, le-leb, lt-leb}
+use lib.Dec.{leb, ltb}
+use lib.IntN.{ℤ, pos, negsuc, suc_ℤ, pred_ℤ, ◌+ℤ◌, ◌-ℤ◌, +ℤ_one, -ℤ_one}
+use lib.Signed.{le_z, mag}
+use mir.Syntax.{w32, w64}
+use mir.Val.{SFits, to_z, of_z}
+use mir.ValLaws.{to_z-of_z}
+use Rattle.std.specs.Int.{saturate_unsigned}
 use Rattle.lists.proofs.Naturals.{le_or_lt}
 use Rattle.picture.proofs.Apart.{diff_up, diff_down}
 use Rattle.descriptor_run.specs.Run.{shifted}
 
 -- ---- a column and a whole number
 
-pub mag_sum : (v : ℕ) (z : ℤ) → v ≤ 2 ^ 32 → mag z < 2 ^ 31 → mag (pos v +ℤ z) < 2 ^ 63
-mag_sum v (pos n) h k = omega arith
-mag_sum v (negsuc n) h k = go (ltb v (suc n))
-  where
-    go : (b : Bool) → mag (cond b (negsuc (suc n - suc v)) (pos (v - suc n))) < 2 ^ 63
-    go true = omega arith
-    go false = omega arith
+-- a number of 32 digits, as one of 64
+wider : (z : ℤ) → SFits w32 z → to_z w64 (of_z w64 (to_z w32 (of_z w32 z))) ≡ z
+wider z h =
+    let k : mag z < 2 ^ 31 = h.sfits in
+    ap (λ (y : ℤ). to_z w64 (of_z w64 y)) (to_z-of_z w32 z h) ∙ to_z-of_z w64 z (record { sfits = omega arith })
 
-pub shifted_out : (at : ℕ) (z : ℤ) → lt_z (pos at +ℤ z) (pos 0) ≡ true → 0 ≡ shifted at z
+held : (at : ℕ) (z : ℤ) → at ≤ 2 ^ 32 → mag z < 2 ^ 31 → saturate_unsigned w64 (pos at +ℤ z) ≡ shifted at z
 unfolding shifted
-shifted_out at (pos n) e = absurd (omega (arith, ltb-true (at + n) 0 e))
-shifted_out at (negsuc n) e =
+held at (pos n) h k = omega arith
+held at (negsuc n) h k =
     ⊎_elim
-    (λ l. let k : ltb (at - suc n) 0 ≡ true = rw (le-ltb at (suc n) l) at e in absurd (omega (arith, ltb-true (at - suc n) 0 k)))
-    (λ l. omega arith)
+    (λ l. rw (le-ltb at (suc n) l) (omega arith))
+    (λ l. rw (lt-ltb at (suc n) l) (omega arith))
     (le_or_lt (suc n) at)
 
-pub shifted_in : (at : ℕ) (z : ℤ) → lt_z (pos at +ℤ z) (pos 0) ≡ false → T (non_neg (pos at +ℤ z)) × (nat_abs (pos at +ℤ z) ≡ shifted at z)
-unfolding shifted
-shifted_in at (pos n) e = (tt, refl)
-shifted_in at (negsuc n) e =
-    ⊎_elim
-    (λ l. rw (le-ltb at (suc n) l) (tt, refl))
-    (λ l. absurd (true≢false (rw (lt-ltb at (suc n) l) at e)))
-    (le_or_lt (suc n) at)
+-- a column moved by a whole number, and held to 0
+pub shifted_is : {r : ℕ} (at : ℕ) (z : ℤ) → at ≤ 2 ^ 32 → SFits w32 z → r ≡ saturate_unsigned w64 (pos at +ℤ to_z w64 (of_z w64 (to_z w32 (of_z w32 z)))) → r ≡ shifted at z
+shifted_is at z h k e = e ∙ rw (wider z k) (held at z h k.sfits)
 
 -- ---- the tests of a run, as tests of columns
 

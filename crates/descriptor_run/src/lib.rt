@@ -1,10 +1,10 @@
 // The run of each row of a patch: its ends, and the columns of the picture between them, so that no other cell of the row is looked at.
 #![tactic(auto)]
 
-ghost use Rattle.std.specs.Prelude.{◌≡◌, ◌-◌, ◌<◌, ◌≤◌, ◌^◌, min, max};
+ghost use Rattle.std.specs.Prelude.{◌≡◌, ◌<◌, ◌≤◌};
 ghost use Rattle.params.specs.Limits.{max_side};
 ghost use Rattle.descriptor_run.specs.Cells.{clip_j, ends_of};
-ghost use Rattle.descriptor_run.specs.Run.{shifted as shifted_of, columns as columns_of, run_of};
+ghost use Rattle.descriptor_run.specs.Run.{columns as columns_of, run_of};
 
 use descriptor_patch::Patch;
 
@@ -15,7 +15,7 @@ pub struct Ends {
     pub hi: f32,
 }
 
-// Columns from `first` to below `past`.
+// Columns from `first` to below `past`. A record of its own: it is copied, as a `Range` can't be, and the proofs see a loop's column as a number.
 #[derive(Clone, Copy)]
 pub struct Run {
     pub first: usize,
@@ -48,40 +48,13 @@ fn ends_of(t: Patch, r: usize) -> Ends
     ensures { result ≡ ends_of t r }
 {
     let i = descriptor_patch::apart(r, t.py);
-    let reach = descriptor_patch::float(t.radius);
+    let reach = t.radius as f32;
     let all = Ends {
         lo: -reach,
         hi: reach,
     };
     let rows = clip_j(t.sin, i * t.cos + 1.5, all);
     clip_j(t.cos, -i * t.sin + 1.5, rows)
-}
-
-// at + z, and 0 where that is below it.
-fn shifted(at: usize, z: i32) -> usize
-    requires { at ≤ 2 ^ 32 }
-    ensures { result ≡ shifted_of at z }
-{
-    let x = at as i64 + z as i64;
-    if x < 0 { 0 } else { x as usize }
-}
-
-fn larger(a: usize, b: usize) -> usize
-    ensures { result ≡ max a b }
-{
-    if a < b { b } else { a }
-}
-
-fn smaller(a: usize, b: usize) -> usize
-    ensures { result ≡ min a b }
-{
-    if a < b { a } else { b }
-}
-
-fn less_one(a: usize) -> usize
-    ensures { result ≡ a - 1 }
-{
-    if a > 0 { a - 1 } else { 0 }
 }
 
 // The run's columns among those from a to below b.
@@ -92,11 +65,13 @@ fn columns(a: usize, b: usize, px: usize, e: Ends) -> Run
     if e.hi < e.lo {
         Run { first: a, past: 0 }
     } else {
-        let lo = shifted(px, ieee_whole::floor_to_i32(e.lo));
-        let hi = shifted(px + 2, ieee_whole::to_i32(-ieee_whole::floor(-e.hi)));
+        let lo = px.saturating_add_signed(ieee_whole::floor_to_i32(e.lo) as isize);
+        let hi = (px + 2).saturating_add_signed(
+            ieee_whole::to_i32(-ieee_whole::floor(-e.hi)) as isize,
+        );
         Run {
-            first: larger(a, less_one(lo)),
-            past: smaller(b, hi),
+            first: a.max(lo.saturating_sub(1)),
+            past: b.min(hi),
         }
     }
 }

@@ -1,9 +1,6 @@
--- Inner: what the code asks of a sample, of a number and of the tables, what a split is, and what is said of a spread. No part of what a caller is promised. Definitions only.
-use Rattle.std.specs.Prelude.{ℕ, ◌≤◌, ◌≡◌, true, List, Float}
+-- Inner: what the code asks of a sample and of a number, what a split is, and what is said of a spread. No part of what a caller is promised. Definitions only.
+use Rattle.std.specs.Prelude.{ℕ, ◌≤◌, ◌≡◌, true, Float}
 use Rattle.ieee.specs.F32.{◌⊕◌, ◌⊖◌, ◌≤ᶠ◌, f32, float_z, bits_of}
-use Rattle.hal.specs.Powers.{pairs as pair_table}
-use Rattle.hal_magnitude.specs.Cubics.{cubics as cubic_table}
-use Rattle.hal_angle.specs.Turns.{turns as turn_table}
 use Rattle.hal_turn.specs.Turn.{in_turn}
 use Rattle.hal_reach.specs.Reach.{in_angle}
 use Rattle.hal.specs.Exp.{in_down}
@@ -33,12 +30,6 @@ base = f32 0x4b40_0000
 -- v by the whole number at or below it: the bits of that one lifted by 12582912, and how far v lies past it
 unfoldable pub split_of : Float → Split
 split_of v = record { bits = bits_of (float_z (floor_i v) ⊕ base); past = v ⊖ float_z (floor_i v) }
-
--- the tables that the routines are lent
-pub record Lent (ps : List ℕ) (cs ts : List Float) : Type 0 where
-  pub pairs : ps ≡ pair_table
-  pub cubics : cs ≡ cubic_table
-  pub turns : ts ≡ turn_table
 
 -- a sample that can be added and whose weight is asked inside the range of exp, split as it lies in the grid
 pub record Settled (angle : Float) (l : Landed) : Type 0 where

@@ -3,7 +3,7 @@
 
 ghost use Rattle.std.specs.Prelude.{◌≡◌};
 ghost use Rattle.descriptor_shares.specs.Sharing.{shares_of, spread_of};
-ghost use Rattle.descriptor_shares.specs.Reach.{Near, split_of, Lent, Settled, Inside};
+ghost use Rattle.descriptor_shares.specs.Reach.{Near, split_of, Settled, Inside};
 
 // A sample's eight shares: by row, column and slot of the grid, each the nearer one (0) or the next (1).
 #[derive(Clone, Copy)]
@@ -74,33 +74,27 @@ fn shares_of(m: f32, rb: f32, cb: f32, ob: f32) -> Shares
     let v001 = rc00 * ob;
     Shares {
         v000: rc00 - v001,
-        v001: v001,
+        v001,
         v010: rc01 - v011,
-        v011: v011,
+        v011,
         v100: rc10 - v101,
-        v101: v101,
+        v101,
         v110: rc11 - v111,
-        v111: v111,
+        v111,
     }
 }
 
 // A sample's shares and where they go, in a patch that is turned by `angle`. -1 is row 63 of 64 by its digits, and so 0 after one more.
-pub fn spread_of(
-    pairs: &[u32; 512],
-    cubics: &[f64; 256],
-    turns: &[f32; 272],
-    angle: f32,
-    l: Landed,
-) -> Spread
-    requires { Lent pairs.now cubics.now turns.now × Settled angle l }
+pub fn spread_of(angle: f32, l: Landed) -> Spread
+    requires { Settled angle l }
     ensures { (result ≡ spread_of angle l.sample) × Inside result }
 {
     let s = l.sample;
     let r = l.row;
     let c = l.col;
-    let m = hal_magnitude::magnitude_in(cubics, s.dx, s.dy) * hal::exp_in(pairs, s.fall);
+    let m = hal_magnitude::magnitude_in(s.dx, s.dy) * hal::exp_in(s.fall);
     // 8 / 360 slots a degree
-    let o = split_of((hal_angle::angle_in(turns, s.dx, s.dy) - angle) * 0.022222223);
+    let o = split_of((hal_angle::angle_in(s.dx, s.dy) - angle) * 0.022222223);
     Spread {
         row: ((r.bits + 1) % 64) as usize,
         col: ((c.bits + 1) % 64) as usize,

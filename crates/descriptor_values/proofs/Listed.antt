@@ -1,34 +1,58 @@
--- An array that is filled from the front is the list of its values, and a sum that goes by numbers. Assumes nothing.
+-- An array that is written from the front is the list of its values, and a sum that goes by numbers. Assumes nothing.
 use mathlib.Core.Path.{◌≡◌, refl, sym, ap, ◌∙◌}
-use mathlib.Core.List.{List, [], ◌∷◌}
-use Prim.Native.Nat.{ℕ, ◌+◌, ◌*◌, ◌<◌, ◌≤◌}
+use mathlib.Core.List.{List, [], ◌∷◌, ◌++◌}
+use Prim.Native.Nat.{ℕ, zero, suc, ◌+◌, ◌*◌, ◌<◌, ◌≤◌}
 use native.Mathlib.Numerals.{add-one}
 use native.Mathlib.Omega.{arith}
-use lib.ListN.{length, take, set}
-use lib.Seq.{take-suc-set, take_all}
-use lib.Ieee.{Float}
+use lib.ListN.{length, drop, set, get_or}
+use Rattle.std.proofs.lemmas.List.{length-append, append-nil, append_assoc, get_or_at, set_at, drop_more, drop_all}
+use lib.Ieee.{Float, nan}
 use Rattle.ieee.specs.F32.{◌⊕◌, ◌⊗◌, ◌⊘◌, fused, root_of}
 use Rattle.ieee.specs.Numbers.{epsilon}
 use Rattle.bounds.specs.Bounds.{max_of}
 use Rattle.params.specs.Limits.{value_count}
-use Rattle.descriptor_values.specs.Values.{factor, raw_of, at, lane, norm2, clamped, plain_norm, scale_of, finished, values_of}
+use Rattle.descriptor_values.specs.Values.{factor, at, lane, norm2, plain_norm, scale_of}
 use Rattle.lists.specs.Ranges.{joined}
-use Rattle.lists.proofs.Ranges.{joined_more}
+use Rattle.lists.proofs.Ranges.{joined_none, joined_more}
 
 -- the first n values
 abbrev pub up_to : (ℕ → Float) → ℕ → List Float
 up_to f n = joined 0 n (λ m. f m ∷ [])
 
-pub start : (f : ℕ → Float) → up_to f 0 ≡ []
+pub up_to_length : (f : ℕ → Float) (n : ℕ) → length (up_to f n) ≡ n
+up_to_length f zero = ap length (joined_none 0 0 (λ m. f m ∷ []) (omega arith))
+up_to_length f (suc n) =
+    ap (λ (k : ℕ). length (up_to f k)) (sym (add-one n))
+    ∙ ap length (joined_more 0 n (λ m. f m ∷ []) (omega arith))
+    ∙ length-append (up_to f n) (f n ∷ [])
+    ∙ omega (arith, up_to_length f n)
+
+-- a list whose first n places hold the first n values, and the rest what stood there
+abbrev pub filled : (ℕ → Float) → List Float → ℕ → List Float
+filled f old n = up_to f n ++ drop n old
+
+pub filled_none : (f : ℕ → Float) (old : List Float) → old ≡ filled f old 0
 unfolding joined
-start f = refl
+filled_none f old = refl
 
-pub listed_more : (f : ℕ → Float) (a : List Float) (n : ℕ) (v : Float) → n < length a → v ≡ f n → take n a ≡ up_to f n → take (n + 1) (set a n v) ≡ up_to f (n + 1)
-listed_more f a n v h e p =
-    ap (λ (k : ℕ). take k (set a n v)) (add-one n) ∙ take-suc-set a n v h ∙ rw (p, e) (sym (joined_more 0 n (λ m. f m ∷ []) (omega arith)))
+-- place n still holds what stood there, and takes the next value
+pub filled_at : (f : ℕ → Float) (old : List Float) (n : ℕ) (d : Float) → n < length old → get_or (filled f old n) n d ≡ get_or old n d
+filled_at f old n d h = rw (drop_more old n d h) (get_or_at (up_to f n) (get_or old n d) (drop (n + 1) old) d n (up_to_length f n))
 
-pub listed_all : (f : ℕ → Float) (a : List Float) (n m : ℕ) → length a ≡ m → m ≤ n → n ≤ m → take n a ≡ up_to f n → a ≡ up_to f m
-listed_all f a n m l h g e = let q : n ≡ m = omega arith in sym (take_all n a (omega arith)) ∙ e ∙ ap (up_to f) q
+pub filled_more : (f : ℕ → Float) (old : List Float) (n : ℕ) (v : Float) → n < length old → v ≡ f n → set (filled f old n) n v ≡ filled f old (n + 1)
+filled_more f old n v h e =
+    rw (drop_more old n v h, set_at (up_to f n) (get_or old n v) (drop (n + 1) old) v n (up_to_length f n), joined_more 0 n (λ m. f m ∷ []) (omega arith), append_assoc, e)
+
+-- a turn of a loop that puts g of what stands at place n there
+pub filled_next : (g : Float → Float) (old a : List Float) (n : ℕ) {v : Float} → n < length old → a ≡ filled (λ m. g (at old m)) old n → v ≡ g (at a n) → set a n v ≡ filled (λ m. g (at old m)) old (n + 1)
+filled_next g old a n {v} h p e =
+    ap (λ (u : List Float). set u n v) p
+    ∙ filled_more (λ m. g (at old m)) old n v h (e ∙ ap g (ap (λ (u : List Float). at u n) p ∙ filled_at (λ m. g (at old m)) old n nan h))
+
+pub filled_all : (f : ℕ → Float) (old : List Float) (n m : ℕ) → length old ≡ m → n ≤ m → m ≤ n → filled f old n ≡ up_to f m
+filled_all f old n m e h k =
+    let q : n ≡ m = omega arith in
+    rw (q, drop_all m old (omega arith), append-nil)
 
 pub lane_more : (v : List Float) (l n : ℕ) → lane v l (n + 1) ≡ fused (at v (4 * n + l)) (at v (4 * n + l)) (lane v l n)
 unfolding lane
@@ -55,7 +79,3 @@ plain_on v n s e = ap (λ (z : Float). z ⊕ at v n ⊗ at v n) e ∙ sym (plain
 pub scale_is : (v : List Float) (s r m : Float) → s ≡ plain_norm v value_count → r ≡ root_of s → m ≡ max_of r epsilon → factor ⊘ m ≡ scale_of v
 unfolding scale_of
 scale_is v s r m es er em = rw (em, er, es) refl
-
-pub values_is : (h a b c : List Float) → a ≡ raw_of h → b ≡ clamped a → c ≡ finished b → c ≡ values_of h
-unfolding values_of
-values_is h a b c ea eb ec = rw (ec, eb, ea) refl

@@ -6,12 +6,17 @@ ghost use Rattle.ieee.specs.F32.{fused};
 ghost use Rattle.params.specs.Limits.{value_count};
 ghost use Rattle.descriptor_values.specs.Values.{folded_at, raw_of, at, norm2, clamped, plain_norm, scale_of, finished, values_of};
 
+// The cells of a side of the histogram, and the slots of a cell.
+pub const CELLS: usize = 6;
+
+pub const SLOTS: usize = 10;
+
 // Value n of the inner cells: slot n % 8 of the cell at row n / 32, column n / 8 % 4. The first slot takes the ninth.
 fn folded(hist: &[f32; 360], n: usize) -> f32
     requires { n < value_count }
     ensures { result ≡ folded_at hist.now (n / 32) (n / 8 % 4) (n % 8) }
 {
-    let at = ((n / 32 + 1) * 6 + (n / 8 % 4 + 1)) * 10;
+    let at = ((n / 32 + 1) * CELLS + (n / 8 % 4 + 1)) * SLOTS;
     let k = n % 8;
     if k == 0 {
         hist[at] + hist[at + 8]
@@ -24,10 +29,8 @@ fn raw(hist: &[f32; 360]) -> [f32; 128]
     ensures { result ≡ raw_of hist.now }
 {
     let mut v = [0.0; 128];
-    let mut n: usize = 0;
-    while n < 128 {
+    for n in 0..128 {
         v[n] = folded(hist, n);
-        n += 1;
     }
     v
 }
@@ -49,29 +52,23 @@ fn nrm2(v: &[f32; 128]) -> f32
     let mut b: f32 = 0.0;
     let mut c: f32 = 0.0;
     let mut d: f32 = 0.0;
-    let mut n: usize = 0;
-    while n < 32 {
+    for n in 0..32 {
         a = with_square(v, 4 * n, a);
         b = with_square(v, 4 * n + 1, b);
         c = with_square(v, 4 * n + 2, c);
         d = with_square(v, 4 * n + 3, d);
-        n += 1;
     }
     (a + b) + (c + d)
 }
 
-// Each value held to 0.2 of the norm's root.
-fn clamp_all(v: &[f32; 128]) -> [f32; 128]
-    ensures { result ≡ clamped v.now }
+// Each value held to 0.2 of the norm's root, in place.
+fn clamp_all(v: &mut [f32; 128])
+    ensures { v.new ≡ clamped v.old }
 {
     let thr = ieee_root::sqrt(nrm2(v)) * 0.2;
-    let mut u = [0.0; 128];
-    let mut n: usize = 0;
-    while n < 128 {
-        u[n] = bounds::min(v[n], thr);
-        n += 1;
+    for x in v.iter_mut() {
+        *x = bounds::min(*x, thr);
     }
-    u
 }
 
 // The sum of the squares, each product and each sum rounded.
@@ -79,11 +76,8 @@ fn plain_sum(v: &[f32; 128]) -> f32
     ensures { result ≡ plain_norm v.now value_count }
 {
     let mut s: f32 = 0.0;
-    let mut n: usize = 0;
-    while n < 128 {
-        let x = v[n];
-        s = s + x * x;
-        n += 1;
+    for x in v {
+        s += *x * *x;
     }
     s
 }
@@ -95,25 +89,22 @@ fn scale(v: &[f32; 128]) -> f32
     512.0 / bounds::max(ieee_root::sqrt(plain_sum(v)), 0.00000011920929)
 }
 
-// Scaled, rounded, and held in 0 to 255.
-fn finish(v: &[f32; 128]) -> [f32; 128]
-    ensures { result ≡ finished v.now }
+// Scaled, rounded, and held in 0 to 255, in place.
+fn finish(v: &mut [f32; 128])
+    ensures { v.new ≡ finished v.old }
 {
     let by = scale(v);
-    let mut u = [0.0; 128];
-    let mut n: usize = 0;
-    while n < 128 {
-        u[n] = bounds::clamp(ieee_whole::round_ties_even(v[n] * by), 0.0, 255.0);
-        n += 1;
+    for x in v.iter_mut() {
+        *x = bounds::clamp(ieee_whole::round_ties_even(*x * by), 0.0, 255.0);
     }
-    u
 }
 
 // The 128 values of a histogram.
 pub fn values(hist: &[f32; 360]) -> [f32; 128]
     ensures { result ≡ values_of hist.now }
 {
-    let v = raw(hist);
-    let u = clamp_all(&v);
-    finish(&u)
+    let mut v = raw(hist);
+    clamp_all(&mut v);
+    finish(&mut v);
+    v
 }

@@ -10,19 +10,16 @@ use lib.Ieee.{Float, nan, of_bits}
 use Rattle.ieee.specs.F32.{bits_of}
 use Rattle.ieee.specs.Numbers.{nought, whole_turn}
 use Rattle.hal_turn.specs.Turn.{in_turn}
-use Rattle.params.specs.Limits.{scale_low, scale_high}
 use Rattle.params.specs.Table.{within}
 use Rattle.picture.specs.declared.Size.{Size}
-use Rattle.descriptor_patch.specs.Patch.{cell_of, patch_of}
-use Rattle.descriptor_patch.specs.Place.{Sides}
+use Rattle.descriptor_patch.specs.Patch.{patch_of}
 use Rattle.descriptor_patch.specs.declared.Patch.{Patch}
 use Rattle.descriptor_run.specs.Cells.{samples_of}
 use Rattle.descriptor_grid.specs.Grid.{gathered_in, gathered}
 use Rattle.descriptor_values.specs.Places.{places}
 use Rattle.descriptor_values.specs.Values.{values_of}
-use Rattle.descriptor_words.specs.Words.{cell_at, turn_at, values_at, words_at}
-use Rattle.descriptor_words.specs.Accepted.{Aimed}
-use Rattle.descriptor_words.specs.declared.Spot.{Spot}
+use Rattle.descriptor_words.specs.Words.{turn_at, values_at, words_at}
+use Rattle.picture.specs.declared.Spot.{Spot}
 
 pub in_turn_lem : (angle : Float) → within nought whole_turn angle ≡ true → in_turn angle ≡ true
 unfolding of_bits
@@ -32,15 +29,6 @@ in_turn_lem angle e = e
 pub turn_angle : (s : Size) (p : Spot) → (turn_at s p).angle ≡ p.angle
 unfolding turn_at patch_of
 turn_angle s p = refl
-
-module _ (s : Size) (p : Spot) where
-  -- the patch about the two cells
-  pub turn_is : (px py : ℕ) (t : Patch) → px ≡ cell_at (cell_of p.x) → py ≡ cell_at (cell_of p.y) → t ≡ patch_of s px py p.scale p.angle → t ≡ turn_at s p
-  unfolding turn_at
-  turn_is px py t a b e = e ∙ rw (a, b)
-
-  pub asked : (px py : ℕ) → px ≡ cell_at (cell_of p.x) → py ≡ cell_at (cell_of p.y) → Aimed s p → Sides s × ((px < s.width) × ((py < s.height) × (within scale_low scale_high p.scale ≡ true)))
-  asked px py a b k = (k.sides, (rw a k.column, (rw b k.row, k.sized)))
 
 -- ---- a list filled from the front with the bits of another's elements
 pub put_more : (v : List Float) (out : List ℕ) (n b : ℕ) → n < length v → n < length out → b ≡ bits_of (get_or v n nan) → take n out ≡ take n (map bits_of v)

@@ -8,7 +8,7 @@ use Rattle.descriptor_patch.specs.Patch.{cell_of}
 use Rattle.descriptor_run.specs.Cells.{reads_of}
 use Rattle.descriptor_patch.specs.Place.{Sides}
 use Rattle.descriptor_words.specs.Words.{cell_at, turn_at}
-use Rattle.descriptor_words.specs.declared.Spot.{Spot}
+use Rattle.picture.specs.declared.Spot.{Spot}
 
 -- the position, the scale and the angle, up to number 5
 pub record Aimed (s : Size) (p : Spot) : Type 0 where

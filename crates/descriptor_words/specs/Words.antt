@@ -7,7 +7,7 @@ use Rattle.descriptor_patch.specs.declared.Patch.{Patch}
 use Rattle.descriptor_run.specs.Cells.{samples_of}
 use Rattle.descriptor_grid.specs.Grid.{gathered}
 use Rattle.descriptor_values.specs.Values.{values_of}
-use Rattle.descriptor_words.specs.declared.Spot.{Spot}
+use Rattle.picture.specs.declared.Spot.{Spot}
 
 -- a rounded position as a cell; below 0, the first
 abbrev pub cell_at : ℤ → ℕ

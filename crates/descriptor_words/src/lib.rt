@@ -6,34 +6,19 @@ ghost use Rattle.ieee.specs.F32.{bits_of};
 ghost use Rattle.params.specs.Limits.{value_count};
 ghost use Rattle.descriptor_run.specs.Cells.{samples_of};
 ghost use Rattle.descriptor_patch.specs.Place.{Lies};
-ghost use Rattle.descriptor_words.specs.Words.{cell_at, turn_at, words_at};
+ghost use Rattle.descriptor_words.specs.Words.{turn_at, words_at};
 ghost use Rattle.descriptor_words.specs.Accepted.{Aimed, Ready};
 
 use descriptor_patch::Patch;
-use picture::Size;
-
-// Where a descriptor is asked for: a position in cells of the picture, the scale there, and the angle in degrees that the patch is turned by.
-#[derive(Clone, Copy)]
-pub struct Spot {
-    pub x: f32,
-    pub y: f32,
-    pub scale: f32,
-    pub angle: f32,
-}
-
-fn cell_at(z: i32) -> usize
-    ensures { result ≡ cell_at z }
-{
-    if z < 0 { 0 } else { z as usize }
-}
+use picture::{Size, Spot};
 
 // How the patch lies.
 pub fn turn_at(s: Size, p: Spot) -> Patch
     requires { Aimed s p }
     ensures { (result ≡ turn_at s p) × Lies result }
 {
-    let px = cell_at(ieee_whole::round_to_i32(p.x));
-    let py = cell_at(ieee_whole::round_to_i32(p.y));
+    let px = ieee_whole::round_to_i32(p.x).max(0) as usize;
+    let py = ieee_whole::round_to_i32(p.y).max(0) as usize;
     descriptor_patch::patch_of(s, px, py, p.scale, p.angle)
 }
 
@@ -42,10 +27,8 @@ fn put(v: &[f32; 128], out: &mut [u32])
     requires { (length v.now ≡ value_count) × (length out.old ≡ value_count) }
     ensures { out.new ≡ map bits_of v.now }
 {
-    let mut n: usize = 0;
-    while n < 128 {
+    for n in 0..128 {
         out[n] = ieee::bits_of(v[n]);
-        n += 1;
     }
 }
 

@@ -1,52 +1,47 @@
-use mathlib.Core.Path.{◌≡◌, sym, ◌∙◌}
+use mathlib.Core.Path.{◌≡◌, sym}
 use native.Mathlib.Omega.{arith}
 use lib.ListN.{length}
+use Rattle.std.proofs.lemmas.Result.{err_from_is_err_and}
 use Rattle.params.specs.Limits.{value_count}
-use Rattle.descriptor.proofs.Answers.{answer_refused, out_refused, answer_short, out_short, answer_done, out_done}
-use borrow.Author.Rules.{rules}
+use Rattle.descriptor.proofs.Answers.{answer_refused, out_refused, room_refused, answer_short, out_short, answer_done, out_done}
 use Rattle.descriptor.proofs.compute_descriptor.Goals as goal
 
-pub returns-then-fault-ne0-clause-value : goal.returns-then-fault-ne0-clause-value
-returns-then-fault-ne0-clause-value c =
+pub returns-in_err-fault-clause-value : goal.returns-in_err-fault-clause-value
+returns-in_err-fault-clause-value c =
     let a = c.args in
-    let e = c.fault_of-fault.ensures.value in
-    answer_refused a.img.now a.s a.p _ _ e c.if-fault-ne0.true
+    let p = err_from_is_err_and c.from_residual.result c.from_residual.ensures.1 in
+    rw (p.1, p.2) (answer_refused a.img.now a.s a.p _ _ c.in_err-fault.ensures.value)
 
-pub returns-then-fault-ne0-clause-out_after : goal.returns-then-fault-ne0-clause-out_after
-returns-then-fault-ne0-clause-out_after c =
+pub returns-in_err-fault-clause-room : goal.returns-in_err-fault-clause-room
+returns-in_err-fault-clause-room c =
     let a = c.args in
-    let e = c.fault_of-fault.ensures.value in
-    out_refused a.img.now a.s a.p _ a.out.now e c.if-fault-ne0.true
+    let p = err_from_is_err_and c.from_residual.result c.from_residual.ensures.1 in
+    room_refused a.img.now a.s a.p _ c.in_err-fault.ensures.value p.1 p.2
 
-pub returns-then-out-ne128-clause-value : goal.returns-then-out-ne128-clause-value
-returns-then-out-ne128-clause-value c =
+pub returns-in_err-fault-clause-out_after : goal.returns-in_err-fault-clause-out_after
+returns-in_err-fault-clause-out_after c =
     let a = c.args in
-    let z = sym c.fault_of-fault.ensures.value ∙ c.if-fault-ne0.false in
-    let r : length a.out.now ≡ value_count → ⊥ = λ e. omega (arith, c.if-out-ne128.true) in
-    answer_short a.img.now a.s a.p z _ r
+    out_refused a.img.now a.s a.p _ a.out.now c.in_err-fault.ensures.value
 
-pub returns-then-out-ne128-clause-out_after : goal.returns-then-out-ne128-clause-out_after
-returns-then-out-ne128-clause-out_after c =
+pub returns-then-out-ne-VALUES-clause-value : goal.returns-then-out-ne-VALUES-clause-value
+returns-then-out-ne-VALUES-clause-value c =
     let a = c.args in
-    let z = sym c.fault_of-fault.ensures.value ∙ c.if-fault-ne0.false in
-    let r : length a.out.now ≡ value_count → ⊥ = λ e. omega (arith, c.if-out-ne128.true) in
-    out_short a.img.now a.s a.p z a.out.now r
+    let r : length a.out.now ≡ value_count → ⊥ = λ e. omega (arith, c.if-out-ne-VALUES.true) in
+    answer_short a.img.now a.s a.p (sym c.in_ok-fault.ensures.value) _ r
 
-pub fill-requires : goal.fill-requires
-fill-requires c = (c.fault_of-fault.ensures.ready c.if-fault-ne0.false, search rules)
+pub returns-then-out-ne-VALUES-clause-out_after : goal.returns-then-out-ne-VALUES-clause-out_after
+returns-then-out-ne-VALUES-clause-out_after c =
+    let a = c.args in
+    let r : length a.out.now ≡ value_count → ⊥ = λ e. omega (arith, c.if-out-ne-VALUES.true) in
+    out_short a.img.now a.s a.p (sym c.in_ok-fault.ensures.value) a.out.now r
 
 pub returns-clause-value : goal.returns-clause-value
 returns-clause-value c =
     let a = c.args in
-    let z = sym c.fault_of-fault.ensures.value ∙ c.if-fault-ne0.false in
-    let r = c.if-out-ne128.false in
-    let f = c.fill.ensures in
-    answer_done a.img.now a.s a.p z _ _ f.value r
+    answer_done a.img.now a.s a.p (sym c.in_ok-fault.ensures.value) _ _ c.fill.ensures.value c.if-out-ne-VALUES.false
 
 pub returns-clause-out_after : goal.returns-clause-out_after
 returns-clause-out_after c =
     let a = c.args in
-    let z = sym c.fault_of-fault.ensures.value ∙ c.if-fault-ne0.false in
-    let r = c.if-out-ne128.false in
     let f = c.fill.ensures in
-    out_done a.img.now a.s a.p z _ a.out.now _ f.value r f.out_after
+    out_done a.img.now a.s a.p (sym c.in_ok-fault.ensures.value) _ a.out.now _ f.value c.if-out-ne-VALUES.false f.out_after

@@ -5,7 +5,7 @@ use Rattle.descriptor_patch.proofs.in_grid.Goals as goal
 both : (a b : Bool) → a ≡ true → b ≡ (a && b)
 both a b e = rw e
 
-neither : (a b : Bool) → a ≡ false → false ≡ (a && b)
+neither : (a b : Bool) → a ≡ false → a ≡ (a && b)
 neither a b e = rw e
 
 pub returns-then-bin : goal.returns-then-bin

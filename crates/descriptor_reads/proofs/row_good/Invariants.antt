@@ -1,4 +1,4 @@
-use Prim.Native.Nat.{◌-◌, ◌≤◌, max}
+use Prim.Native.Nat.{◌≤◌, max}
 use mathlib.Core.Path.{◌≡◌}
 use mathlib.Core.Bool.{cond}
 use mathlib.Core.List.{[]}
@@ -9,7 +9,7 @@ use Rattle.descriptor_patch.specs.Patch.{grid_at}
 use Rattle.descriptor_reads.proofs.row_good.Given as goal
 
 abbrev pub invariant-loop-c : goal.invariant-loop-c
-invariant-loop-c l = (l.initial.c ≤ l.c) × ((l.c ≤ max l.initial.c l.end) × (l.ok ≡ all_good (joined l.initial.c l.c (λ k. cond (grid_at l.t l.r k) (four_at l.img l.t.size.width l.r k) []))))
-
-abbrev pub decreases-loop-c : goal.decreases-loop-c
-decreases-loop-c l = l.end - l.c
+invariant-loop-c l = record {
+  reached : l.c ≤ max l.initial.c l.c-end;
+  so_far : l.ok ≡ all_good (joined l.initial.c l.c (λ k. cond (grid_at l.t l.r k) (four_at l.img l.t.size.width l.r k) []));
+}

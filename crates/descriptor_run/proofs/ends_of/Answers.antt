@@ -1,7 +1,6 @@
-use Rattle.descriptor_run.proofs.Steps.{ends_is}
+use Rattle.descriptor_run.specs.Cells.{ends_of}
 use Rattle.descriptor_run.proofs.ends_of.Goals as goal
 
 pub returns : goal.returns
-returns c =
-    let a = c.args in
-    ends_is a.t a.r _ _ c.clip_j-rows.result _ c.apart-i.ensures c.float-reach.ensures c.clip_j-rows.ensures c.clip_j.ensures
+unfolding ends_of
+returns c = rw (c.clip_j.ensures, c.clip_j-rows.ensures, c.apart-i.ensures)

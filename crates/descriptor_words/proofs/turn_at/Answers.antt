@@ -1,22 +1,14 @@
-use mathlib.Core.Path.{◌≡◌}
-use Rattle.descriptor_patch.specs.Patch.{cell_of}
-use Rattle.descriptor_words.specs.Words.{cell_at}
+use mathlib.Core.Path.{◌∙◌}
+use Rattle.descriptor_words.specs.Words.{turn_at}
 use Rattle.descriptor_words.proofs.Cells.{cell_told}
-use Rattle.descriptor_words.proofs.Filled.{asked, turn_is}
 use Rattle.descriptor_words.proofs.turn_at.Goals as goal
 
-pub patch_of-requires : goal.patch_of-requires
-patch_of-requires c =
-    let r = c.round_to_i32-2 in
-    let q = c.round_to_i32 in
-    let p : c.cell_at-px.result ≡ cell_at (cell_of c.args.p.x) = cell_told _ _ _ (record { sfits = q.type_inv }) q.ensures c.cell_at-px.ensures in
-    let o : c.cell_at-py.result ≡ cell_at (cell_of c.args.p.y) = cell_told _ _ _ (record { sfits = r.type_inv }) r.ensures c.cell_at-py.ensures in
-    asked _ _ _ _ p o c.requires
-
 pub returns : goal.returns
+unfolding turn_at
 returns c =
-    let r = c.round_to_i32-2 in
-    let q = c.round_to_i32 in
-    let p : c.cell_at-px.result ≡ cell_at (cell_of c.args.p.x) = cell_told _ _ _ (record { sfits = q.type_inv }) q.ensures c.cell_at-px.ensures in
-    let o : c.cell_at-py.result ≡ cell_at (cell_of c.args.p.y) = cell_told _ _ _ (record { sfits = r.type_inv }) r.ensures c.cell_at-py.ensures in
-    (turn_is _ _ _ _ _ p o c.patch_of.ensures.0, c.patch_of.ensures.1)
+    let x = c.round_to_i32 in
+    let y = c.round_to_i32-2 in
+    let px = cell_told _ _ _ (record { sfits = x.type_inv }) (record { sfits = c.max-px.type_inv }) x.ensures c.max-px.ensures.value in
+    let py = cell_told _ _ _ (record { sfits = y.type_inv }) (record { sfits = c.max-py.type_inv }) y.ensures c.max-py.ensures.value in
+    let k = c.patch_of.ensures in
+    (k.0 ∙ rw (px, py), k.1)

@@ -9,9 +9,7 @@ use borrow.Author.Tests.{le-leb, lt-leb, leb-true}
 use lib.Dec.{leb}
 use lib.ListN.{length, drop}
 use Rattle.lists.specs.Pasted.{pasted}
-use Rattle.params.specs.Answers.{answer_of, landed}
-use Rattle.params.specs.declared.Answer.{Answer}
-use Rattle.params.specs.declared.Answer.TheVariants.{Done, Short, Refused}
+use Rattle.params.specs.Answers.{answer_of, landed, Answer, Done, Short, Refused}
 
 pub answer_refused : (fault count need room : ℕ) → (fault ≡ 0 → ⊥) → answer_of fault count need room ≡ Refused fault
 unfolding answer_of

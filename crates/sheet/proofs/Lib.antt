@@ -13,3 +13,4 @@ pub mod Rules
 pub mod Steps
 pub mod Runs
 pub mod Alike
+pub mod Chunks

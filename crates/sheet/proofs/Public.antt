@@ -9,17 +9,14 @@ use borrow.Author.Tests.{eqb-true, eq-eqb}
 use lib.Dec.{eqb, lit<}
 use lib.ListN.{length, get_or, take, drop, length-map}
 use lib.Seq.{take_at}
-use Rattle.params.specs.Answers.{landed}
-use Rattle.params.specs.declared.Answer.{Answer}
-use Rattle.params.specs.declared.Answer.TheVariants.{Done, Short, Refused}
+use Rattle.params.specs.Answers.{landed, Answer, Done, Short, Refused}
 use Rattle.sheet.specs.Pack.{slot, bits, pack, value, fields, unpack, Bytes}
 use Rattle.sheet.specs.Layout.{Layout, Frame, layout_of, known, header_size, mark_bits, top_rule, header_slots, header_values, record_size, record_slots}
 use Rattle.sheet.specs.Sheet.{record_right, sheet_bytes, header_in, read_frame, read_count, read_sheet}
 use Rattle.sheet.specs.Words.{read_words, taken_words, filled, worded, with_blank}
 use Rattle.sheet.specs.Writes.{frame_of, count_in, records_of, sheet_of, layout_fault, write_fault, written, write_size, write_answer, write_out}
-use Rattle.sheet.specs.Reads.{read_fault, words_in, read_number, edition_in, layout_in, with_frame, read_answer, read_out}
+use Rattle.sheet.specs.Reads.{Read, read_fault, words_in, read_number, edition_in, layout_in, with_frame, read_answer, read_out}
 use Rattle.sheet.specs.Trip.{Lawful, handed_back, WrittenIsRead, ReadIsWritten, ReadOnce}
-use Rattle.sheet.specs.declared.Read.{Read}
 use Rattle.sheet.proofs.Packed.{sound_at, length_pack}
 use Rattle.sheet.proofs.Lawful.{lawful_edition, side_edition, header_bits}
 use Rattle.sheet.proofs.Parts.{length_parts, flat_at, flat_map_lem, length_flat}

@@ -7,12 +7,13 @@ use native.Mathlib.Nat.{add-zero, not-suc-le-zero, mul-zero, mul-suc, mul-add, m
 use native.Mathlib.Numerals.{add-one}
 use native.Mathlib.Omega.{arith}
 use borrow.Author.Tests.{le-leb, lt-leb, ne_eqb}
-use lib.Dec.{leb, eqb}
-use lib.ListN.{length, get_or, set, take, drop, replicate, length-append, length-take, length-set}
+use lib.Dec.{leb, eqb, leb-zero}
+use lib.ListN.{length, get_or, set, take, drop, replicate, length-append, length-take, length-drop, length-set, drop_of_length-le}
 use lib.Seq.{drop-cons, drop-drop}
+use Rattle.std.specs.List.{list_all}
 use Rattle.lists.specs.Pasted.{pasted}
 use Rattle.lists.proofs.Pasted.{pasted_none, pasted_append, pasted_cons, pasted_snoc}
-use Rattle.sheet.specs.Pack.{Slot, bytes, sound}
+use Rattle.sheet.specs.Pack.{slot, bytes, sound}
 use Rattle.sheet.specs.Sheet.{parts, all_pass}
 use Rattle.sheet.specs.Words.{all_zero}
 use Rattle.sheet.proofs.Packed.{length_bytes, bytes_none}
@@ -37,69 +38,53 @@ put_end at m i d h =
     let e : i ≡ 0 = omega arith in
     rw (e, bytes_none m, pasted_none)
 
--- the first of n elements from i, and the rest
-pub part_cons : (n i : ℕ) (ws : List ℕ) → 0 < n → i < length ws → take n (drop i ws) ≡ get_or ws i 0 ∷ take (n - 1) (drop (i + 1) ws)
-part_cons zero i ws p h = absurd (not-suc-le-zero p)
-part_cons (suc n) i ws p h =
-    let e : suc n - 1 ≡ n = omega arith in
-    rw (e, add-one, drop-cons ws i 0 h)
+drop_next : (xs : List ℕ) (i : ℕ) → i < length xs → drop i xs ≡ get_or xs i 0 ∷ drop (i + 1) xs
+drop_next xs i h = rw (add-one, drop-cons xs i 0 h)
 
--- a copy of n elements, one at a time
-pub copy_turn : (k i at from : ℕ) (ws d : List ℕ) → i < k → from + k ≤ length ws → at + k ≤ length d →
-    pasted (at + (i + 1)) (take (k - (i + 1)) (drop (from + (i + 1)) ws)) (set d (at + i) (get_or ws (from + i) 0))
-    ≡ pasted (at + i) (take (k - i) (drop (from + i) ws)) d
-copy_turn k i at from ws d h f g =
-    let e = part_cons (k - i) (from + i) ws (omega arith) (omega arith) in
-    let m : k - i - 1 ≡ k - (i + 1) = omega arith in
-    let n : from + i + 1 ≡ from + (i + 1) = omega arith in
+-- a copy, one element at a time
+pub copy_next : (i at : ℕ) (xs d : List ℕ) → i < length xs → at + length xs ≤ length d →
+    pasted (at + (i + 1)) (drop (i + 1) xs) (set d (at + i) (get_or xs i 0)) ≡ pasted (at + i) (drop i xs) d
+copy_next i at xs d h g =
+    let l : length (drop (i + 1) xs) ≡ length xs - (i + 1) = length-drop (i + 1) xs in
     let o : at + i + 1 ≡ at + (i + 1) = omega arith in
-    let t = take (k - (i + 1)) (drop (from + (i + 1)) ws) in
-    let l : length (take (k - (i + 1)) (drop (from + (i + 1)) ws)) ≤ k - (i + 1) = rw length-take (omega arith) in
-    rw (e, m, n, pasted_cons (at + i) (get_or ws (from + i) 0) (take (k - (i + 1)) (drop (from + (i + 1)) ws)) d (omega arith), o)
+    rw (drop_next xs i h, pasted_cons (at + i) (get_or xs i 0) (drop (i + 1) xs) d (omega arith), o)
 
 pub length_bytes_all : (k : ℕ) (ws : List ℕ) → length (flat_map (bytes k) ws) ≡ k * length ws
 unfolding flat_map
 length_bytes_all k [] = rw mul-zero
 length_bytes_all k (w ∷ ws) = rw (length-append, length_bytes, length_bytes_all k ws, mul-suc) (omega arith)
 
+-- past the last nothing is left to copy
+pub copy_end : (i at : ℕ) (xs d : List ℕ) → length xs ≤ i → pasted at (drop i xs) d ≡ d
+copy_end i at xs d h = rw (drop_of_length-le xs h) (pasted_none at d)
+
 -- words as four bytes each, one word at a time
-pub floats_turn : (k i at from : ℕ) (ws d : List ℕ) → i < k → from + k ≤ length ws → at + 4 * k ≤ length d →
-    pasted (at + 4 * (i + 1)) (flat_map (bytes 4) (take (k - (i + 1)) (drop (from + (i + 1)) ws))) (pasted (at + 4 * i) (bytes 4 (get_or ws (from + i) 0)) d)
-    ≡ pasted (at + 4 * i) (flat_map (bytes 4) (take (k - i) (drop (from + i) ws))) d
+pub floats_next : (i at : ℕ) (xs d : List ℕ) → i < length xs → at + 4 * length xs ≤ length d →
+    pasted (at + 4 * (i + 1)) (flat_map (bytes 4) (drop (i + 1) xs)) (pasted (at + 4 * i) (bytes 4 (get_or xs i 0)) d)
+    ≡ pasted (at + 4 * i) (flat_map (bytes 4) (drop i xs)) d
 unfolding flat_map
-floats_turn k i at from ws d h f g =
-    let e = part_cons (k - i) (from + i) ws (omega arith) (omega arith) in
-    let m : k - i - 1 ≡ k - (i + 1) = omega arith in
-    let n : from + i + 1 ≡ from + (i + 1) = omega arith in
+floats_next i at xs d h g =
+    let l : length (drop (i + 1) xs) ≡ length xs - (i + 1) = length-drop (i + 1) xs in
+    let b : length (bytes 4 (get_or xs i 0)) ≡ 4 = length_bytes 4 (get_or xs i 0) in
+    let t : length (flat_map (bytes 4) (drop (i + 1) xs)) ≡ 4 * length (drop (i + 1) xs) = length_bytes_all 4 (drop (i + 1) xs) in
+    let r : at + 4 * i + length (bytes 4 (get_or xs i 0) ++ flat_map (bytes 4) (drop (i + 1) xs)) ≤ length d = rw length-append (omega arith) in
     let o : at + 4 * i + 4 ≡ at + 4 * (i + 1) = omega arith in
-    let b : length (bytes 4 (get_or ws (from + i) 0)) ≡ 4 = length_bytes 4 (get_or ws (from + i) 0) in
-    let u : length (take (k - (i + 1)) (drop (from + (i + 1)) ws)) ≤ k - (i + 1) = rw length-take (omega arith) in
-    let t : length (flat_map (bytes 4) (take (k - (i + 1)) (drop (from + (i + 1)) ws))) ≤ 4 * (k - (i + 1)) = rw length_bytes_all (omega arith) in
-    let r : at + 4 * i + length (bytes 4 (get_or ws (from + i) 0) ++ flat_map (bytes 4) (take (k - (i + 1)) (drop (from + (i + 1)) ws))) ≤ length d =
-    rw length-append (omega arith) in
-    rw (e, m, n, pasted_append (at + 4 * i) (bytes 4 (get_or ws (from + i) 0)) (flat_map (bytes 4) (take (k - (i + 1)) (drop (from + (i + 1)) ws))) d r, b, o)
+    rw (drop_next xs i h, pasted_append (at + 4 * i) (bytes 4 (get_or xs i 0)) (flat_map (bytes 4) (drop (i + 1) xs)) d r, b, o)
 
-values_suc : (n i : ℕ) (s : Slot) (ws : List ℕ) → i < length ws →
-    sound (replicate (suc n) s) (take (suc n) (drop i ws)) ≡ ((leb s.low (get_or ws i 0) && leb (get_or ws i 0) s.high) && sound (replicate n s) (take n (drop (i + 1) ws)))
+pub floats_end : (i at : ℕ) (xs d : List ℕ) → length xs ≤ i → pasted at (flat_map (bytes 4) (drop i xs)) d ≡ d
+unfolding flat_map
+floats_end i at xs d h = rw (drop_of_length-le xs h) (pasted_none at d)
+
+-- values that are each at most the largest of a slot from 0 on are sound in as many of it
+pub all_low : (w h : ℕ) (xs : List ℕ) → list_all (λ v. leb v h) xs ≡ sound (replicate (length xs) (slot w 0 h)) xs
 unfolding sound
-values_suc n i s ws h = rw (add-one, drop-cons ws i 0 h)
+all_low w h [] = refl
+all_low w h (x ∷ xs) = rw (leb-zero x, all_low w h xs)
 
--- values that are each in one slot's range, one at a time
-pub values_turn : (k i from : ℕ) (s : Slot) (ws : List ℕ) → i < k → from + k ≤ length ws →
-    sound (replicate (k - i) s) (take (k - i) (drop (from + i) ws))
-    ≡ ((leb s.low (get_or ws (from + i) 0) && leb (get_or ws (from + i) 0) s.high) && sound (replicate (k - (i + 1)) s) (take (k - (i + 1)) (drop (from + (i + 1)) ws)))
-values_turn k i from s ws h f =
-    let e : k - i ≡ suc (k - (i + 1)) = omega arith in
-    let n : from + (i + 1) ≡ from + i + 1 = omega arith in
-    rw (e, n) (values_suc (k - (i + 1)) (from + i) s ws (omega arith))
-
-pub values_good : (k i from : ℕ) (s : Slot) (ws : List ℕ) → i < k → from + k ≤ length ws → s.low ≤ get_or ws (from + i) 0 → get_or ws (from + i) 0 ≤ s.high →
-    sound (replicate (k - (i + 1)) s) (take (k - (i + 1)) (drop (from + (i + 1)) ws)) ≡ sound (replicate (k - i) s) (take (k - i) (drop (from + i) ws))
-values_good k i from s ws h f a b = sym (values_turn k i from s ws h f ∙ rw (le-leb _ _ a, le-leb _ _ b))
-
-pub values_bad : (k i from : ℕ) (s : Slot) (ws : List ℕ) → i < k → from + k ≤ length ws → s.high < get_or ws (from + i) 0 →
-    sound (replicate (k - i) s) (take (k - i) (drop (from + i) ws)) ≡ false
-values_bad k i from s ws h f b = values_turn k i from s ws h f ∙ rw (lt-leb _ _ b, and-false)
+pub all_nought : (xs : List ℕ) → list_all (λ v. eqb v 0) xs ≡ all_zero xs
+unfolding all_zero
+all_nought [] = refl
+all_nought (x ∷ xs) = rw (all_nought xs)
 
 -- parts of a list, the first and the rest
 pub parts_turn : (k n i : ℕ) (ws : List ℕ) → i < n → parts k (n - i) (drop (k * i) ws) ≡ take k (drop (k * i) ws) ∷ parts k (n - (i + 1)) (drop (k * (i + 1)) ws)
@@ -163,42 +148,6 @@ unfolding flat_map parts
 parts_end F k b n i ws d h =
     let e : n - i ≡ 0 = omega arith in
     ap (λ (y : ℕ). pasted b (flat_map F (parts k y (drop (k * i) ws))) d) e ∙ pasted_none b d
-
-pasted_next : (at to v : ℕ) (b d : List ℕ) → at + 1 ≡ to → at + suc (length b) ≤ length d → pasted at (v ∷ b) d ≡ pasted to b (set d at v)
-pasted_next at to v b d e h = pasted_cons at v b d h ∙ ap (λ (k : ℕ). pasted k b (set d at v)) e
-
-pub five_set : (t a b c e f : ℕ) (d : List ℕ) → t + 5 ≤ length d →
-    set (set (set (set (set d t a) (t + 1) b) (t + 2) c) (t + 3) e) (t + 4) f ≡ pasted t (a ∷ b ∷ c ∷ e ∷ f ∷ []) d
-five_set t a b c e f d h =
-    sym (pasted_next t (t + 1) a _ d (omega arith) (omega arith)
-    ∙ pasted_next (t + 1) (t + 2) b _ (set d t a) (omega arith) (simp length-set (omega arith))
-    ∙ pasted_next (t + 2) (t + 3) c _ (set (set d t a) (t + 1) b) (omega arith) (simp length-set (omega arith))
-    ∙ pasted_next (t + 3) (t + 4) e _ (set (set (set d t a) (t + 1) b) (t + 2) c) (omega arith) (simp length-set (omega arith))
-    ∙ pasted_next (t + 4) (t + 5) f _ (set (set (set (set d t a) (t + 1) b) (t + 2) c) (t + 3) e) (omega arith) (simp length-set (omega arith))
-    ∙ pasted_none (t + 5) (set (set (set (set (set d t a) (t + 1) b) (t + 2) c) (t + 3) e) (t + 4) f))
-
--- whether elements are all zero, one at a time
-zeros_turn : (k i at : ℕ) (bs : List ℕ) → i < k → at + k ≤ length bs →
-    all_zero (take (k - i) (drop (at + i) bs)) ≡ (eqb (get_or bs (at + i) 0) 0 && all_zero (take (k - (i + 1)) (drop (at + (i + 1)) bs)))
-unfolding all_zero
-zeros_turn k i at bs h f =
-    let e = part_cons (k - i) (at + i) bs (omega arith) (omega arith) in
-    let m : k - i - 1 ≡ k - (i + 1) = omega arith in
-    let n : at + i + 1 ≡ at + (i + 1) = omega arith in
-    rw (e, m, n)
-
-pub zeros_good : (k i at : ℕ) (bs : List ℕ) → i < k → at + k ≤ length bs → get_or bs (at + i) 0 ≡ 0 →
-    all_zero (take (k - (i + 1)) (drop (at + (i + 1)) bs)) ≡ all_zero (take (k - i) (drop (at + i) bs))
-zeros_good k i at bs h f z = sym (zeros_turn k i at bs h f ∙ rw z)
-
-pub zeros_bad : (k i at : ℕ) (bs : List ℕ) → i < k → at + k ≤ length bs → (get_or bs (at + i) 0 ≡ 0 → ⊥) → all_zero (take (k - i) (drop (at + i) bs)) ≡ false
-zeros_bad k i at bs h f z = zeros_turn k i at bs h f ∙ rw (ne_eqb (get_or bs (at + i) 0) 0 z)
-
-pub zeros_end : (k i at : ℕ) (bs : List ℕ) → k ≤ i → all_zero (take (k - i) (drop (at + i) bs)) ≡ true
-unfolding all_zero
-zeros_end k i at bs h =
-    let e : k - i ≡ 0 = omega arith in
-    rw e
 
 -- five elements from k
 pub five_at : (k : ℕ) (ws : List ℕ) → k + 5 ≤ length ws →

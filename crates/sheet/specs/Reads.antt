@@ -1,15 +1,27 @@
 -- What the reader refuses, answers and leaves in the lent words. Definitions only.
-use Rattle.std.specs.Prelude.{not, ℕ, ◌*◌, ◌/◌, ◌^◌, length, take}
+use Rattle.std.specs.Prelude.{not, ℕ, ◌*◌, ◌/◌, ◌^◌, length, take, Result, Ok, Err}
 use mathlib.Core.List.{List, [], ◌∷◌, flat_map}
 use Rattle.params.specs.Table.{line, first_fault}
-use Rattle.params.specs.Answers.{answer_of, landed}
-use Rattle.params.specs.declared.Answer.{Answer}
-use Rattle.params.specs.declared.Answer.TheVariants.{Done, Short, Refused}
+use Rattle.params.specs.Answers.{Answer, Done, Short, Refused, answer_of, landed, refused}
+use Rattle.params.specs.declared.Refusal.{Refusal}
 use Rattle.sheet.specs.Pack.{value}
 use Rattle.sheet.specs.Layout.{Layout, Frame, layout_of, header_size}
 use Rattle.sheet.specs.Sheet.{read_frame, read_count, read_sheet, bytes_right}
 use Rattle.sheet.specs.Words.{read_words, worded}
-use Rattle.sheet.specs.declared.Read.{Read}
+use Rattle.sheet.specs.declared.Heading.{Heading}
+
+-- What the reader answers: the number and the count of records, and the sheet's edition, width, height and layers, each 0 where the number is not 0.
+pub record Read : Type 0 where
+  pub answer : Answer
+  pub edition : ℕ
+  pub width : ℕ
+  pub height : ℕ
+  pub layers : ℕ
+
+-- that of a result of the code: no two are told alike
+abbrev pub read_told : Result Heading Refusal → Read
+read_told (Ok h) = record { answer = Done h.count; edition = h.edition; width = h.width; height = h.height; layers = h.layers }
+read_told (Err r) = record { answer = refused r; edition = 0; width = 0; height = 0; layers = 0 }
 
 -- 8, rule S10: a rule of the sheet is broken
 unfoldable pub read_fault : Layout → List ℕ → ℕ

@@ -3,7 +3,7 @@
 use Rattle.std.specs.Prelude.{◌≡◌, ℕ, ◌+◌, ◌*◌, ◌/◌, ◌^◌, ◌≤◌, length, take, drop}
 use mathlib.Core.List.{List, ◌++◌, flat_map}
 use Rattle.params.specs.Limits.{max_side}
-use Rattle.params.specs.declared.Answer.TheVariants.{Done}
+use Rattle.params.specs.Answers.{Done}
 use Rattle.sheet.specs.Pack.{Bytes}
 use Rattle.sheet.specs.Layout.{Layout, Frame, layout_of, mark_bits, top_rule}
 use Rattle.sheet.specs.Sheet.{parts, read_frame}

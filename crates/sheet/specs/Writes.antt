@@ -2,15 +2,19 @@
 use Rattle.std.specs.Prelude.{Bool, true, ◌&&◌, ◌||◌, not, List, [], ◌∷◌, map, ℕ, ◌+◌, ◌*◌, ◌/◌, ◌%◌, ◌^◌, leb, ltb, eqb, length, get_or}
 use Rattle.params.specs.Limits.{max_layers}
 use Rattle.params.specs.Table.{line, first_fault, shape_wrong}
-use Rattle.params.specs.Answers.{answer_of, landed}
-use Rattle.params.specs.declared.Answer.{Answer}
+use Rattle.params.specs.Answers.{answer_of, landed, Answer}
 use Rattle.sheet.specs.Layout.{Layout, Frame, layout_of, known, header_size, record_size, max_count}
 use Rattle.sheet.specs.Sheet.{parts, all_pass, Sheet, record_right, sheet_bytes}
 use Rattle.sheet.specs.Words.{taken_words, layer_place, filled}
+use Rattle.sheet.specs.declared.Frame as declared
 
 -- the frame of a sheet: its rule is the only one
 abbrev pub frame_of : ℕ → ℕ → ℕ → Frame
 frame_of width height layers = record { width = width; height = height; layers = layers; rule = 0 }
+
+-- that of a frame of the code
+abbrev pub frame_for : declared.Frame → Frame
+frame_for f = frame_of f.width f.height f.layers
 
 -- the whole records among the words, and how many
 abbrev pub count_in : Layout → List ℕ → ℕ

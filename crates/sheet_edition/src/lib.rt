@@ -1,9 +1,11 @@
 // An edition of the sheet as the code goes by it: one value, chosen by the edition's number, from which every width and every size is taken.
 #![tactic(auto)]
 
-ghost use Rattle.std.specs.Prelude.{◌≡◌};
-ghost use Rattle.sheet.specs.Layout.{layout_of};
-ghost use Rattle.sheet_edition.specs.Edition.{edition_of, Known};
+ghost use Rattle.std.specs.Prelude.{◌≡◌, ◌+◌, ◌-◌, ◌*◌, ◌^◌};
+ghost use Rattle.sheet.specs.Layout.{layout_of, mark_bits, record_size};
+ghost use Rattle.sheet.specs.Words.{taken_words};
+
+use sheet::{PLAIN_WORDS, READ_WORDS};
 
 #[derive(Clone, Copy)]
 pub struct Edition {
@@ -18,30 +20,36 @@ pub struct Edition {
     // the words of a record as the writer takes them, and its bytes
     pub words: usize,
     pub bytes: usize,
+    // all are those of an edition's layout
+    pub ghost number_is: { number ≡ (layout_of number).edition },
+    pub ghost sides_are: { sides ≡ 2 ^ (layout_of number).side },
+    pub ghost marks_are: { marks ≡ 2 ^ mark_bits (layout_of number) },
+    pub ghost spare_is: { spare ≡ 2 ^ (32 - (2 * (layout_of number).side + mark_bits (layout_of number))) },
+    pub ghost words_are: { words ≡ taken_words (layout_of number) },
+    pub ghost bytes_are: { bytes ≡ record_size (layout_of number) },
 }
 
 // The edition of a number; edition 1 where the number is no edition's.
+#[tactic(auto, unfolding(sheet::specs::Layout::layout_of))]
 pub fn edition_of(number: u64) -> Edition
-    ensures value { result ≡ edition_of (layout_of number) }
-    ensures known { Known result }
+    ensures { result.number ≡ (layout_of number).edition }
 {
     if number == 2 {
-        Edition {
+        return Edition {
             number: 2,
             sides: 8192,
             marks: 2,
             spare: 32,
-            words: 139,
+            words: READ_WORDS,
             bytes: 154,
-        }
-    } else {
-        Edition {
-            number: 1,
-            sides: 8192,
-            marks: 1,
-            spare: 64,
-            words: 138,
-            bytes: 154,
-        }
+        };
+    }
+    Edition {
+        number: 1,
+        sides: 8192,
+        marks: 1,
+        spare: 64,
+        words: PLAIN_WORDS,
+        bytes: 154,
     }
 }

@@ -13,9 +13,8 @@ use Rattle.sheet.specs.Layout.{Layout, mark_bits}
 use Rattle.sheet.specs.Trip.{Lawful}
 use Rattle.sheet.proofs.Packed.{number_lt, fields_number}
 use Rattle.sheet.proofs.Lawful.{lawful_edition}
-use Rattle.sheet_edition.specs.Edition.{layout_for, Known}
+use Rattle.sheet_edition.specs.Edition.{layout_for}
 use Rattle.sheet_edition.specs.declared.Edition.{Edition}
-use Rattle.sheet_edition.proofs.Layouts.{spare_is}
 
 -- values put behind what stands before them
 unfoldable pub joined : List Slot → List ℕ → ℕ → ℕ
@@ -106,8 +105,8 @@ header_spare l k =
     let e : 36 - (2 * l.side + mark_bits l) ≡ 32 - (2 * l.side + mark_bits l) + 4 = omega (arith, k.side) in
     sym (ap (λ (n : ℕ). 2 ^ n) e ∙ pow-add 2 (32 - (2 * l.side + mark_bits l)) 4)
 
-pub spare_header : (e : Edition) → Known e → e.spare * 16 ≡ 2 ^ (36 - (2 * (layout_for e).side + mark_bits (layout_for e)))
-spare_header e k = ap (λ (n : ℕ). n * 16) (spare_is e k) ∙ header_spare (layout_for e) (lawful_edition e.number)
+pub spare_header : (e : Edition) → e.spare * 16 ≡ 2 ^ (36 - (2 * (layout_for e).side + mark_bits (layout_for e)))
+spare_header e = ap (λ (n : ℕ). n * 16) e.spare_is ∙ header_spare (layout_for e) (lawful_edition e.number)
 
 -- a mark's largest value is one less than its power of two
 mark_either : (b : Bool) → 2 ^ cond b 1 0 - 1 ≡ cond b 1 0

@@ -1,16 +1,18 @@
 // A number and its bytes; and the fields of a sheet's header, and of one record before its values, of any edition: as one number, cut out of it again, and tested.
 #![tactic(auto)]
 
-ghost use Rattle.std.specs.Prelude.{◌≡◌, ◌&&◌, ◌+◌, ◌*◌, ◌^◌, ◌<◌, ◌≤◌, leb, length, take, drop};
+ghost use Rattle.std.specs.Prelude.{◌≡◌, ◌+◌, ◌*◌, ◌^◌, ◌<◌, ◌≤◌, length, take, drop};
 ghost use Rattle.lists.specs.Pasted.{pasted};
 ghost use Rattle.sheet.specs.Pack.{bytes, number, value, fields, sound};
 ghost use Rattle.sheet.specs.Layout.{header_size, header_slots, head_size, head_slots, float_slots};
 ghost use Rattle.sheet.specs.Sheet.{header_in};
-ghost use Rattle.sheet.specs.Writes.{frame_of};
+ghost use Rattle.sheet.specs.Writes.{frame_for};
 ghost use Rattle.sheet.specs.Reads.{layout_in};
-ghost use Rattle.sheet_edition.specs.Edition.{edition_of, layout_for, Known};
+ghost use Rattle.sheet_edition.specs.Edition.{layout_for};
 ghost use Rattle.sheet_fields.specs.Fields.{header_list, HeaderFits, head_values, HeadFits, float_values, any_frame};
 
+use params::MAX_LAYERS;
+use sheet::{Frame, HEADER_BYTES, MAX_COUNT};
 use sheet_edition::Edition;
 
 // The fields of a header, width and height less 1, the rule less 1, and its zero bits.
@@ -47,26 +49,16 @@ pub struct Floats {
     pub angle: u64,
 }
 
-const HEADER_BYTES: usize = 8;
-
 // Writes the last k bytes of n at the place `at`, the most significant first.
 pub fn put(out: &mut [u8], at: usize, n: u64, k: usize)
     requires { at + k ≤ length out.old }
     ensures { out.new ≡ pasted at (bytes k n) out.old }
 {
-    let mut i = k;
     let mut m = n;
-    while 0 < i {
-        i -= 1;
+    for i in (0..k).rev() {
         out[at + i] = (m % 256) as u8;
-        m = m / 256;
+        m /= 256;
     }
-}
-
-fn wide_byte(x: u8) -> u64
-    ensures { result ≡ x }
-{
-    x as u64
 }
 
 // The k bytes at `at` as a number, the first most significant.
@@ -74,27 +66,11 @@ pub fn get(bytes: &[u8], at: usize, k: usize) -> u64
     requires { (at + k ≤ length bytes.now) × (k ≤ 8) }
     ensures { result ≡ value (take k (drop at bytes.now)) }
 {
-    let mut acc: u64 = 0;
-    let mut i = 0;
-    while i < k {
-        acc = acc * 256 + wide_byte(bytes[at + i]);
-        i += 1;
+    let mut acc = 0;
+    for b in &bytes[at..at + k] {
+        acc = acc * 256 + u64::from(*b);
     }
     acc
-}
-
-// A word, as a number to reckon with.
-pub fn wide(x: u32) -> u64
-    ensures { result ≡ x }
-{
-    x as u64
-}
-
-// Whether v lies from low to high.
-pub fn between(low: u64, high: u64, v: u64) -> bool
-    ensures { result ≡ (leb low v && leb v high) }
-{
-    (low <= v) & (v <= high)
 }
 
 // Puts a field behind those before it; `room` is the power of two that its bits make.
@@ -107,8 +83,7 @@ fn behind(before: u64, room: u64, v: u64) -> u64
 
 // The header's 64 bits as one number: the edition's 4 bits, width − 1 and height − 1, layers 4, count 20, the rule bit where there is one, and the zero bits.
 pub fn header_number(e: Edition, h: Header) -> u64
-    requires fact_1 { Known e }
-    requires fact_2 { HeaderFits (layout_for e) h }
+    requires { HeaderFits (layout_for e) h }
     ensures { result ≡ number (header_slots (layout_for e)) (header_list h) }
 {
     let wide = behind(h.edition, e.sides, h.width);
@@ -121,7 +96,6 @@ pub fn header_number(e: Edition, h: Header) -> u64
 
 // The header's fields, the last one first.
 pub fn cut_header(e: Edition, n: u64) -> Header
-    requires { Known e }
     ensures n_value { fields (header_slots (layout_for e)) n ≡ header_list result }
     ensures header_fits { HeaderFits (layout_for e) result }
 {
@@ -145,16 +119,14 @@ pub fn cut_header(e: Edition, n: u64) -> Header
 // The edition that a sheet's bytes state.
 pub fn edition_in(sheet: &[u8]) -> Edition
     requires { header_size ≤ length sheet.now }
-    ensures value { result ≡ edition_of (layout_in sheet.now) }
-    ensures known { Known result }
+    ensures { layout_for result ≡ layout_in sheet.now }
 {
     sheet_edition::edition_of(get(sheet, 0, HEADER_BYTES) / 0x1000_0000_0000_0000)
 }
 
 // The header's fields, of a sheet's bytes.
 pub fn header_in(e: Edition, sheet: &[u8]) -> Header
-    requires fact_1 { Known e }
-    requires fact_2 { header_size ≤ length sheet.now }
+    requires { header_size ≤ length sheet.now }
     ensures sheet_value { header_in (layout_for e) sheet.now ≡ header_list result }
     ensures header_fits { HeaderFits (layout_for e) result }
 {
@@ -163,21 +135,20 @@ pub fn header_in(e: Edition, sheet: &[u8]) -> Header
 
 // Whether a header's fields keep the rules. There is one rule, so that its bit is 0.
 pub fn header_right(e: Edition, h: Header) -> bool
-    requires { Known e }
     ensures { result ≡ sound (header_slots (layout_for e)) (header_list h) }
 {
-    between(e.number, e.number, h.edition)
-        & (between(0, e.sides - 1, h.width)
-            & (between(0, e.sides - 1, h.height)
-                & (between(1, 15, h.layers)
-                    & (between(0, 1048575, h.count)
-                        & (between(0, 0, h.rule) & between(0, 0, h.zero))))))
+    (h.edition == e.number)
+        & (h.width < e.sides)
+        & (h.height < e.sides)
+        & (1..=MAX_LAYERS as u64).contains(&h.layers)
+        & (h.count <= MAX_COUNT as u64)
+        & (h.rule == 0)
+        & (h.zero == 0)
 }
 
 // The 48 bits of a record's whole numbers as one number: row, column, octave 4 bits, layer 4, code 8, the blank bit where there is one, and the zero bits.
 pub fn head_number(e: Edition, h: Head) -> u64
-    requires fact_1 { Known e }
-    requires fact_2 { HeadFits (layout_for e) h }
+    requires { HeadFits (layout_for e) h }
     ensures { result ≡ number (head_slots (layout_for e) any_frame) (head_values h) }
 {
     let column = behind(h.row, e.sides, h.column);
@@ -190,8 +161,7 @@ pub fn head_number(e: Edition, h: Head) -> u64
 
 // A record's whole numbers, the last one first.
 pub fn cut_head(e: Edition, n: u64) -> Head
-    requires fact_1 { Known e }
-    requires fact_2 { n < 2 ^ (8 * head_size) }
+    requires { n < 2 ^ (8 * head_size) }
     ensures n_value { fields (head_slots (layout_for e) any_frame) n ≡ head_values result }
     ensures head_fits { HeadFits (layout_for e) result }
 {
@@ -211,28 +181,31 @@ pub fn cut_head(e: Edition, n: u64) -> Head
     }
 }
 
-// Whether a record's whole numbers keep the rules of a sheet of that width, height and layers; that the blank bit says no untruth of the values is asked elsewhere.
-pub fn head_right(e: Edition, width: u64, height: u64, layers: u64, h: Head) -> bool
-    requires fact_1 { Known e }
-    requires fact_2 { (1 ≤ width) × (1 ≤ height) }
-    ensures { result ≡ sound (head_slots (layout_for e) (frame_of width height layers)) (head_values h) }
+// Whether a record's whole numbers keep the rules of a sheet of that frame; that the blank bit says no untruth of the values is asked elsewhere.
+pub fn head_right(e: Edition, frame: Frame, head: Head) -> bool
+    ensures { result ≡ sound (head_slots (layout_for e) (frame_for frame)) (head_values head) }
 {
-    between(0, height - 1, h.row)
-        & (between(0, width - 1, h.column)
-            & (between(0, 15, h.octave)
-                & (between(1, layers, h.layer)
-                    & (between(0, 255, h.code)
-                        & (between(0, e.marks - 1, h.blank) & between(0, 0, h.zero))))))
+    (head.row < frame.height)
+        & (head.column < frame.width)
+        & (head.octave <= 15)
+        & (1..=frame.layers).contains(&head.layer)
+        & (head.code <= 255)
+        & (head.blank < e.marks)
+        & (head.zero == 0)
 }
 
-// Whether a record's floats do: finite with sign bit clear, size above 0, angle below 360. With the sign bit clear the order of bits is that of values: 0x7f7f_ffff is
-// the largest finite f32, 1 the least above 0, and 0x43b3_ffff the last below 360.
+// As bits of an f32 whose sign bit is clear, the order of which is that of values: the largest that is finite, and the largest below 360. The least above 0 is 1.
+const LARGEST_FINITE: u64 = 0x7f7f_ffff;
+
+const LARGEST_ANGLE: u64 = 0x43b3_ffff;
+
+// Whether a record's floats do: finite with sign bit clear, size above 0, angle below 360.
 pub fn floats_right(e: Edition, f: Floats) -> bool
-    requires { Known e }
     ensures { result ≡ sound (float_slots (layout_for e)) (float_values f) }
 {
-    between(0, 0x7f7f_ffff, f.x)
-        & (between(0, 0x7f7f_ffff, f.y)
-            & (between(1, 0x7f7f_ffff, f.size)
-                & (between(0, 0x7f7f_ffff, f.response) & between(0, 0x43b3_ffff, f.angle))))
+    (f.x <= LARGEST_FINITE)
+        & (f.y <= LARGEST_FINITE)
+        & (1..=LARGEST_FINITE).contains(&f.size)
+        & (f.response <= LARGEST_FINITE)
+        & (f.angle <= LARGEST_ANGLE)
 }

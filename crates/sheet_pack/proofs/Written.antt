@@ -4,10 +4,12 @@ use mathlib.Core.Bool.{Bool, true, ◌&&◌, ◌||◌}
 use mathlib.Core.List.{List, [], ◌∷◌, ◌++◌, flat_map}
 use Prim.Native.Nat.{ℕ, ◌+◌, ◌-◌, ◌*◌, ◌≤◌, ◌<◌}
 use native.Mathlib.Omega.{arith}
-use lib.Dec.{eqb}
+use lib.Dec.{leb, eqb}
 use lib.ListN.{length, get_or, take, drop, length-append, length-take, length-drop}
 use lib.Seq.{get_or-take, get_or-drop}
+use Rattle.std.specs.List.{list_all}
 use Rattle.lists.specs.Pasted.{pasted}
+use Rattle.lists.proofs.Bools.{and_assoc}
 use Rattle.params.specs.Limits.{value_count}
 use Rattle.sheet.specs.Pack.{bytes, number, pack, sound, Held}
 use Rattle.sheet.specs.Layout.{Layout, Frame, head_size, head_slots, float_slots, value_slots, record_slots, record_size}
@@ -20,7 +22,7 @@ use Rattle.sheet_fields.specs.declared.Head.{Head}
 use Rattle.sheet.proofs.Packed.{length_bytes}
 use Rattle.sheet.proofs.Words.{past_at}
 use Rattle.sheet.proofs.Return.{taken_plain}
-use Rattle.sheet.proofs.Steps.{length_bytes_all, five_at}
+use Rattle.sheet.proofs.Steps.{length_bytes_all, five_at, all_low, all_nought}
 use Rattle.sheet.proofs.Runs.{sized, filled_runs, held_head_run, value_lt, pack_runs, right_runs, triple}
 
 -- of a record's words: the values of its head's slots, its floats, its values
@@ -66,9 +68,14 @@ module _ (l : Layout) (k : Lawful l) (a : l.angled ≡ true) (w : List ℕ) (n :
       ∙ ap (λ (b : ℕ). (sound (head_slots l f) (heads w) && (sound (float_slots l) (floats w) && sound value_slots (values w))) && (eqb b 0 || all_zero (values w)))
       (past_at (take head_words w) (get_or w plain_words 0 ∷ 0 ∷ []) head_words 0 p)
 
-  pub right_is : (f : Frame) (p q r s : Bool) (hs fs : List ℕ) → p ≡ sound (head_slots l f) hs → hs ≡ heads w → q ≡ sound (float_slots l) fs → fs ≡ floats w → r ≡ sound value_slots (values w) →
-      s ≡ (eqb (get_or w plain_words 0) 0 || all_zero (values w)) → ((p && (q && r)) && s) ≡ words_right l f w
-  right_is f p q r s hs fs ep eh eq ef er es = rw (ep, eh, eq, ef, er, es) (sym (right_parts f))
+  low_is : list_all (λ v. leb v 255) (values w) ≡ sound value_slots (values w)
+  low_is = rw values_length at (all_low 8 255 (values w))
+
+  pub right_is : (f : Frame) (p q r s : Bool) (hs fs : List ℕ) → p ≡ sound (head_slots l f) hs → hs ≡ heads w → q ≡ sound (float_slots l) fs → fs ≡ floats w → r ≡ list_all (λ v. leb v 255) (values w) →
+      s ≡ (eqb (get_or w plain_words 0) 0 || list_all (λ v. eqb v 0) (values w)) → (((p && q) && r) && s) ≡ words_right l f w
+  right_is f p q r s hs fs ep eh eq ef er es =
+      ap (λ (b : Bool). b && s) (and_assoc p q r)
+      ∙ rw (ep, eh, eq, ef, er, es, low_is, all_nought (values w)) (sym (right_parts f))
 
   module _ (h : Held (record_slots l any_frame) (filled w)) where
     held_runs : Held (record_slots l any_frame) (heads w ++ (floats w ++ values w))

@@ -2,19 +2,18 @@
 use mathlib.Core.Path.{◌≡◌, refl, sym, ap, ◌∙◌, subst}
 use mathlib.Core.Bool.{Bool, true, false, ◌&&◌, not}
 use mathlib.Core.List.{List, [], ◌∷◌, flat_map}
-use Prim.Native.Nat.{ℕ, ◌+◌, ◌-◌, ◌*◌, ◌^◌, ◌≤◌, ◌<◌}
-use native.Mathlib.Nat.{lt_of_lt_of_le}
+use Prim.Native.Nat.{ℕ, ◌+◌, ◌-◌, ◌*◌, ◌/◌, ◌^◌, ◌≤◌, ◌<◌}
+use native.Mathlib.Nat.{lt_of_lt_of_le, mul_comm, add-zero}
 use native.Mathlib.Omega.{arith}
 use borrow.Author.Tests.{le-leb, lt-leb, eq-eqb, ne_eqb}
 use lib.Dec.{leb, eqb, lit<}
-use lib.ListN.{length, get_or, take, drop}
+use lib.ListN.{length, get_or, take, drop, length-drop}
+use Rattle.std.proofs.lemmas.Nat.{div-mul-add}
 use lib.Pow.{pow_mono}
-use lib.Seq.{drop-drop}
+use lib.Seq.{drop-drop, take_all}
 use Rattle.lists.specs.Pasted.{pasted}
 use Rattle.params.specs.Table.{line, first_fault}
-use Rattle.params.specs.Answers.{landed}
-use Rattle.params.specs.declared.Answer.{Answer}
-use Rattle.params.specs.declared.Answer.TheVariants.{Done, Short, Refused}
+use Rattle.params.specs.Answers.{Done, Short, Refused, landed}
 use Rattle.sheet.specs.Pack.{slot, unpack, sound}
 use Rattle.sheet.specs.Layout.{Layout, Frame, header_size, header_slots, record_slots, record_size}
 use Rattle.sheet.specs.Sheet.{parts, all_pass, record_right, header_in, read_frame, read_count, records_in, read_sheet, bytes_right}
@@ -22,7 +21,6 @@ use Rattle.sheet.specs.Words.{read_words, worded}
 use Rattle.sheet.specs.Writes.{frame_of}
 use Rattle.sheet.specs.Reads.{read_fault, words_in, read_number, edition_in, layout_in, with_frame, read_answer, read_out}
 use Rattle.sheet.specs.Trip.{Lawful}
-use Rattle.sheet.specs.declared.Read.{Read}
 use Rattle.sheet.proofs.Packed.{sound_at, held_head, held_tail}
 use Rattle.sheet.proofs.Parts.{pass_map, flat_map_lem}
 use Rattle.sheet.proofs.Runs.{length_unpack}
@@ -32,9 +30,9 @@ use Rattle.sheet.proofs.Words.{length_worded}
 use Rattle.sheet.proofs.Return.{read_fault_lem}
 use Rattle.sheet.proofs.Public.{header_first}
 use Rattle.sheet.proofs.Answered.{answer_refused, answer_short, answer_done}
-use Rattle.sheet_edition.specs.Edition.{layout_for, Known}
+use Rattle.sheet_edition.specs.Edition.{layout_for}
 use Rattle.sheet_edition.specs.declared.Edition.{Edition}
-use Rattle.sheet_edition.proofs.Layouts.{size_is, bytes_are}
+use Rattle.sheet_edition.proofs.Layouts.{size_is}
 use Rattle.sheet_fields.specs.Fields.{header_list, HeaderFits, any_frame, bytes_words, record_bytes_right}
 use Rattle.sheet_fields.specs.declared.Header.{Header}
 
@@ -44,12 +42,30 @@ unfolding record_slots
 words_length l bs = length_worded l (unpack (record_slots l any_frame) bs) (length_unpack (record_slots l any_frame) bs)
 
 -- where the code finds the record at i
-module _ (e : Edition) (k : Known e) where
+module _ (e : Edition) where
   pub bytes_times : (n : ℕ) → e.bytes * n ≡ record_size (layout_for e) * n
-  bytes_times n = ap (λ (m : ℕ). m * n) (bytes_are e k)
+  bytes_times n = ap (λ (m : ℕ). m * n) e.bytes_are
 
   pub bytes_count : (n : ℕ) → e.bytes * n ≡ 154 * n
-  bytes_count n = ap (λ (m : ℕ). m * n) (bytes_are e k ∙ size_is e)
+  bytes_count n = ap (λ (m : ℕ). m * n) (e.bytes_are ∙ size_is e)
+
+  pub bytes_pos : 0 < e.bytes
+  bytes_pos = omega (arith, e.bytes_are, size_is e)
+
+  -- the records behind a header, as the code cuts them
+  pub parts_are : (bs : List ℕ) → parts e.bytes (length bs / e.bytes) bs ≡ parts (record_size (layout_for e)) (length bs / record_size (layout_for e)) bs
+  parts_are bs = ap (λ (k : ℕ). parts k (length bs / k) bs) e.bytes_are
+
+  pub body_parts : (bs : List ℕ) (n : ℕ) → length bs ≡ header_size + record_size (layout_for e) * n →
+      let body = take (length bs - header_size) (drop header_size bs) in
+      parts (record_size (layout_for e)) (length body / record_size (layout_for e)) body ≡ parts (record_size (layout_for e)) n (drop header_size bs)
+  body_parts bs n h =
+      let k = record_size (layout_for e) in
+      let body = drop header_size bs in
+      let t : take (length bs - header_size) body ≡ body = take_all _ body (rw length-drop (omega arith)) in
+      let m : length body ≡ k * n = rw length-drop (omega (arith, h)) in
+      let d : k * n / k ≡ n = ap (λ (x : ℕ). x / k) (mul_comm k n ∙ sym (add-zero (n * k))) ∙ div-mul-add n k 0 (omega (arith, size_is e)) in
+      rw (t, m, d)
 
   pub record_inside : (n i long : ℕ) → header_size + record_size (layout_for e) * n ≤ long → i < n → header_size + e.bytes * i + e.bytes ≤ long
   record_inside n i long h r = omega (arith, bytes_times n, step_inside e.bytes n i r)
@@ -61,7 +77,7 @@ module _ (e : Edition) (k : Known e) where
       let m : header_size + e.bytes * i + e.bytes - (header_size + e.bytes * i) ≡ e.bytes = omega arith in
       ap (λ (n : ℕ). take n (drop (header_size + e.bytes * i) bs)) m
       ∙ ap (take e.bytes) (sym (drop-drop (e.bytes * i) header_size bs))
-      ∙ ap (λ (n : ℕ). take n (drop (n * i) (drop header_size bs))) (bytes_are e k)
+      ∙ ap (λ (n : ℕ). take n (drop (n * i) (drop header_size bs))) e.bytes_are
 
 -- a header's fields have room
 pub record Room (h : Header) : Type 0 where
@@ -160,18 +176,6 @@ words_are l bs n e =
     ∙ flat_same (λ b. worded l (unpack (record_slots l f) b)) (bytes_words l) (λ b. ap (worded l) (fields_any l f any_frame b)) (parts (record_size l) (read_count l bs) (drop header_size bs))
     ∙ ap (λ (k : ℕ). flat_map (bytes_words l) (parts (record_size l) k (drop header_size bs))) e)
 
--- a refusal: everything but the answer is 0
-abbrev Refusal : Read → Answer → Type 0
-Refusal r a = (r.answer ≡ a) × (r.edition ≡ 0) × (r.width ≡ 0) × (r.height ≡ 0) × (r.layers ≡ 0)
-
-refusal_is : (r : Read) (a : Answer) → Refusal r a → r ≡ record { answer = a; edition = 0; width = 0; height = 0; layers = 0 }
-refusal_is r a e =
-    ap (λ (x : Answer). record { answer = x; edition = r.edition; width = r.width; height = r.height; layers = r.layers }) e.0
-    ∙ ap (λ (n : ℕ). record { answer = a; edition = n; width = r.width; height = r.height; layers = r.layers }) e.1
-    ∙ ap (λ (n : ℕ). record { answer = a; edition = 0; width = n; height = r.height; layers = r.layers }) e.2
-    ∙ ap (λ (n : ℕ). record { answer = a; edition = 0; width = 0; height = n; layers = r.layers }) e.3
-    ∙ ap (λ (n : ℕ). record { answer = a; edition = 0; width = 0; height = 0; layers = n }) e.4
-
 broken : first_fault (line 8 true ∷ []) ≡ 8
 unfolding first_fault
 broken = refl
@@ -203,17 +207,17 @@ module _ (l : Layout) (bs out : List ℕ) (i : layout_in bs ≡ l) where
   number_0 e h = answer_done _ _ _ _ (read_fault_lem l bs e) h
 
   -- what the code answers on each of its three ways, and what it leaves
-  pub says_8 : (r : Read) → Refusal r (Refused 8) → bytes_right l bs ≡ false →
-      (r ≡ read_answer bs (length out)) × (out ≡ read_out bs out)
-  says_8 r e b = let k = number_8 b in (refusal_is r (Refused 8) e ∙ sym (answer_in ∙ rw k), sym (out_in ∙ rw k))
+  pub says_8 : bytes_right l bs ≡ false →
+      (record { answer = Refused 8; edition = 0; width = 0; height = 0; layers = 0 } ≡ read_answer bs (length out)) × (out ≡ read_out bs out)
+  says_8 b = let k = number_8 b in (sym (answer_in ∙ rw k), sym (out_in ∙ rw k))
 
   module _ (h : Header) (q : header_in l bs ≡ header_list h) (b : bytes_right l bs ≡ true) where
-    pub says_7 : (r : Read) → Refusal r (Short h.count) → length out < read_words * h.count →
-        (r ≡ read_answer bs (length out)) × (out ≡ read_out bs out)
-    says_7 r e s =
+    pub says_7 : length out < read_words * h.count →
+        (record { answer = Short h.count; edition = 0; width = 0; height = 0; layers = 0 } ≡ read_answer bs (length out)) × (out ≡ read_out bs out)
+    says_7 s =
         let c = count_is l bs h q in
         let k = number_7 b (subst (λ (m : ℕ). length out < read_words * m) (sym c) s) ∙ ap Short c in
-        (refusal_is r (Short h.count) e ∙ sym (answer_in ∙ rw k), sym (out_in ∙ rw k))
+        (sym (answer_in ∙ rw k), sym (out_in ∙ rw k))
 
     pub says_0 : Lawful l → (d : List ℕ) → read_words * h.count ≤ length out → d ≡ pasted 0 (flat_map (bytes_words l) (parts (record_size l) h.count (drop header_size bs))) out →
         (record { answer = Done h.count; edition = h.edition; width = h.width + 1; height = h.height + 1; layers = h.layers } ≡ read_answer bs (length out))

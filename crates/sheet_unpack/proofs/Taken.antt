@@ -5,11 +5,12 @@ use mathlib.Core.List.{List, [], ◌∷◌, ◌++◌, append_assoc}
 use Prim.Native.Nat.{ℕ, zero, suc, ◌+◌, ◌-◌, ◌^◌, ◌≤◌, ◌<◌}
 use native.Mathlib.Nat.{add-zero, lt_of_lt_of_le}
 use native.Mathlib.Omega.{arith}
-use borrow.Author.Tests.{not-true, not-false, eq-eqb, ne_eqb}
+use borrow.Rule.Slice.PartMut.{put_mid}
+use borrow.Author.Tests.{eq-eqb, ne_eqb}
 use lib.Dec.{eqb, lit<, lit≤}
 use lib.ListN.{length, get_or, set, take, drop, length-append, length-take, length-drop}
 use lib.Pow.{pow_mono}
-use lib.Seq.{take_all}
+use lib.Seq.{drop-drop}
 use Rattle.lists.specs.Pasted.{pasted}
 use Rattle.lists.proofs.Pasted.{length_pasted, pasted_append, pasted_one}
 use Rattle.params.specs.Limits.{value_count}
@@ -21,9 +22,8 @@ use Rattle.sheet.specs.Trip.{Lawful}
 use Rattle.sheet.proofs.Cut.{value_fits}
 use Rattle.sheet.proofs.Runs.{sized, bytes_runs, words_runs, triple, length_unpack, floats_at}
 use Rattle.sheet.proofs.Alike.{head_any}
-use Rattle.sheet_edition.specs.Edition.{layout_for, Known}
+use Rattle.sheet_edition.specs.Edition.{layout_for}
 use Rattle.sheet_edition.specs.declared.Edition.{Edition}
-use Rattle.sheet_edition.proofs.Layouts.{marks_are}
 use Rattle.sheet_fields.specs.Fields.{head_values, HeadFits, float_values, any_frame, bytes_front, bytes_words, record_bytes_right}
 use Rattle.sheet_fields.specs.declared.Head.{Head}
 use Rattle.sheet_fields.specs.declared.Floats.{Floats}
@@ -32,9 +32,10 @@ use Rattle.sheet_fields.specs.declared.Floats.{Floats}
 pub got_fits : (bs : List ℕ) (at n : ℕ) → Bytes bs → at + 4 ≤ length bs → n ≡ value (take 4 (drop at bs)) → n < 2 ^ 32
 got_fits bs at n g r e = rw e (value_fits bs at 4 g r)
 
--- the last n elements of a list, where a walk over them starts
-pub at_start : (n f : ℕ) (bs : List ℕ) → length bs ≡ f + n → take n (drop (f + 0) bs) ≡ drop f bs
-at_start n f bs h = rw add-zero (take_all n (drop f bs) (rw length-drop (omega arith)))
+-- a part of a list that is written whole
+pub part_set : (at n : ℕ) (old new xs : List ℕ) → new ≡ xs → n ≡ length xs → put_mid at n old new ≡ pasted at xs old
+unfolding pasted
+part_set at n old new xs e l = rw (e, l, drop-drop (length xs) at old)
 
 -- whether an edition has a blank bit, by the power of two that it makes
 two_marked : (b : Bool) → 2 ^ cond b 1 0 ≡ 2 → b ≡ true
@@ -45,12 +46,12 @@ other_unmarked : (b : Bool) → (2 ^ cond b 1 0 ≡ 2 → ⊥) → b ≡ false
 other_unmarked true n = absurd (n refl)
 other_unmarked false n = refl
 
-module _ (e : Edition) (k : Known e) where
+module _ (e : Edition) where
   pub marked : e.marks ≡ 2 → (layout_for e).marked ≡ true
-  marked h = two_marked (layout_for e).marked (sym (marks_are e k) ∙ h)
+  marked h = two_marked (layout_for e).marked (sym e.marks_are ∙ h)
 
   pub unmarked : (e.marks ≡ 2 → ⊥) → (layout_for e).marked ≡ false
-  unmarked n = other_unmarked (layout_for e).marked (λ h. n (marks_are e k ∙ h))
+  unmarked n = other_unmarked (layout_for e).marked (λ h. n (e.marks_are ∙ h))
 
 -- a value that has room in a slot of at most 32 bits has room in a word
 abbrev Narrow : List Slot → Type 0
@@ -97,14 +98,14 @@ module _ (l : Layout) (bs : List ℕ) where
 pub record Tested (r a : Bool) (n : ℕ) (z : Bool) : Type 0 where
   pub is : r ≡ (a && (eqb n 0 || z))
 
-pub fields_fail : {r a z : Bool} {n : ℕ} → Tested r a n z → not a ≡ true → false ≡ r
-fields_fail {r} {a} t h = sym (t.is ∙ rw (not-true a h))
+pub fields_fail : {r a z : Bool} {n : ℕ} → Tested r a n z → a ≡ false → a ≡ r
+fields_fail t h = h ∙ sym (t.is ∙ rw h)
 
-pub not_blank : {r a z : Bool} {n : ℕ} → Tested r a n z → not a ≡ false → n ≡ 0 → true ≡ r
-not_blank {r} {a} {z} {n} t h e = sym (t.is ∙ rw (not-false a h, eq-eqb n 0 e))
+pub not_blank : {r a z : Bool} {n : ℕ} → Tested r a n z → a ≡ true → n ≡ 0 → eqb n 0 ≡ r
+not_blank {n = n} t h e = eq-eqb n 0 e ∙ sym (t.is ∙ rw (h, eq-eqb n 0 e))
 
-pub values_say : {r a z : Bool} {n : ℕ} → Tested r a n z → not a ≡ false → (n ≡ 0 → ⊥) → z ≡ r
-values_say {r} {a} {z} {n} t h e = sym (t.is ∙ rw (not-false a h, ne_eqb n 0 e))
+pub values_say : {r a z : Bool} {n : ℕ} → Tested r a n z → a ≡ true → (n ≡ 0 → ⊥) → z ≡ r
+values_say {n = n} t h e = sym (t.is ∙ rw (h, ne_eqb n 0 e))
 
 -- a record's bytes, of which the values are the last
 module _ (l : Layout) (k : Lawful l) (a : l.angled ≡ true) (bs : List ℕ) (n : length bs ≡ record_size l) where

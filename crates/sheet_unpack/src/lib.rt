@@ -1,33 +1,24 @@
 // One record out of a sheet's bytes, of any edition: its fields, whether it keeps the rules, and its words.
 #![tactic(auto)]
 
-ghost use Rattle.std.specs.Prelude.{◌≡◌, cond, ◌∷◌, [], ◌+◌, ◌-◌, ◌<◌, ◌≤◌, length, get_or, take, drop};
+ghost use Rattle.std.specs.Prelude.{◌≡◌, cond, ◌+◌, ◌-◌, ◌≤◌, eqb, length, get_or, take, drop};
+ghost use Rattle.std.specs.List.{list_all};
 ghost use Rattle.lists.specs.Pasted.{pasted};
 ghost use Rattle.params.specs.Limits.{value_count};
 ghost use Rattle.sheet.specs.Pack.{unpack};
 ghost use Rattle.sheet.specs.Layout.{record_size, head_size, front_size, head_slots, float_slots};
-ghost use Rattle.sheet.specs.Words.{read_words, head_words, float_words, front_words, all_zero, unknown_of};
-ghost use Rattle.sheet.specs.Writes.{frame_of};
-ghost use Rattle.sheet_edition.specs.Edition.{layout_for, Known};
+ghost use Rattle.sheet.specs.Words.{read_words, head_words, float_words, front_words, unknown_of};
+ghost use Rattle.sheet.specs.Writes.{frame_for};
+ghost use Rattle.sheet_edition.specs.Edition.{layout_for};
 ghost use Rattle.sheet_fields.specs.Fields.{head_values, HeadFits, float_values, FloatsFit, any_frame, bytes_front, bytes_words, record_bytes_right};
 
+use sheet::{FRONT_WORDS, Frame, HEAD_WORDS, PLAIN_WORDS, VALUES};
 use sheet_edition::Edition;
 use sheet_fields::{Floats, Head};
 
-// Of the words of a record the whole numbers, they and the floats, and all but the blank word.
-const HEAD_WORDS: usize = 5;
-
-const FRONT_WORDS: usize = 10;
-
-const PLAIN_WORDS: usize = 138;
-
-// The number of its values.
-const VALUES: usize = 128;
-
 // The whole numbers of a record's bytes.
 fn head_in(e: Edition, bytes: &[u8]) -> Head
-    requires fact_1 { Known e }
-    requires fact_2 { length bytes.now ≡ record_size (layout_for e) }
+    requires { length bytes.now ≡ record_size (layout_for e) }
     ensures bytes_value { unpack (head_slots (layout_for e) any_frame) (take head_size bytes.now) ≡ head_values result }
     ensures head_fits { HeadFits (layout_for e) result }
 {
@@ -36,8 +27,7 @@ fn head_in(e: Edition, bytes: &[u8]) -> Head
 
 // Its floats.
 fn floats_in(e: Edition, bytes: &[u8]) -> Floats
-    requires fact_1 { Known e }
-    requires fact_2 { length bytes.now ≡ record_size (layout_for e) }
+    requires { length bytes.now ≡ record_size (layout_for e) }
     ensures bytes_value { unpack (float_slots (layout_for e)) (take (front_size (layout_for e) - head_size) (drop head_size bytes.now)) ≡ float_values result }
     ensures floats_fit { FloatsFit result }
 {
@@ -50,60 +40,41 @@ fn floats_in(e: Edition, bytes: &[u8]) -> Floats
     }
 }
 
-// One of a record's 128 values, which are its last bytes.
-fn value_at(e: Edition, bytes: &[u8], i: usize) -> u8
-    requires fact_1 { Known e }
-    requires fact_2 { (length bytes.now ≡ record_size (layout_for e)) × (i < value_count) }
-    ensures { result ≡ get_or bytes.now (front_size (layout_for e) + i) 0 }
+// Its 128 values, which are its last bytes.
+fn values_in(e: Edition, bytes: &[u8]) -> &[u8]
+    requires { length bytes.now ≡ record_size (layout_for e) }
+    ensures { result.now ≡ drop (front_size (layout_for e)) bytes.now }
 {
-    bytes[(e.bytes - VALUES) + i]
+    &bytes[e.bytes - VALUES..]
 }
 
-// Whether a record's 128 bytes are all zero.
+// Whether these are all zero.
 fn values_zero(e: Edition, bytes: &[u8]) -> bool
-    requires fact_1 { Known e }
-    requires fact_2 { length bytes.now ≡ record_size (layout_for e) }
-    ensures { result ≡ all_zero (drop (front_size (layout_for e)) bytes.now) }
+    requires { length bytes.now ≡ record_size (layout_for e) }
+    ensures { result ≡ list_all (λ v. eqb v 0) (drop (front_size (layout_for e)) bytes.now) }
 {
-    let mut i = 0;
-    while i < VALUES {
-        if value_at(e, bytes, i) != 0 {
-            return false;
-        }
-        i += 1;
-    }
-    true
+    values_in(e, bytes).iter().all(|value| *value == 0)
 }
 
-// Whether a record's bytes keep the rules of a sheet of that width, height and layers; one that is blank has no value but 0.
-pub fn record_right(e: Edition, width: u64, height: u64, layers: u64, bytes: &[u8]) -> bool
-    requires known { Known e }
-    requires le_width { (1 ≤ width) × (1 ≤ height) }
-    requires bytes_len { length bytes.now ≡ record_size (layout_for e) }
-    ensures { result ≡ record_bytes_right (layout_for e) (frame_of width height layers) bytes.now }
+// Whether a record's bytes keep the rules of a sheet of that frame; one that is blank has no value but 0.
+pub fn record_right(e: Edition, frame: Frame, bytes: &[u8]) -> bool
+    requires { length bytes.now ≡ record_size (layout_for e) }
+    ensures { result ≡ record_bytes_right (layout_for e) (frame_for frame) bytes.now }
 {
     let head = head_in(e, bytes);
-    let whole = sheet_fields::head_right(e, width, height, layers, head);
+    let whole = sheet_fields::head_right(e, frame, head);
     let floats = sheet_fields::floats_right(e, floats_in(e, bytes));
-    if !(whole & floats) {
-        return false;
-    }
-    if head.blank == 0 {
-        return true;
-    }
-    values_zero(e, bytes)
+    (whole & floats) && (head.blank == 0 || values_zero(e, bytes))
 }
 
 // The added word: the blank bit, and where there is none 2, unknown, for a record whose 128 bytes are all zero.
 fn blank_in(e: Edition, bytes: &[u8]) -> u32
-    requires fact_1 { Known e }
-    requires fact_2 { length bytes.now ≡ record_size (layout_for e) }
+    requires { length bytes.now ≡ record_size (layout_for e) }
     ensures { result ≡ cond (layout_for e).marked (get_or (unpack (head_slots (layout_for e) any_frame) (take head_size bytes.now)) head_words 0)
         (unknown_of (drop (front_size (layout_for e)) bytes.now)) }
 {
     if e.marks == 2 {
-        let head = head_in(e, bytes);
-        return head.blank as u32;
+        return head_in(e, bytes).blank as u32;
     }
     if values_zero(e, bytes) {
         return 2;
@@ -113,54 +84,28 @@ fn blank_in(e: Edition, bytes: &[u8]) -> u32
 
 // Writes a record's 128 bytes as words at the place `to`.
 fn take_values(e: Edition, bytes: &[u8], out: &mut [u32], to: usize)
-    requires known_1 { Known e }
-    requires known_2 { length bytes.now ≡ record_size (layout_for e) }
+    requires bytes_len { length bytes.now ≡ record_size (layout_for e) }
     requires value_count_in_bounds { to + value_count ≤ length out.old }
     ensures { out.new ≡ pasted to (drop (front_size (layout_for e)) bytes.now) out.old }
 {
-    let mut i = 0;
-    while i < VALUES {
-        out[to + i] = value_at(e, bytes, i) as u32;
-        i += 1;
+    for (i, value) in values_in(e, bytes).iter().enumerate() {
+        out[to + i] = u32::from(*value);
     }
-}
-
-// Five words in a row.
-#[derive(Clone, Copy)]
-struct Five {
-    a: u32,
-    b: u32,
-    c: u32,
-    d: u32,
-    e: u32,
-}
-
-fn put_five(out: &mut [u32], to: usize, five: Five)
-    requires { to + head_words ≤ length out.old }
-    ensures { out.new ≡ pasted to (five.a ∷ five.b ∷ five.c ∷ five.d ∷ five.e ∷ []) out.old }
-{
-    out[to] = five.a;
-    out[to + 1] = five.b;
-    out[to + 2] = five.c;
-    out[to + 3] = five.d;
-    out[to + 4] = five.e;
 }
 
 // Writes a record's whole numbers at the place `to`.
 fn put_head(e: Edition, out: &mut [u32], to: usize, h: Head)
-    requires known { Known e }
     requires head_words_in_bounds { to + head_words ≤ length out.old }
     requires head_fits { HeadFits (layout_for e) h }
     ensures { out.new ≡ pasted to (take head_words (head_values h)) out.old }
 {
-    let five = Five {
-        a: h.row as u32,
-        b: h.column as u32,
-        c: h.octave as u32,
-        d: h.layer as u32,
-        e: h.code as u32,
-    };
-    put_five(out, to, five);
+    out[to..to + HEAD_WORDS].copy_from_slice(&[
+        h.row as u32,
+        h.column as u32,
+        h.octave as u32,
+        h.layer as u32,
+        h.code as u32,
+    ]);
 }
 
 // Writes a record's floats at the place `to`.
@@ -169,20 +114,18 @@ fn put_floats(out: &mut [u32], to: usize, f: Floats)
     requires floats_fit { FloatsFit f }
     ensures { out.new ≡ pasted to (float_values f) out.old }
 {
-    let five = Five {
-        a: f.x as u32,
-        b: f.y as u32,
-        c: f.size as u32,
-        d: f.response as u32,
-        e: f.angle as u32,
-    };
-    put_five(out, to, five);
+    out[to..to + (FRONT_WORDS - HEAD_WORDS)].copy_from_slice(&[
+        f.x as u32,
+        f.y as u32,
+        f.size as u32,
+        f.response as u32,
+        f.angle as u32,
+    ]);
 }
 
 // Writes both, from a record's bytes.
 fn take_front(e: Edition, bytes: &[u8], out: &mut [u32], to: usize)
-    requires known_1 { Known e }
-    requires known_2 { length bytes.now ≡ record_size (layout_for e) }
+    requires bytes_len { length bytes.now ≡ record_size (layout_for e) }
     requires front_words_in_bounds { to + front_words ≤ length out.old }
     ensures { out.new ≡ pasted to (bytes_front (layout_for e) bytes.now) out.old }
 {
@@ -192,8 +135,7 @@ fn take_front(e: Edition, bytes: &[u8], out: &mut [u32], to: usize)
 
 // Writes a record's words at the place `to`.
 pub fn take_record(e: Edition, bytes: &[u8], out: &mut [u32], to: usize)
-    requires known_1 { Known e }
-    requires known_2 { length bytes.now ≡ record_size (layout_for e) }
+    requires bytes_len { length bytes.now ≡ record_size (layout_for e) }
     requires read_words_in_bounds { to + read_words ≤ length out.old }
     ensures { out.new ≡ pasted to (bytes_words (layout_for e) bytes.now) out.old }
 {

@@ -5,22 +5,26 @@ use mathlib.Core.List.{List, [], ◌∷◌, ◌++◌, flat_map}
 use Prim.Native.Nat.{ℕ, ◌+◌, ◌-◌, ◌*◌, ◌/◌, ◌%◌, ◌^◌, ◌≤◌, ◌<◌}
 use native.Mathlib.Nat.{zero-add}
 use native.Mathlib.Omega.{arith}
+use borrow.Author.Tests.{eq-eqb, ne_eqb}
 use lib.Dec.{leb, ltb, eqb}
 use lib.ListN.{length, get_or, take, drop, length-append, length-take, length-drop}
 use lib.Seq.{get_or-take, get_or-drop}
 use Rattle.lists.specs.Pasted.{pasted}
 use Rattle.lists.proofs.Pasted.{pasted_append}
 use Rattle.params.specs.Table.{shape_wrong}
-use Rattle.params.specs.Answers.{answer_of, landed}
-use Rattle.params.specs.declared.Answer.{Answer}
+use Rattle.std.specs.Prelude.{Result, Ok, Err}
+use Rattle.std.specs.Result.{IsErrAnd}
+use Rattle.params.specs.Answers.{Answer, Done, Short, Refused, answer_of, landed, refused, told}
+use Rattle.params.specs.declared.Refusal.{Refusal}
+use Rattle.params.specs.declared.Refusal.TheVariants.{Shape, Layers, Length, Settings, Fields, Samples, Room, Sheet}
 use Rattle.params.proofs.Bools.{or_neither}
 use Rattle.sheet.specs.Pack.{bytes, number, Held}
 use Rattle.sheet.specs.Layout.{Layout, Frame, layout_of, known, header_size, max_count, top_rule, header_slots, header_values, record_slots, record_size}
 use Rattle.sheet.specs.Sheet.{parts, all_pass}
 use Rattle.sheet.specs.Words.{taken_words, layer_place, filled}
-use Rattle.sheet.specs.Writes.{count_in, records_of, frame_of, layer_right, sides_wrong, layers_wrong, records_layered, words_right, words_wrong, fault_in, written, write_size, write_answer, write_out}
+use Rattle.sheet.specs.Writes.{count_in, records_of, frame_of, layer_right, sides_wrong, layers_wrong, records_layered, words_right, words_wrong, fault_in, write_fault, written, write_size, write_answer, write_out}
 use Rattle.sheet.specs.Trip.{Lawful}
-use Rattle.sheet_edition.specs.Edition.{edition_of, layout_for, Known}
+use Rattle.sheet_edition.specs.Edition.{layout_for}
 use Rattle.sheet_edition.specs.declared.Edition.{Edition}
 use Rattle.sheet_fields.specs.Fields.{header_list, HeaderFits, any_frame, words_bytes}
 use Rattle.sheet_fields.specs.declared.Header.{Header}
@@ -30,9 +34,10 @@ use Rattle.sheet.proofs.Parts.{pass_at}
 use Rattle.sheet.proofs.Trip.{record_length}
 use Rattle.sheet.proofs.Steps.{step_inside, length_all}
 use Rattle.sheet.proofs.Alike.{held_any, written_is}
-use Rattle.sheet.proofs.Faults.{Sound, sound_of, shape_fine, fault_asked, fault_layers, fault_words, no_fault}
+use Rattle.sheet.proofs.Answered.{answer_refused, answer_short, answer_done}
+use Rattle.sheet.proofs.Faults.{Sound, sound_of, shape_fine, fault_asked, fault_sides, fault_layers, fault_edition, fault_words, no_fault}
 use Rattle.sheet.proofs.Return.{taken_plain, taken_pos, whole_records, header_sound}
-use Rattle.sheet_edition.proofs.Layouts.{layout_is, size_is, number_is, words_are, bytes_are}
+use Rattle.sheet_edition.proofs.Layouts.{layout_is, size_is}
 
 -- record i of n, of w words or bytes each, ends inside the room of n
 pub inside : (w k n i room : ℕ) → w ≡ k → k * n ≤ room → i < n → w * i + w ≤ room
@@ -68,25 +73,6 @@ part_put l w b i ws d e q =
 pub length_record : (l : Layout) → Lawful l → (w : List ℕ) → length (words_bytes l w) ≡ record_size l
 length_record l k w = record_length l k (record { frame = any_frame; records = [] }) (filled w)
 
--- its layer, where the code reads it
-module _ (l : Layout) (w i : ℕ) (e : w ≡ taken_words l) where
-  pub layer_inside : (n room : ℕ) → taken_words l * n ≤ room → i < n → w * i + layer_place < room
-  layer_inside n room r h =
-      let t = inside w (taken_words l) n i room e r h in
-      let p = taken_plain l.marked in
-      omega arith
-
-  pub layer_is : (ws : List ℕ) (layers x : ℕ) (b : Bool) → x ≡ get_or ws (w * i + layer_place) 0 → b ≡ (leb 1 x && leb x layers) →
-      layer_right layers (take (taken_words l) (drop (taken_words l * i) ws)) ≡ b
-  layer_is ws layers x b q r =
-      let p = taken_plain l.marked in
-      ap (λ (n : ℕ). leb 1 n && leb n layers)
-      (get_or-take (taken_words l) (drop (taken_words l * i) ws) layer_place 0 (omega arith)
-      ∙ get_or-drop (taken_words l * i) ws layer_place 0
-      ∙ ap (λ (m : ℕ). get_or ws (m * i + layer_place) 0) (sym e)
-      ∙ sym q)
-      ∙ sym r
-
 -- the test of the sides, as the code makes it
 pub sides_is : (l : Layout) (f : Frame) (a : Bool) (s : ℕ) → a ≡ shape_wrong f.width f.height → s ≡ 2 ^ l.side → (a || (ltb s f.width || ltb s f.height)) ≡ sides_wrong l f
 unfolding sides_wrong
@@ -97,22 +83,27 @@ unfolding sides_wrong
 sides_fine l f e = shape_fine f.width f.height (or_neither _ _ e).0
 
 -- of an edition's value: the header's values, the words of a record, how many records there are, and the bytes that they take
-module _ (e : Edition) (k : Known e) where
+module _ (e : Edition) where
   pub header_is : (width height layers n : ℕ) → e.number ∷ (width - 1) ∷ (height - 1) ∷ layers ∷ n ∷ 0 ∷ 0 ∷ [] ≡ header_values (layout_for e) (frame_of width height layers) n
-  header_is width height layers n = ap (λ (x : ℕ). x ∷ (width - 1) ∷ (height - 1) ∷ layers ∷ n ∷ 0 ∷ 0 ∷ []) (number_is e k)
+  header_is width height layers n = ap (λ (x : ℕ). x ∷ (width - 1) ∷ (height - 1) ∷ layers ∷ n ∷ 0 ∷ 0 ∷ []) e.number_is
 
   pub words_pos : 0 < e.words
-  words_pos = subst (λ (n : ℕ). 0 < n) (sym (words_are e k)) (taken_pos (layout_for e).marked)
+  words_pos = subst (λ (n : ℕ). 0 < n) (sym e.words_are) (taken_pos (layout_for e).marked)
 
   module _ (ws : List ℕ) where
+    -- its whole records, as the code cuts them
+    pub records_are : parts e.words (length ws / e.words) ws ≡ records_of (layout_for e) ws
+    unfolding records_of
+    records_are = ap (λ (k : ℕ). parts k (length ws / k) ws) e.words_are
+
     pub count_is : length ws / e.words ≡ count_in (layout_for e) ws
-    count_is = ap (λ (n : ℕ). length ws / n) (words_are e k)
+    count_is = ap (λ (n : ℕ). length ws / n) e.words_are
 
     pub whole_is : taken_words (layout_for e) * (length ws / e.words) ≤ length ws
     whole_is = subst (λ (n : ℕ). taken_words (layout_for e) * n ≤ length ws) (sym count_is) (whole_records (layout_for e) ws)
 
     pub bytes_is : header_size + e.bytes * (length ws / e.words) ≡ header_size + record_size (layout_for e) * (length ws / e.words)
-    bytes_is = ap (λ (b : ℕ). header_size + b * (length ws / e.words)) (bytes_are e k)
+    bytes_is = ap (λ (b : ℕ). header_size + b * (length ws / e.words)) e.bytes_are
 
     pub sheet_size_lem : header_size + e.bytes * (length ws / e.words) ≡ write_size (layout_for e) ws
     sheet_size_lem = bytes_is ∙ ap (λ (n : ℕ). header_size + record_size (layout_for e) * n) count_is
@@ -121,31 +112,27 @@ module _ (e : Edition) (k : Known e) where
     size_small f s =
         let z = size_is e in
         let c : length ws / e.words ≤ max_count = subst (λ (n : ℕ). n ≤ max_count) (sym count_is) s.count in
-        rw (bytes_are e k, z) (omega arith)
+        rw (e.bytes_are, z) (omega arith)
 
 module _ (l : Layout) (f : Frame) (ws : List ℕ) where
-  -- the tests of the records, as the code makes them
-  pub layers_is : (n : ℕ) (b : Bool) → n ≡ count_in l ws → b ≡ all_pass (layer_right f.layers) (parts (taken_words l) n ws) → records_layered l f ws ≡ b
-  unfolding records_of
-  layers_is n b e p = sym (p ∙ ap (λ (m : ℕ). all_pass (layer_right f.layers) (parts (taken_words l) m ws)) e)
-
-  pub words_is : (k n : ℕ) (b : Bool) → k ≡ taken_words l → n ≡ count_in l ws → b ≡ all_pass (words_right l f) (parts (taken_words l) n ws) →
-      words_wrong l f ws ≡ (not (eqb (length ws % k) 0) || (ltb max_count n || not b))
-  unfolding words_wrong records_of
-  words_is k n b e d p = rw (p, d, e)
+  -- the test of the records, as the code makes it
+  words_is : (k : ℕ) (b : Bool) → k ≡ taken_words l → b ≡ all_pass (words_right l f) (records_of l ws) →
+      words_wrong l f ws ≡ (not (eqb (length ws % k) 0) || (ltb max_count (length ws / k) || not b))
+  unfolding words_wrong
+  words_is k b e p = rw (p, e)
 
   -- the faults that are looked for where the layout was asked for
   module _ (asked : Bool) (y : asked ≡ true) (a : sides_wrong l f ≡ false) (b : layers_wrong f ≡ false) where
-    pub asked_layers : records_layered l f ws ≡ false → fault_in asked l f ws ≡ 2
+    asked_layers : records_layered l f ws ≡ false → fault_in asked l f ws ≡ 2
     asked_layers c = fault_layers asked l f ws a (rw (b, y, c))
 
-    pub asked_words : records_layered l f ws ≡ true → words_wrong l f ws ≡ true → fault_in asked l f ws ≡ 5
+    asked_words : records_layered l f ws ≡ true → words_wrong l f ws ≡ true → fault_in asked l f ws ≡ 5
     asked_words c d = ap (λ (t : Bool). fault_in t l f ws) y ∙ fault_words l f ws a (rw (b, c)) d
 
-    pub asked_none : records_layered l f ws ≡ true → words_wrong l f ws ≡ false → fault_in asked l f ws ≡ 0
+    asked_none : records_layered l f ws ≡ true → words_wrong l f ws ≡ false → fault_in asked l f ws ≡ 0
     asked_none c d = ap (λ (t : Bool). fault_in t l f ws) y ∙ no_fault l f ws a (rw (b, c)) d
 
-  pub sound_in : (asked : Bool) → fault_in asked l f ws ≡ 0 → Sound l f ws
+  sound_in : (asked : Bool) → fault_in asked l f ws ≡ 0 → Sound l f ws
   sound_in asked h = sound_of l f ws (sym (ap (λ (t : Bool). fault_in t l f ws) (fault_asked asked l f ws h)) ∙ h)
 
   -- where there is no fault the header's values have room, and each record's
@@ -184,19 +171,93 @@ module _ (l : Layout) (k : Lawful l) (f : Frame) (ws out : List ℕ) (room : wri
       ∙ ap (λ (x : ℕ). pasted header_size (flat_map (words_bytes l) (parts (taken_words l) x ws)) (pasted 0 (bytes header_size (number (header_slots l) (header_values l f x))) out)) c
       ∙ two
 
--- an edition's number is known where it is that of the layout found for it, and what is answered and left is what that layout says
-module _ (edition : ℕ) (e : Edition) (h : e ≡ edition_of (layout_of edition)) (f : Frame) (ws out : List ℕ) (r : Answer) where
-  pub answer_is : r ≡ answer_of (fault_in (eqb e.number edition) (layout_for e) f ws) (write_size (layout_for e) ws) (write_size (layout_for e) ws) (length out) →
-      r ≡ write_answer edition f ws (length out)
-  unfolding write_answer known
-  answer_is p =
-      p
-      ∙ ap (λ (l : Layout). answer_of (fault_in (eqb e.number edition) l f ws) (write_size l ws) (write_size l ws) (length out)) (layout_is edition e h)
-      ∙ ap (λ (x : Edition). answer_of (fault_in (eqb x.number edition) (layout_of edition) f ws) (write_size (layout_of edition) ws) (write_size (layout_of edition) ws) (length out)) h
+-- what is asked of an edition by its number, of its value, and each refusal of that
+module _ (edition : ℕ) (e : Edition) (h : layout_for e ≡ layout_of edition) (f : Frame) (ws : List ℕ) where
+  fault_is : write_fault edition f ws ≡ fault_in (eqb e.number edition) (layout_for e) f ws
+  unfolding known
+  fault_is =
+      ap (λ (n : ℕ). fault_in (eqb n edition) (layout_of edition) f ws) (sym (e.number_is ∙ ap (λ (l : Layout). l.edition) h))
+      ∙ ap (λ (l : Layout). fault_in (eqb e.number edition) l f ws) (sym h)
 
-  pub out_is : (new : List ℕ) → r ≡ write_answer edition f ws (length out) → new ≡ landed r (written (layout_for e) f ws) out → new ≡ write_out edition f ws out
+  told_as : (n : ℕ) → fault_in (eqb e.number edition) (layout_for e) f ws ≡ n → Refused n ≡ Refused (write_fault edition f ws)
+  told_as n p = ap Refused (sym (fault_is ∙ p))
+
+  pub shape_told : sides_wrong (layout_for e) f ≡ true → Refused 1 ≡ Refused (write_fault edition f ws)
+  shape_told a = told_as 1 (fault_sides (eqb e.number edition) (layout_for e) f ws a)
+
+  module _ (a : sides_wrong (layout_for e) f ≡ false) where
+    pub layers_told : layers_wrong f ≡ true → Refused 2 ≡ Refused (write_fault edition f ws)
+    layers_told b = told_as 2 (fault_layers (eqb e.number edition) (layout_for e) f ws a (ap (λ (t : Bool). t || (eqb e.number edition && not (records_layered (layout_for e) f ws))) b))
+
+    module _ (b : layers_wrong f ≡ false) where
+      pub edition_told : (e.number ≡ edition → ⊥) → Refused 4 ≡ Refused (write_fault edition f ws)
+      edition_told n = told_as 4 (ap (λ (t : Bool). fault_in t (layout_for e) f ws) (ne_eqb e.number edition n) ∙ fault_edition (layout_for e) f ws a b)
+
+      module _ (n : e.number ≡ edition) where
+        pub layered_told : records_layered (layout_for e) f ws ≡ false → Refused 2 ≡ Refused (write_fault edition f ws)
+        layered_told r = told_as 2 (asked_layers (layout_for e) f ws (eqb e.number edition) (eq-eqb e.number edition n) a b r)
+
+        module _ (r : records_layered (layout_for e) f ws ≡ true) where
+          pub words_told : (t : Bool) → t ≡ all_pass (words_right (layout_for e) f) (records_of (layout_for e) ws) →
+              (not (eqb (length ws % e.words) 0) || (ltb max_count (length ws / e.words) || not t)) ≡ true → Refused 5 ≡ Refused (write_fault edition f ws)
+          words_told t p q =
+              told_as 5 (asked_words (layout_for e) f ws (eqb e.number edition) (eq-eqb e.number edition n) a b r (words_is (layout_for e) f ws e.words t e.words_are p ∙ q))
+
+          pub none_told : (t : Bool) → t ≡ all_pass (words_right (layout_for e) f) (records_of (layout_for e) ws) →
+              (not (eqb (length ws % e.words) 0) || (ltb max_count (length ws / e.words) || not t)) ≡ false → write_fault edition f ws ≡ 0
+          none_told t p q =
+              fault_is ∙ asked_none (layout_for e) f ws (eqb e.number edition) (eq-eqb e.number edition n) a b r (words_is (layout_for e) f ws e.words t e.words_are p ∙ q)
+
+  pub accepted_sound : write_fault edition f ws ≡ 0 → Sound (layout_for e) f ws
+  accepted_sound p = sound_in (layout_for e) f ws (eqb e.number edition) (sym fault_is ∙ p)
+
+-- a refusal that is told by its number has one
+refusal_some : (r : Refusal) (k : ℕ) → refused r ≡ Refused k → k ≡ 0 → ⊥
+refusal_some Shape k e z = let n : k ≡ 1 = cc in omega arith
+refusal_some Layers k e z = let n : k ≡ 2 = cc in omega arith
+refusal_some Length k e z = let n : k ≡ 3 = cc in omega arith
+refusal_some Settings k e z = let n : k ≡ 4 = cc in omega arith
+refusal_some Fields k e z = let n : k ≡ 5 = cc in omega arith
+refusal_some Samples k e z = let n : k ≡ 6 = cc in omega arith
+refusal_some (Room m) k e z = absurd (let x : ◌≡◌ {A = ℕ} 0 1 = cc in omega arith)
+refusal_some Sheet k e z = let n : k ≡ 8 = cc in omega arith
+
+err_told : (r : Result ℕ Refusal) (x : Refusal) → IsErrAnd r (λ y. y ≡ x) → told r ≡ refused x
+err_told (Ok n) x h = absurd h
+err_told (Err y) x h = ap refused h
+
+-- what is answered and left: on a refusal, without room, and where all is written
+module _ (edition : ℕ) (f : Frame) (ws out : List ℕ) where
+  landed_is : (a : Answer) (new : List ℕ) → a ≡ write_answer edition f ws (length out) → new ≡ landed a (written (layout_of edition) f ws) out → new ≡ write_out edition f ws out
   unfolding write_out
-  out_is new p q =
-      q
-      ∙ ap (λ (l : Layout). landed r (written l f ws) out) (layout_is edition e h)
-      ∙ ap (λ (x : Answer). landed x (written (layout_of edition) f ws) out) p
+  landed_is a new p q = q ∙ ap (λ (x : Answer). landed x (written (layout_of edition) f ws) out) p
+
+  pub refusal_told : (r : Result ℕ Refusal) (x : Refusal) → IsErrAnd r (λ y. y ≡ x) → refused x ≡ Refused (write_fault edition f ws) →
+      (told r ≡ write_answer edition f ws (length out)) × (out ≡ write_out edition f ws out)
+  unfolding write_answer
+  refusal_told r x h e =
+      let k = write_fault edition f ws in
+      let a : Refused k ≡ write_answer edition f ws (length out) = sym (answer_refused k _ _ (length out) (refusal_some x k e)) in
+      (err_told r x h ∙ e ∙ a, landed_is (Refused k) out a refl)
+
+  module _ (e : Edition) (h : layout_for e ≡ layout_of edition) (fine : write_fault edition f ws ≡ 0) where
+    size_is_lem : header_size + e.bytes * (length ws / e.words) ≡ write_size (layout_of edition) ws
+    size_is_lem = sheet_size_lem e ws ∙ ap (λ (l : Layout). write_size l ws) h
+
+    pub short_told : length out < header_size + e.bytes * (length ws / e.words) →
+        (Short (header_size + e.bytes * (length ws / e.words)) ≡ write_answer edition f ws (length out)) × (out ≡ write_out edition f ws out)
+    unfolding write_answer
+    short_told less =
+        let n = header_size + e.bytes * (length ws / e.words) in
+        let a : Short n ≡ write_answer edition f ws (length out) =
+        ap Short size_is_lem ∙ sym (answer_short _ _ _ _ fine (subst (λ (m : ℕ). length out < m) size_is_lem less)) in
+        (a, landed_is (Short n) out a refl)
+
+    pub done_told : header_size + e.bytes * (length ws / e.words) ≤ length out → (new : List ℕ) → new ≡ pasted 0 (written (layout_for e) f ws) out →
+        (Done (header_size + e.bytes * (length ws / e.words)) ≡ write_answer edition f ws (length out)) × (new ≡ write_out edition f ws out)
+    unfolding write_answer
+    done_told room new p =
+        let n = header_size + e.bytes * (length ws / e.words) in
+        let a : Done n ≡ write_answer edition f ws (length out) =
+        ap Done size_is_lem ∙ sym (answer_done _ _ _ _ fine (subst (λ (m : ℕ). m ≤ length out) size_is_lem room)) in
+        (a, landed_is (Done n) new a (p ∙ ap (λ (l : Layout). pasted 0 (written l f ws) out) h))

@@ -11,9 +11,9 @@ loop-i-preserved c =
     let l = c.loop-i in
     let a = c.args in
     let room : a.at + l.i ≤ length l.out = omega arith in
-    (omega arith, search rules, put_turn a.at l.i l.m l.out c.loop-i-test.true room ∙ l.invariant.2)
+    (search rules, put_turn a.at l.i l.m l.out c.loop-i-test.true room ∙ l.invariant.1)
 
 pub returns : goal.returns
 returns c =
     let l = c.loop-i in
-    sym (put_end c.args.at l.m l.i l.out c.loop-i-test.false) ∙ l.invariant.2
+    sym (put_end c.args.at l.m l.i l.out c.loop-i-test.false) ∙ l.invariant.1

@@ -1,12 +1,8 @@
 use mathlib.Core.Path.{◌≡◌}
-use Prim.Native.Nat.{◌≤◌}
 use lib.ListN.{length}
 use Rattle.lists.specs.Pasted.{pasted}
 use Rattle.sheet.specs.Pack.{bytes}
 use Rattle.sheet_fields.proofs.put.Given as goal
 
 abbrev pub invariant-loop-i : goal.invariant-loop-i
-invariant-loop-i l = (l.i ≤ l.k) × (length l.out ≡ length l.initial.out) × (pasted l.at (bytes l.i l.m) l.out ≡ pasted l.at (bytes l.k l.n) l.initial.out)
-
-abbrev pub decreases-loop-i : goal.decreases-loop-i
-decreases-loop-i l = l.i
+invariant-loop-i l = (length l.out ≡ length l.initial.out) × (pasted l.at (bytes l.i l.m) l.out ≡ pasted l.at (bytes l.k l.n) l.initial.out)

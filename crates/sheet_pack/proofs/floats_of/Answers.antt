@@ -5,4 +5,4 @@ use Rattle.sheet_pack.proofs.floats_of.Goals as goal
 
 pub returns : goal.returns
 returns c =
-    five_are c.args.words.now head_words _ _ _ _ _ (omega arith) c.wide.ensures c.wide-2.ensures c.wide-3.ensures c.wide-4.ensures c.wide-5.ensures
+    five_are c.args.words.now head_words _ _ _ _ _ (omega arith) c.from.ensures c.from-2.ensures c.from-3.ensures c.from-4.ensures c.from-5.ensures

@@ -1,8 +1,7 @@
 use mathlib.Core.Path.{sym, ap, ◌∙◌}
 use Rattle.sheet.specs.Layout.{Layout}
 use Rattle.sheet.specs.Sheet.{bytes_right}
-use Rattle.sheet.specs.Reads.{edition_in, layout_in}
-use Rattle.sheet_edition.proofs.Layouts.{layout_is}
+use Rattle.sheet.specs.Reads.{layout_in}
 use Rattle.sheet_read.proofs.Taken.{short_is}
 use Rattle.sheet_read.proofs.sheet_sound.Goals as goal
 
@@ -15,4 +14,4 @@ pub returns : goal.returns
 returns c =
     let bs = c.args.sheet.now in
     let e = c.edition_in in
-    c.sheet_right.ensures ∙ ap (λ (l : Layout). bytes_right l bs) (layout_is (edition_in bs) e.result e.ensures.value)
+    c.sheet_right.ensures ∙ ap (λ (l : Layout). bytes_right l bs) e.ensures

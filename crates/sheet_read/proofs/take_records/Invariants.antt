@@ -1,6 +1,6 @@
 use mathlib.Core.Path.{◌≡◌}
 use mathlib.Core.List.{flat_map}
-use Prim.Native.Nat.{◌+◌, ◌-◌, ◌*◌, ◌≤◌}
+use Prim.Native.Nat.{◌+◌, ◌-◌, ◌*◌}
 use lib.ListN.{length, drop}
 use Rattle.lists.specs.Pasted.{pasted}
 use Rattle.sheet.specs.Layout.{header_size, record_size}
@@ -12,9 +12,6 @@ use Rattle.sheet_read.proofs.take_records.Given as goal
 
 abbrev pub invariant-loop-i : goal.invariant-loop-i
 invariant-loop-i l =
-    (l.i ≤ l.n) × (length l.out ≡ length l.initial.out)
+    (length l.out ≡ length l.initial.out)
     × (pasted (0 + read_words * l.i) (flat_map (bytes_words (layout_for l.e)) (parts (record_size (layout_for l.e)) (l.n - l.i) (drop (record_size (layout_for l.e) * l.i) (drop header_size l.sheet)))) l.out
     ≡ pasted 0 (flat_map (bytes_words (layout_for l.e)) (parts (record_size (layout_for l.e)) l.n (drop header_size l.sheet))) l.initial.out)
-
-abbrev pub decreases-loop-i : goal.decreases-loop-i
-decreases-loop-i l = l.n - l.i

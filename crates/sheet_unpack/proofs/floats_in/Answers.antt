@@ -32,7 +32,7 @@ returns-clause-bytes_value c =
     let size = c.get-3.ensures in
     let response = c.get-4.ensures in
     let angle = c.get-5.ensures in
-    floats_are (layout_for e) (lawful_edition e.number) (angled_edition e.number) bs c.requires.fact_2 g _ x y size response angle
+    floats_are (layout_for e) (lawful_edition e.number) (angled_edition e.number) bs c.requires g _ x y size response angle
 
 pub returns-clause-floats_fit : goal.returns-clause-floats_fit
 returns-clause-floats_fit c =

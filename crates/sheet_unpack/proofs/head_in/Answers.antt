@@ -8,11 +8,8 @@ use Rattle.sheet_unpack.proofs.head_in.Goals as goal
 pub get-requires : goal.get-requires
 get-requires c = omega (arith, size_is c.args.e)
 
-pub cut_head-requires-clause-fact_1 : goal.cut_head-requires-clause-fact_1
-cut_head-requires-clause-fact_1 c = c.requires.fact_1
-
-pub cut_head-requires-clause-fact_2 : goal.cut_head-requires-clause-fact_2
-cut_head-requires-clause-fact_2 c = rw c.get.ensures (value_fits c.args.bytes.now 0 head_size (λ i. (c.type_inv.bytes i).fits) (omega (arith, size_is c.args.e)))
+pub cut_head-requires : goal.cut_head-requires
+cut_head-requires c = rw c.get.ensures (value_fits c.args.bytes.now 0 head_size (λ i. (c.type_inv.bytes i).fits) (omega (arith, size_is c.args.e)))
 
 pub returns-clause-bytes_value : goal.returns-clause-bytes_value
 unfolding unpack

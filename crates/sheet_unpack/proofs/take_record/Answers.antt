@@ -27,4 +27,4 @@ returns c =
     let d = c.take_values.ensures ∙ ap (pasted (to + front_words) (drop (front_size l) bs)) c.take_front.ensures in
     ap (λ (x : List ℕ). set x (to + plain_words) b.result) d
     ∙ ap (set (pasted (to + front_words) (drop (front_size l) bs) (pasted to (bytes_front l bs) c.args.out.now)) (to + plain_words)) b.ensures
-    ∙ words_set l (lawful_edition e.number) (angled_edition e.number) bs c.requires.known_2 g to c.args.out.now c.requires.read_words_in_bounds
+    ∙ words_set l (lawful_edition e.number) (angled_edition e.number) bs c.requires.bytes_len g to c.args.out.now c.requires.read_words_in_bounds

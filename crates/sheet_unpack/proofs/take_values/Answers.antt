@@ -1,41 +1,24 @@
-use mathlib.Core.Path.{◌≡◌, refl, sym, ap, ◌∙◌}
-use mathlib.Core.List.{List}
-use Prim.Native.Nat.{ℕ, ◌+◌, ◌-◌, ◌≤◌}
-use native.Mathlib.Nat.{add-zero}
-use native.Mathlib.Omega.{arith}
-use borrow.Author.Rules.{rules}
-use lib.ListN.{length, set, take, drop}
+use Rattle.std.proofs.Common.{◌≡◌, ◌+◌, ◌-◌, ◌≤◌, ◌∙◌, sym, ap, ℕ, List, arith, rules, length, set, drop, length-drop}
 use Rattle.lists.specs.Pasted.{pasted}
-use Rattle.lists.proofs.Pasted.{pasted_none}
 use Rattle.params.specs.Limits.{value_count}
 use Rattle.sheet.specs.Layout.{front_size}
-use Rattle.sheet.proofs.Steps.{copy_turn}
+use Rattle.sheet.proofs.Steps.{copy_next, copy_end}
 use Rattle.sheet_edition.specs.Edition.{layout_for}
 use Rattle.sheet_edition.proofs.Layouts.{size_is}
-use Rattle.sheet_unpack.proofs.Taken.{at_start}
 use Rattle.sheet_unpack.proofs.take_values.Goals as goal
-
-pub loop-i-init : goal.loop-i-init
-loop-i-init c =
-    let a = c.args in
-    let f = front_size (layout_for a.e) in
-    (search rules, refl, ap (λ (n : ℕ). pasted n (take value_count (drop (f + 0) a.bytes.now)) a.out.now) (add-zero a.to) ∙ ap (λ (t : List ℕ). pasted a.to t a.out.now) (at_start value_count f a.bytes.now (omega (arith, size_is a.e))))
 
 pub loop-i-preserved : goal.loop-i-preserved
 loop-i-preserved c =
     let l = c.loop-i in
-    let f = front_size (layout_for c.args.e) in
-    let v = c.value_at.ensures in
-    let room : c.args.to + value_count ≤ length l.out = omega arith in (
-      omega arith,
+    let values = c.values_in-value-items.result.now in
+    let many : length values ≡ length c.args.bytes.now - front_size (layout_for c.args.e) = ap length c.values_in-value-items.ensures ∙ length-drop _ _ in
+    let room : c.args.to + length values ≤ length l.out = omega (arith, size_is c.args.e) in (
       search rules,
-      ap (λ (x : ℕ). pasted (c.args.to + (l.i + 1)) (take (value_count - (l.i + 1)) (drop (f + (l.i + 1)) c.args.bytes.now)) (set l.out (c.args.to + l.i) x)) v
-          ∙ copy_turn value_count l.i c.args.to f c.args.bytes.now l.out c.loop-i-test.true (omega (arith, size_is c.args.e)) room
-          ∙ l.invariant.2,
+      ap (λ (v : ℕ). pasted (c.args.to + (l.i + 1)) (drop (l.i + 1) values) (set l.out (c.args.to + l.i) v)) c.from.ensures
+          ∙ copy_next l.i c.args.to values l.out c.loop-i-test.true room ∙ l.invariant.1,
     )
 
 pub returns : goal.returns
 returns c =
     let l = c.loop-i in
-    let e : value_count - l.i ≡ 0 = omega arith in
-    sym (pasted_none (c.args.to + l.i) l.out) ∙ rw e at l.invariant.2
+    sym (copy_end l.i _ _ l.out c.loop-i-test.false) ∙ l.invariant.1 ∙ ap (λ (v : List ℕ). pasted c.args.to v c.args.out.now) c.values_in-value-items.ensures

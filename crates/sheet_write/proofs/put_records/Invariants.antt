@@ -1,6 +1,6 @@
 use mathlib.Core.Path.{◌≡◌}
 use mathlib.Core.List.{flat_map}
-use Prim.Native.Nat.{◌+◌, ◌-◌, ◌*◌, ◌≤◌}
+use Prim.Native.Nat.{◌+◌, ◌-◌, ◌*◌}
 use lib.ListN.{length, drop}
 use Rattle.lists.specs.Pasted.{pasted}
 use Rattle.sheet.specs.Layout.{header_size, record_size}
@@ -12,9 +12,6 @@ use Rattle.sheet_write.proofs.put_records.Given as goal
 
 abbrev pub invariant-loop-i : goal.invariant-loop-i
 invariant-loop-i l =
-    (l.i ≤ l.n) × (length l.out ≡ length l.initial.out)
+    (length l.out ≡ length l.initial.out)
     × (pasted (header_size + record_size (layout_for l.e) * l.i) (flat_map (words_bytes (layout_for l.e)) (parts (taken_words (layout_for l.e)) (l.n - l.i) (drop (taken_words (layout_for l.e) * l.i) l.words))) l.out
     ≡ pasted header_size (flat_map (words_bytes (layout_for l.e)) (parts (taken_words (layout_for l.e)) l.n l.words)) l.initial.out)
-
-abbrev pub decreases-loop-i : goal.decreases-loop-i
-decreases-loop-i l = l.n - l.i

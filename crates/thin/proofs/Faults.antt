@@ -1,18 +1,22 @@
 -- What the tests of a list of keypoints leave known, and the first fault step by step. Assumes nothing.
-use Prim.Native.Nat.{ℕ, ◌+◌, ◌%◌, ◌^◌, ◌≤◌, ◌<◌}
-use mathlib.Core.Path.{◌≡◌, refl, sym, ◌∙◌}
+use Prim.Native.Nat.{ℕ, zero, suc, ◌+◌, ◌%◌, ◌^◌, ◌≤◌, ◌<◌}
+use mathlib.Core.Path.{◌≡◌, refl, sym, ap, ◌∙◌}
 use mathlib.Core.Bool.{Bool, true, false, not, ◌&&◌, ◌||◌}
-use mathlib.Core.List.{List}
-use mathlib.Core.Logic.{⊎_elim}
-use native.Mathlib.Nat.{eq-or-lt_of_le}
+use mathlib.Core.List.{List, [], ◌∷◌, ◌++◌, map}
+use native.Mathlib.Nat.{zero-add}
+use native.Mathlib.Numerals.{add-one}
 use native.Mathlib.Omega.{arith}
 use borrow.Author.Tests.{ltb-false, eqb-false}
 use lib.Dec.{ltb, eqb}
 use lib.ListN.{length}
+use lib.Ieee.{binary32, of_bits, of_int}
 use lib.Ieee.Scale.{finite}
+use Rattle.std.specs.List.{list_all, range_with_len}
+use Rattle.std.proofs.lemmas.List.FromFn.{map-range_with_len_more}
+use Rattle.std.proofs.lemmas.List.Folds.{list_all-map, list_all-append}
 use Rattle.lists.specs.Ranges.{every}
-use Rattle.lists.proofs.Bools.{and_left, and_right}
-use Rattle.lists.proofs.Every.{every_none, every_more, every_all}
+use Rattle.lists.proofs.Bools.{and_left, and_right, and_true}
+use Rattle.lists.proofs.Every.{every_all}
 use Rattle.params.specs.Limits.{max_side, keypoint_words, max_keypoints, max_depth}
 use Rattle.params.specs.Table.{first_fault, side_wrong, shape_wrong}
 use Rattle.params.proofs.Bools.{or_neither, in_range}
@@ -29,6 +33,11 @@ use Rattle.thin.specs.declared.Sides.{Sides}
 
 -- ---- the keypoints
 
+-- zero as it is written
+pub zero_is : of_bits binary32 0 ≡ float 0
+unfolding of_bits of_int
+zero_is = refl
+
 inside_sided : (ws : List ℕ) (w h i : ℕ) → sided ws (sides_of w h) i ≡ inside ws (frame w h) i
 unfolding inside sided
 inside_sided ws w h i = refl
@@ -41,25 +50,16 @@ module _ (ws : List ℕ) (w h : ℕ) where
   unfolding point_right
   point_is i e b z x = sym (x ∙ rw (z, inside_sided ws w h i))
 
-  -- those below i are right, and their words have 32 bits
-  pub record Checked (n i : ℕ) : Type 0 where
-    pub high : i ≤ n
-    pub right : every i (point_right ws w h) ≡ true
-    pub words : (j : ℕ) → j < i → Words ws j
-
-  pub check_start : (n : ℕ) → Checked n 0
-  check_start n = record { high = omega arith; right = every_none (point_right ws w h); words = λ j l. absurd (omega arith) }
-
-  pub check_turn : (n i : ℕ) → Checked n i → i < n → point_right ws w h i ≡ true → Words ws i → Checked n (i + 1)
-  check_turn n i c l p q =
-      record {
-        high = omega arith;
-        right = every_more i (point_right ws w h) c.right p;
-        words = λ j a. ⊎_elim (λ e. rw e q) (λ b. c.words j b) (eq-or-lt_of_le (omega arith));
-      }
-
-  pub check_end : (n i : ℕ) → Checked n i → n ≤ i → (true ≡ every n (point_right ws w h)) × (true ≡ true → (j : ℕ) → j < n → Words ws j)
-  check_end n i c l = let e : i ≡ n = (let g = c.high in omega arith) in (sym (rw e at c.right), λ t j a. c.words j (omega arith))
+  -- those below n are right, by the list of the library that asks each
+  pub points_are : (e : Sides) (n : ℕ) → e ≡ sides_of w h → list_all (λ i. sided ws e i && finite (response_of ws i)) (range_with_len 0 n) ≡ every n (point_right ws w h)
+  unfolding every
+  points_are e zero z = refl
+  points_are e (suc n) z =
+      let test : ℕ → Bool = λ i. sided ws e i && finite (response_of ws i) in
+      let id : Bool → Bool = λ b. b in
+      let m : map test (range_with_len 0 (suc n)) ≡ map test (range_with_len 0 n) ++ (test n ∷ []) = rw (add-one n) at (map-range_with_len_more test 0 n n (zero-add n)) in
+      sym (list_all-map id test (range_with_len 0 (suc n))) ∙ ap (λ l. list_all id l) m ∙ list_all-append id (map test (range_with_len 0 n)) (test n ∷ [])
+      ∙ rw (list_all-map id test (range_with_len 0 n), and_true, points_are e n z, point_is n e (test n) z refl)
 
   right_inside : (i : ℕ) → point_right ws w h i ≡ true → inside ws (frame w h) i ≡ true
   unfolding point_right
@@ -116,7 +116,7 @@ module _ (ws : List ℕ) (w h q d : ℕ) where
       unfolding fault_of first_fault input_wrong
       fault_none l = rw (← e, f, t, ← k, l)
 
-      pub accepted : p ≡ true → (p ≡ true → (i : ℕ) → i < points_in ws → Words ws i) → Accepted ws w h q
+      pub accepted : p ≡ true → ((i : ℕ) → i < points_in ws → Words ws i) → Accepted ws w h q
       accepted l m =
           let s = sides w h b e f in
           let x = or_neither (eqb q 0 || ltb max_depth d) (not (eqb (length ws % keypoint_words) 0) || ltb max_keypoints (points_in ws)) t in
@@ -127,9 +127,9 @@ module _ (ws : List ℕ) (w h q d : ℕ) where
             sound =
                 record {
                   few = ltb-false max_keypoints (points_in ws) y.1;
-                  x = λ i z. side_upward (word_at ws i 0) w (m l i z).x s.0 (inside_x ws w h i (right_inside ws w h i (a i z)));
-                  y = λ i z. side_upward (word_at ws i 1) h (m l i z).y s.1 (inside_y ws w h i (right_inside ws w h i (a i z)));
-                  words = λ i z. (m l i z).response;
+                  x = λ i z. side_upward (word_at ws i 0) w (m i z).x s.0 (inside_x ws w h i (right_inside ws w h i (a i z)));
+                  y = λ i z. side_upward (word_at ws i 1) h (m i z).y s.1 (inside_y ws w h i (right_inside ws w h i (a i z)));
+                  words = λ i z. (m i z).response;
                   numbers = λ i z. right_finite ws w h i (a i z);
                 };
             some = some (eqb-false q 0 (or_neither (eqb q 0) (ltb max_depth d) x.0).0);

@@ -1,14 +1,15 @@
 -- What is written is what a region keeps: in order after it was put in order, or all of a list within its quota. Assumes nothing.
 use Prim.Native.Nat.{ℕ, zero, suc, ◌≤◌, ◌<◌}
 use mathlib.Core.Path.{◌≡◌, refl, sym, ap, ◌∙◌, subst}
-use mathlib.Core.Bool.{Bool, true, cond, not, ◌&&◌}
+use mathlib.Core.Bool.{Bool, true, false, cond, not, ◌&&◌}
+use Rattle.std.specs.Prelude.{None, Some}
 use mathlib.Core.List.{List, [], ◌∷◌, ◌++◌}
 use mathlib.Core.Logic.{inr, ⊎_elim}
 use native.Mathlib.Nat.{sub-zero, zero-add}
 use native.Mathlib.Numerals.{add-one}
 use native.Mathlib.Omega.{arith}
-use borrow.Author.Tests.{le-leb, lt-leb, lt-ltb}
-use lib.Dec.{ltb}
+use borrow.Author.Tests.{le-leb, lt-leb, leb-false, lt-ltb}
+use lib.Dec.{leb, ltb}
 use lib.ListN.{length, get_or, drop, get_or-append}
 use Rattle.lists.specs.Pasted.{pasted}
 use Rattle.lists.proofs.Bools.{and_false}
@@ -16,9 +17,9 @@ use Rattle.lists.proofs.Naturals.{le_or_lt}
 use Rattle.lists.proofs.Ranges.{joined_more}
 use Rattle.counts.specs.Counts.{counted, passed}
 use Rattle.counts.proofs.Counts.{counted_same, counted_never, counted_all, length_passed}
-use Rattle.params.specs.Answers.{answer_of}
-use Rattle.params.specs.declared.Answer.{Answer}
-use Rattle.params.specs.declared.Answer.TheVariants.{Done, Short, Refused}
+use Rattle.params.specs.Answers.{Answer, Done, Short, answer_of, refused, refusal_number}
+use Rattle.params.specs.declared.Refusal.{Refusal}
+use Rattle.params.specs.declared.Refusal.TheVariants.{Shape, Layers, Length, Settings, Fields, Samples, Room, Sheet}
 use Rattle.thin_rule.specs.Rule.{points_in, inside, keeps, kept}
 use Rattle.thin_rule.specs.Strength.{Ordered, Sound}
 use Rattle.thin_rule.specs.declared.Region.{Region}
@@ -28,8 +29,9 @@ use Rattle.thin_part.specs.Runs.{Listed, Beside, Arranged}
 use Rattle.thin_part.proofs.Parts.{none_listed}
 use Rattle.thin_source.specs.Adds.{Added}
 use Rattle.thin_region.proofs.Turns.{those, count_kept}
-use Rattle.thin.specs.Entry.{frame, fault_of, thin_answer, thin_out}
-use Rattle.thin.specs.Frames.{Accepted, Given, Missing}
+use Rattle.params.specs.Table.{line, first_fault, shape_wrong}
+use Rattle.thin.specs.Entry.{frame, input_wrong, fault_of, thin_answer, thin_out}
+use Rattle.thin.specs.Frames.{Given, missing}
 
 -- ---- a list that has the new words in front, and behind them what it had
 
@@ -60,8 +62,20 @@ pub given_short : (n : ℕ) (new old : List ℕ) → n ≡ length new → length
 unfolding answer_of
 given_short n new old e l = record { answer = rw (lt-leb (length new) (length old) l, e); left = rw (lt-leb (length new) (length old) l) }
 
-pub given_missing : (m : ℕ) (new old : List ℕ) → Missing new (length old) m → (m ≡ 0 → ⊥) → Given new old (Short m) old
-given_missing m new old h z = let w = h.short z in given_short m new old w.0 w.1
+missing_is : (new : List ℕ) (room m : ℕ) (b : Bool) → leb (length new) room ≡ b → Some m ≡ cond b None (Some (length new)) → (m ≡ length new) × (room < length new)
+missing_is new room m true h e = absurd (cc)
+missing_is new room m false h e = (cc, leb-false (length new) room h)
+
+pub given_missing : (m : ℕ) (new old : List ℕ) → Some m ≡ missing new (length old) → Given new old (Short m) old
+unfolding missing
+given_missing m new old e = let w = missing_is new (length old) m (leb (length new) (length old)) refl e in given_short m new old w.0 w.1
+
+pub room_enough : (new : List ℕ) (room : ℕ) → None ≡ missing new room → length new ≤ room
+unfolding missing
+room_enough new room e = ⊎_elim (λ l. l) (λ l. absurd (no (rw (lt-leb (length new) room l) at e))) (le_or_lt (length new) room)
+  where
+    no : None ≡ Some (length new) → ⊥
+    no f = cc
 
 -- ---- what was added, put in order
 
@@ -100,15 +114,6 @@ module _ (ws : List ℕ) (d : ℕ) (r : Region) (q : ℕ) (s t : List ℕ) (m : 
 pub few_kept : (ws : List ℕ) (d : ℕ) (r : Region) (q : ℕ) → Sound ws → Ordered r → length (kept ws d r q) ≤ q
 unfolding kept
 few_kept ws d r q s o = let e = length_passed 0 (points_in ws) (keeps ws d r q) in let f = keeps_few ws s d r q o in omega arith
-
-pub missing_few : (ws : List ℕ) (d : ℕ) (r : Region) (q room : ℕ) → Sound ws → Ordered r → q ≤ room → Missing (kept ws d r q) room 0
-missing_few ws d r q room s o l = record { fits = λ z. let f = few_kept ws d r q s o in omega arith; short = λ z. absurd (z refl) }
-
-pub missing_none : (new : List ℕ) (room m : ℕ) → m ≡ length new → m ≤ room → Missing new room 0
-missing_none new room m e l = record { fits = λ z. omega arith; short = λ z. absurd (z refl) }
-
-pub missing_all : (new : List ℕ) (room m : ℕ) → m ≡ length new → room < m → Missing new room m
-missing_all new room m e l = record { fits = λ z. absurd (omega arith); short = λ z. (e, omega arith) }
 
 -- ---- a list within its quota
 
@@ -157,18 +162,29 @@ module _ (ws : List ℕ) (d : ℕ) (r : Region) (q n : ℕ) (e : n ≡ points_in
 
 -- ---- the entry
 
-pub frame_refused : (ws : List ℕ) (w h q d f : ℕ) (old : List ℕ) → f ≡ fault_of ws w h q d → (f ≡ 0 → ⊥) → (Refused f ≡ thin_answer ws w h q d (length old)) × (old ≡ thin_out ws w h q d old)
+-- the table of this entry has no number above 5
+fault_low : (ws : List ℕ) (w h q d : ℕ) → fault_of ws w h q d ≤ 5
+unfolding fault_of first_fault
+fault_low ws w h q d = low (shape_wrong w h) (input_wrong ws w h q d)
+  where
+    low : (a b : Bool) → first_fault (line 1 a ∷ line 5 b ∷ []) ≤ 5
+    low true b = omega arith
+    low false true = omega arith
+    low false false = omega arith
+
+pub frame_refused : (ws : List ℕ) (w h q d : ℕ) (r : Refusal) (old : List ℕ) → refusal_number r ≡ fault_of ws w h q d → (refused r ≡ thin_answer ws w h q d (length old)) × (old ≡ thin_out ws w h q d old)
 unfolding thin_answer thin_out answer_of
-frame_refused ws w h q d zero old e z = absurd (z refl)
-frame_refused ws w h q d (suc f) old e z = (rw (← e), rw (← e))
+frame_refused ws w h q d Shape old e = (rw (← e), rw (← e))
+frame_refused ws w h q d Layers old e = (rw (← e), rw (← e))
+frame_refused ws w h q d Length old e = (rw (← e), rw (← e))
+frame_refused ws w h q d Settings old e = (rw (← e), rw (← e))
+frame_refused ws w h q d Fields old e = (rw (← e), rw (← e))
+frame_refused ws w h q d Samples old e = (rw (← e), rw (← e))
+frame_refused ws w h q d (Room n) old e = absurd (let l = fault_low ws w h q d in omega arith)
+frame_refused ws w h q d Sheet old e = absurd (let l = fault_low ws w h q d in omega arith)
 
-pub frame_kept : (ws : List ℕ) (w h q d f : ℕ) (r : Region) (a : Answer) (old out : List ℕ) → f ≡ fault_of ws w h q d → f ≡ 0 → r ≡ frame w h → Given (kept ws d r q) old a out → (a ≡ thin_answer ws w h q d (length old)) × (out ≡ thin_out ws w h q d old)
+pub frame_kept : (ws : List ℕ) (w h q d : ℕ) (r : Region) (a : Answer) (old out : List ℕ) → 0 ≡ fault_of ws w h q d → r ≡ frame w h → Given (kept ws d r q) old a out → (a ≡ thin_answer ws w h q d (length old)) × (out ≡ thin_out ws w h q d old)
 unfolding thin_answer thin_out
-frame_kept ws w h q d f r a old out e z i x =
-    let g : fault_of ws w h q d ≡ 0 = sym e ∙ z in
+frame_kept ws w h q d r a old out e i x =
     let y = subst (λ (v : Region). Given (kept ws d v q) old a out) i x in
-    (rw g y.answer, rw g y.left)
-
--- what `keep` is asked for, of the frame as a region
-pub frame_asks : (ws : List ℕ) (w h q : ℕ) (r : Region) → r ≡ frame w h → Accepted ws w h q → (Ordered r × Sound ws) × ((1 ≤ q) × ((i : ℕ) → i < points_in ws → inside ws r i ≡ true))
-frame_asks ws w h q r e a = rw e ((a.ordered, a.sound), (a.some, a.inside))
+    (rw (← e) y.answer, rw (← e) y.left)

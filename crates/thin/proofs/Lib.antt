@@ -1,4 +1,3 @@
-pub mod Listing
 pub mod Faults
 pub mod Keeps
 pub mod Rules

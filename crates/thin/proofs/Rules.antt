@@ -24,7 +24,7 @@ told ws w h q d bits f =
     (λ t. absurd (let e = fault_form ws w h q d (shape_wrong w h) refl s t in omega arith))
     (λ t.
     ⊎_elim
-    (λ p. accepted ws w h q d (shape_wrong w h) refl s t (every (points_in ws) (point_right ws w h)) refl p (λ _ i l. record { x = bits _; y = bits _; response = bits _ }))
+    (λ p. accepted ws w h q d (shape_wrong w h) refl s t (every (points_in ws) (point_right ws w h)) refl p (λ i l. record { x = bits _; y = bits _; response = bits _ }))
     (λ p. absurd (let e = fault_points ws w h q d (shape_wrong w h) refl s t (every (points_in ws) (point_right ws w h)) refl p in omega arith))
     (either (every (points_in ws) (point_right ws w h))))
     (either (form_wrong ws w h q d)))

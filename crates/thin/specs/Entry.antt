@@ -4,8 +4,7 @@ use Rattle.std.specs.Float.Ieee.Scale.{finite}
 use Rattle.lists.specs.Ranges.{every}
 use Rattle.params.specs.Limits.{keypoint_words, max_keypoints, max_depth}
 use Rattle.params.specs.Table.{line, first_fault, shape_wrong}
-use Rattle.params.specs.Answers.{answer_of, landed}
-use Rattle.params.specs.declared.Answer.{Answer}
+use Rattle.params.specs.Answers.{Answer, answer_of, landed}
 use Rattle.thin_rule.specs.Rule.{points_in, response_of, inside, kept}
 use Rattle.thin_rule.specs.declared.Region.{Region}
 

@@ -1,8 +1,7 @@
 -- Inner: how a keypoint is tested, what is known of a list that was not refused, and what is then answered. Definitions only.
-use Rattle.std.specs.Prelude.{ℕ, ◌^◌, ◌≤◌, ◌<◌, ◌≡◌, Bool, true, ◌&&◌, List, length}
+use Rattle.std.specs.Prelude.{ℕ, ◌^◌, ◌≤◌, ◌<◌, ◌≡◌, Bool, true, ◌&&◌, cond, List, leb, length, Option, None, Some}
 use Rattle.ieee.specs.F32.{float, ◌<ᶠ◌, ◌≤ᶠ◌}
-use Rattle.params.specs.Answers.{answer_of, landed}
-use Rattle.params.specs.declared.Answer.{Answer}
+use Rattle.params.specs.Answers.{Answer, answer_of, landed}
 use Rattle.thin_rule.specs.Rule.{points_in, word_at, x_of, y_of, inside}
 use Rattle.thin_rule.specs.Strength.{Ordered, Sound}
 use Rattle.thin.specs.Entry.{frame}
@@ -10,10 +9,10 @@ use Rattle.thin.specs.declared.Sides.{Sides}
 
 -- the frame's sides as floats, and that a keypoint lies between them
 abbrev pub sides_of : ℕ → ℕ → Sides
-sides_of w h = record { zero = float 0; width = float w; height = float h }
+sides_of w h = record { width = float w; height = float h }
 
 unfoldable pub sided : List ℕ → Sides → ℕ → Bool
-sided ws e i = ((e.zero ≤ᶠ x_of ws i) && (x_of ws i <ᶠ e.width)) && ((e.zero ≤ᶠ y_of ws i) && (y_of ws i <ᶠ e.height))
+sided ws e i = ((float 0 ≤ᶠ x_of ws i) && (x_of ws i <ᶠ e.width)) && ((float 0 ≤ᶠ y_of ws i) && (y_of ws i <ᶠ e.height))
 
 -- the words that thinning reads have 32 bits
 pub record Words (ws : List ℕ) (i : ℕ) : Type 0 where
@@ -32,7 +31,6 @@ pub record Given (new old : List ℕ) (a : Answer) (out : List ℕ) : Type 0 whe
   pub answer : a ≡ answer_of 0 (length new) (length new) (length old)
   pub left : out ≡ landed (answer_of 0 (length new) (length new) (length old)) new old
 
--- m is 0 where `new` has room, and else its length
-pub record Missing (new : List ℕ) (room m : ℕ) : Type 0 where
-  pub fits : m ≡ 0 → length new ≤ room
-  pub short : (m ≡ 0 → ⊥) → (m ≡ length new) × (room < length new)
+-- none where `new` has room, and else its length
+unfoldable pub missing : List ℕ → ℕ → Option ℕ
+missing new room = cond (leb (length new) room) None (Some (length new))

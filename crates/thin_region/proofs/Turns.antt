@@ -21,10 +21,10 @@ use Rattle.thin_laws.proofs.Quarters.{quarter_ordered, quarters_apart}
 use Rattle.thin_laws.proofs.Cases.{keeps_inside, keeps_all, keeps_best, keeps_quarters}
 use Rattle.thin_laws.proofs.Few.{total_mono, counted_some, share_some, shares_some, keeps_few}
 use Rattle.thin_part.specs.Runs.{Beside}
-use Rattle.thin_source.specs.Sources.{candidate, found, Covers, bound_of, source_of, Split}
+use Rattle.thin_source.specs.Sources.{is_all, from_of, to_of, candidate, found, Covers, bound_of, source_of, Split}
 use Rattle.thin_source.specs.Adds.{Added}
 use Rattle.thin_source.specs.declared.Source.{Source}
-use Rattle.thin_source.specs.declared.Bounds.{Bounds}
+use Rattle.thin_source.specs.declared.Source.TheVariants.{All, Held}
 use Rattle.thin_source.proofs.Covering.{covers_any, covers_put, covers_strong, covers_many}
 
 -- ---- what is added
@@ -122,34 +122,30 @@ not_last q d h =
 
 -- ---- the quarters, one after the other
 
-bound_order : (b : Bounds) (k : ℕ) → k < 4 → (b.first ≤ b.second) × (b.second ≤ b.third) × (b.third ≤ b.fourth) × (b.fourth ≤ b.last) → (bound_of b 0 ≤ bound_of b k) × (bound_of b k ≤ bound_of b (k + 1))
-unfolding bound_of
-bound_order b zero l (e, f, g, h) = (omega arith, e)
-bound_order b (suc zero) l (e, f, g, h) = (omega arith, f)
-bound_order b (suc (suc zero)) l (e, f, g, h) = (omega arith, g)
-bound_order b (suc (suc (suc zero))) l (e, f, g, h) = (omega arith, h)
-bound_order b (suc (suc (suc (suc k)))) l e = absurd (omega arith)
+bound_order : (b : List ℕ) → ((k : ℕ) → k < 4 → bound_of b k ≤ bound_of b (suc k)) → (k : ℕ) → k < 4 → (bound_of b 0 ≤ bound_of b k) × (bound_of b k ≤ bound_of b (k + 1))
+bound_order b f zero l = (omega arith, f 0 l)
+bound_order b f (suc k) l = let g = bound_order b f k (omega arith) in let h = f k (omega arith) in (omega arith, rw add-one (f (suc k) l))
 
 -- a source stays where the list changed before it
-covers_beside : (ws : List ℕ) (r : Region) (s t : List ℕ) (c : Source) (x y : ℕ) → y ≤ c.from → Beside s t x y → Covers ws r s c → Covers ws r t c
+covers_beside : (ws : List ℕ) (r : Region) (s t : List ℕ) (c : Source) (x y : ℕ) → y ≤ from_of c → Beside s t x y → Covers ws r s c → Covers ws r t c
 unfolding candidate
 covers_beside ws r s t c x y l d h =
     record {
       stands = record { order = h.stands.order; room = λ e. let a = h.stands.room e in let b = d.length in omega arith; each = λ k a b. subst (λ (v : ℕ). v < points_in ws) (sym (is k a)) (h.stands.each k a b) };
-      each = λ g. counted_same c.from c.to (λ k. inside ws r (candidate c.all t k) && g (candidate c.all t k)) (λ k. inside ws r (candidate c.all s k) && g (candidate c.all s k)) (λ k a b. ap (λ (v : ℕ). inside ws r v && g v) (is k a)) ∙ h.each g;
+      each = λ g. counted_same (from_of c) (to_of c) (λ k. inside ws r (candidate (is_all c) t k) && g (candidate (is_all c) t k)) (λ k. inside ws r (candidate (is_all c) s k) && g (candidate (is_all c) s k)) (λ k a b. ap (λ (v : ℕ). inside ws r v && g v) (is k a)) ∙ h.each g;
     }
   where
-    is : (k : ℕ) → c.from ≤ k → candidate c.all t k ≡ candidate c.all s k
-    is k a = ap (cond c.all k) (d.outside k (inr (le_trans l a)))
+    is : (k : ℕ) → from_of c ≤ k → candidate (is_all c) t k ≡ candidate (is_all c) s k
+    is k a = ap (cond (is_all c) k) (d.outside k (inr (le_trans l a)))
 
 -- after k quarters: what they keep is added, and the lent list is as it was split but for their parts
-pub record Rounds (ws : List ℕ) (d : ℕ) (r : Region) (q : ℕ) (c : Source) (b : Bounds) (s o : List ℕ) (at k : ℕ) (t p : List ℕ) (end : ℕ) : Type 0 where
+pub record Rounds (ws : List ℕ) (d : ℕ) (r : Region) (q : ℕ) (c : Source) (b : List ℕ) (s o : List ℕ) (at k : ℕ) (t p : List ℕ) (end : ℕ) : Type 0 where
   pub few : k ≤ 4
   pub added : Added (those ws (λ i. some k (λ j. keeps ws d (quarter r j) (share q j) i))) o p at end
   pub same : length t ≡ length s
-  pub beside : c.all ≡ false → Beside s t (bound_of b 0) (bound_of b k)
+  pub beside : is_all c ≡ false → Beside s t (bound_of b 0) (bound_of b k)
 
-pub rounds_start : (ws : List ℕ) (d : ℕ) (r : Region) (q : ℕ) (c : Source) (b : Bounds) (s o : List ℕ) (at : ℕ) → Rounds ws d r q c b s o at 0 s o at
+pub rounds_start : (ws : List ℕ) (d : ℕ) (r : Region) (q : ℕ) (c : Source) (b : List ℕ) (s o : List ℕ) (at : ℕ) → Rounds ws d r q c b s o at 0 s o at
 rounds_start ws d r q c b s o at =
     record {
       few = omega arith;
@@ -158,21 +154,21 @@ rounds_start ws d r q c b s o at =
       beside = λ z. record { length = refl; outside = λ k w. refl };
     }
 
-module _ (ws : List ℕ) (d : ℕ) (r : Region) (q : ℕ) (c : Source) (b : Bounds) (s₀ s o : List ℕ) (at k : ℕ) (t p : List ℕ) (end : ℕ) (n : Split ws r s₀ s c b) (g : Rounds ws d r q c b s o at k t p end) (l : k < 4) where
-  from_is : c.all ≡ false → (source_of c b k).from ≡ bound_of b k
+module _ (ws : List ℕ) (d : ℕ) (r : Region) (q : ℕ) (c : Source) (b : List ℕ) (s₀ s o : List ℕ) (at k : ℕ) (t p : List ℕ) (end : ℕ) (n : Split ws r s₀ s c b) (g : Rounds ws d r q c b s o at k t p end) (l : k < 4) where
+  from_is : is_all c ≡ false → from_of (source_of c b k) ≡ bound_of b k
   unfolding source_of
   from_is z = rw z
 
-  to_is : c.all ≡ false → (source_of c b k).to ≡ bound_of b (k + 1)
+  to_is : is_all c ≡ false → to_of (source_of c b k) ≡ bound_of b (k + 1)
   unfolding source_of
   to_is z = rw (z, add-one)
 
-  all_is : (source_of c b k).all ≡ c.all
+  all_is : is_all (source_of c b k) ≡ is_all c
   unfolding source_of
-  all_is = either_way c.all refl
+  all_is = either_way (is_all c) refl
     where
-      either_way : (x : Bool) → c.all ≡ x → (cond c.all c (record { all = false; from = bound_of b k; to = bound_of b (suc k) })).all ≡ c.all
-      either_way true z = rw z
+      either_way : (x : Bool) → is_all c ≡ x → is_all (cond (is_all c) c (Held (bound_of b k) (bound_of b (suc k)))) ≡ is_all c
+      either_way true z = rw z z
       either_way false z = rw z
 
   pub rounds_covers : (x : Region) (e : Source) → x ≡ quarter r k → e ≡ source_of c b k → Covers ws x t e
@@ -182,7 +178,7 @@ module _ (ws : List ℕ) (d : ℕ) (r : Region) (q : ℕ) (c : Source) (b : Boun
       (⊎_elim
       (λ z. covers_any ws (quarter r k) s t (source_of c b k) (all_is ∙ z) (n.covers k l))
       (λ z. covers_beside ws (quarter r k) s t (source_of c b k) (bound_of b 0) (bound_of b k) (let w = from_is z in omega arith) (g.beside z) (n.covers k l))
-      (either c.all)))
+      (either (is_all c))))
 
   pub rounds_room : Sound ws → Ordered r → (y : ℕ) → y ≡ share q k → at + q < 2 ^ 64 → end + y < 2 ^ 64
   rounds_room u o' y v w =
@@ -194,7 +190,7 @@ module _ (ws : List ℕ) (d : ℕ) (r : Region) (q : ℕ) (c : Source) (b : Boun
       omega arith
 
   pub rounds_turn : (x : Region) (y : ℕ) (e : Source) (t' p' : List ℕ) (end' : ℕ) → x ≡ quarter r k → y ≡ share q k → e ≡ source_of c b k → length t' ≡ length t
-      → Added (those ws (keeps ws d x y)) p p' end end' → (e.all ≡ false → Beside t t' e.from e.to) → Rounds ws d r q c b s o at (k + 1) t' p' end'
+      → Added (those ws (keeps ws d x y)) p p' end end' → (is_all e ≡ false → Beside t t' (from_of e) (to_of e)) → Rounds ws d r q c b s o at (k + 1) t' p' end'
   rounds_turn x y e t' p' end' u v w m a z =
       record {
         few = omega arith;
@@ -204,7 +200,7 @@ module _ (ws : List ℕ) (d : ℕ) (r : Region) (q : ℕ) (c : Source) (b : Boun
             (λ i f₁ f₂. ap (λ (z : Bool). z && h i) (one_more i)))
             (added_then ws (λ i. some k (λ j. keeps ws d (quarter r j) (share q j) i)) (keeps ws d x y) o p p' at end end' apart g.added a);
         same = m ∙ g.same;
-        beside = λ f. joined f (g.beside f) (z (ap (λ (i : Source). i.all) w ∙ all_is ∙ f)) (bound_order b k l (n.order f));
+        beside = λ f. joined f (g.beside f) (z (ap is_all w ∙ all_is ∙ f)) (bound_order b (n.order f) k l);
       }
     where
       one_more : (i : ℕ) → (some k (λ j. keeps ws d (quarter r j) (share q j) i) || keeps ws d x y i) ≡ some (k + 1) (λ j. keeps ws d (quarter r j) (share q j) i)
@@ -215,16 +211,16 @@ module _ (ws : List ℕ) (d : ℕ) (r : Region) (q : ℕ) (c : Source) (b : Boun
           some_elim (λ j. keeps ws d (quarter r j) (share q j) i) k
           (λ j a₁ a₂. let e₁ = quarters_apart ws r j k i (omega arith) l (keeps_inside ws d (quarter r j) (share q j) i a₂) (subst (λ (z : Region). inside ws z i ≡ true) u (keeps_inside ws d x y i h)) in omega arith) f
 
-      joined : c.all ≡ false → Beside s t (bound_of b 0) (bound_of b k) → Beside t t' e.from e.to → (bound_of b 0 ≤ bound_of b k) × (bound_of b k ≤ bound_of b (k + 1)) → Beside s t' (bound_of b 0) (bound_of b (k + 1))
+      joined : is_all c ≡ false → Beside s t (bound_of b 0) (bound_of b k) → Beside t t' (from_of e) (to_of e) → (bound_of b 0 ≤ bound_of b k) × (bound_of b k ≤ bound_of b (k + 1)) → Beside s t' (bound_of b 0) (bound_of b (k + 1))
       joined f x₁ x₂ x₃ =
-          let i : e.from ≡ bound_of b k = ap (λ (z : Source). z.from) w ∙ from_is f in
-          let j : e.to ≡ bound_of b (k + 1) = ap (λ (z : Source). z.to) w ∙ to_is f in
+          let i : from_of e ≡ bound_of b k = ap from_of w ∙ from_is f in
+          let j : to_of e ≡ bound_of b (k + 1) = ap to_of w ∙ to_is f in
           record {
             length = x₂.length ∙ x₁.length;
             outside = λ m v₁. x₂.outside m (⊎_elim (λ z. inl (omega (arith, x₃.0))) (λ z. inr (omega arith)) v₁) ∙ x₁.outside m (⊎_elim (λ z. inl z) (λ z. inr (omega (arith, x₃.1))) v₁);
           }
 
-pub rounds_end : (ws : List ℕ) (d e : ℕ) (r : Region) (q m : ℕ) (c : Source) (b : Bounds) (s o : List ℕ) (at k : ℕ) (t p : List ℕ) (end : ℕ) → Ordered r → m ≡ many ws r → q < m → 4 ≤ q → 0 < d → e ≡ d - 1 → k ≡ 4 → Rounds ws e r q c b s o at k t p end → Added (those ws (keeps ws d r q)) o p at end
+pub rounds_end : (ws : List ℕ) (d e : ℕ) (r : Region) (q m : ℕ) (c : Source) (b : List ℕ) (s o : List ℕ) (at k : ℕ) (t p : List ℕ) (end : ℕ) → Ordered r → m ≡ many ws r → q < m → 4 ≤ q → 0 < d → e ≡ d - 1 → k ≡ 4 → Rounds ws e r q c b s o at k t p end → Added (those ws (keeps ws d r q)) o p at end
 rounds_end ws zero e r q m c b s o at k t p end u x l i j f h g = absurd (let z = j in omega arith)
 rounds_end ws (suc d) e r q m c b s o at k t p end u x l i j f h g =
     added_same (those ws (λ i. some k (λ j. keeps ws e (quarter r j) (share q j) i))) (those ws (keeps ws (suc d) r q)) o p at end
@@ -236,20 +232,6 @@ rounds_end ws (suc d) e r q m c b s o at k t p end u x l i j f h g =
 
     four : (n : ℕ) → some k (λ j. keeps ws e (quarter r j) (share q j) n) ≡ keeps ws (suc d) r q n
     four n = rw (h, is) (sym (keeps_quarters ws d r q n u (omega arith) i))
-
--- the lent list, beside the run of the source
-pub rounds_beside : (ws : List ℕ) (d : ℕ) (r : Region) (q : ℕ) (c : Source) (b : Bounds) (s₀ s o : List ℕ) (at k : ℕ) (t p : List ℕ) (end : ℕ) → Split ws r s₀ s c b → Rounds ws d r q c b s o at k t p end → k ≡ 4 → c.all ≡ false → Beside s₀ t c.from c.to
-unfolding bound_of
-rounds_beside ws d r q c b s₀ s o at k t p end n g e z =
-    let x = subst (λ (j : ℕ). Beside s t (bound_of b 0) (bound_of b j)) e (g.beside z) in
-    let y = n.beside z in
-    record { length = x.length ∙ y.length; outside = λ j w. x.outside j (⊎_elim (λ l. inl (let f = (n.ends z).0 in omega arith)) (λ l. inr (let f = (n.ends z).1 in omega arith)) w) ∙ y.outside j w }
-
--- ---- what a region leaves of a run that was held before
-
-pub end_beside : (s₀ s t : List ℕ) (c e : Source) → (e ≡ c) × (s ≡ s₀) → (e.all ≡ false → Beside s t e.from e.to) → c.all ≡ false → Beside s₀ t c.from c.to
-end_beside s₀ s t c e (p, q) f z =
-    subst (λ (l : List ℕ). Beside l t c.from c.to) q (subst (λ (x : Source). Beside s t x.from x.to) p (f (subst (λ (x : Source). x.all ≡ false) (sym p) z)))
 
 pub depth_falls : (d t : ℕ) → 0 < d → d ≡ t → d - 1 < t
 depth_falls d t h e = omega arith
@@ -263,7 +245,7 @@ next_some q k y e h = let z = share_some q k h in omega arith
 -- ---- the frame
 
 -- all positions are a source of any region
-pub covers_whole : (ws : List ℕ) (r : Region) (s : List ℕ) (n : ℕ) → n ≡ points_in ws → Covers ws r s (record { all = true; from = 0; to = n })
+pub covers_whole : (ws : List ℕ) (r : Region) (s : List ℕ) (n : ℕ) → n ≡ points_in ws → Covers ws r s (All 0 n)
 unfolding candidate
 covers_whole ws r s n e =
     record {

@@ -6,7 +6,7 @@ ghost use Rattle.counts.specs.Counts.{counted};
 ghost use Rattle.thin_rule.specs.Rule.{points_in, keeps, kept};
 ghost use Rattle.thin_rule.specs.Strength.{Ordered, Sound};
 ghost use Rattle.thin_part.specs.Runs.{Beside};
-ghost use Rattle.thin_source.specs.Sources.{Covers, Reaches};
+ghost use Rattle.thin_source.specs.Sources.{is_all, from_of, to_of, Covers, Reaches};
 ghost use Rattle.thin_source.specs.Adds.{Added};
 
 use params::KEYPOINT_WORDS;
@@ -17,6 +17,7 @@ use thin_source::{Reach, Source};
 const HELD: usize = 6496;
 
 // Writes what a region keeps from `at` on, as far as there is room, and answers where it ends.
+// Plain parameters: the list is asked of with and without its reach, the lent list with and without a source in it.
 fn thin(
     words: &[u32],
     r: Region,
@@ -32,7 +33,7 @@ fn thin(
     requires covers { Covers words.now r s.old c × Reaches words.now h }
     requires le_q { (1 ≤ q) × (at + q < 2 ^ 64) }
     ensures added { Added (λ g. counted 0 (points_in words.now) (λ i. keeps words.now depth r q i && g i)) out.old out.new at result }
-    ensures beside { c.all ≡ false → Beside s.old s.new c.from c.to }
+    ensures beside { is_all c ≡ false → Beside s.old s.new (from_of c) (to_of c) }
 {
     let f = thin_source::hold(words, r, s, c);
     let near = f.source;
@@ -44,9 +45,8 @@ fn thin(
         return thin_source::put(words, r, t, s, near, out, at);
     }
     let b = thin_source::split(words, r, s, near);
-    let mut end: usize = at;
-    let mut k: usize = 0;
-    while k < 4 {
+    let mut end = at;
+    for k in 0..4 {
         end = thin(
             words,
             thin_rule::quarter_of(r, k),
@@ -58,7 +58,6 @@ fn thin(
             out,
             end,
         );
-        k += 1;
     }
     end
 }
@@ -70,11 +69,6 @@ pub fn thin_all(words: &[u32], r: Region, q: usize, depth: u32, out: &mut [u32])
     ensures { Added (λ g. counted 0 (points_in words.now) (λ i. keeps words.now depth r q i && g i)) out.old out.new 0 result }
 {
     let mut s = [0u32; HELD];
-    let c = Source {
-        all: true,
-        from: 0,
-        to: words.len() / KEYPOINT_WORDS,
-    };
     thin(
         words,
         r,
@@ -82,7 +76,7 @@ pub fn thin_all(words: &[u32], r: Region, q: usize, depth: u32, out: &mut [u32])
         depth,
         thin_source::reach_of(words),
         &mut s,
-        c,
+        Source::All(0, words.len() / KEYPOINT_WORDS),
         out,
         0,
     )
@@ -94,6 +88,5 @@ pub fn count(words: &[u32], r: Region, q: usize, depth: u32) -> usize
     requires le_q { 1 ≤ q }
     ensures { result ≡ length (kept words.now depth r q) }
 {
-    let mut none = [0u32; 1];
-    thin_all(words, r, q, depth, &mut none)
+    thin_all(words, r, q, depth, &mut [])
 }

@@ -19,7 +19,7 @@ pub struct Region {
     pub bottom: u32,
 }
 
-// A region's edges, each as the bits of its float.
+// A region's edges, each as the bits of its float: a type of its own, so that no column is compared with bits.
 #[derive(Clone, Copy)]
 pub struct Edges {
     pub left: u32,
@@ -28,43 +28,37 @@ pub struct Edges {
     pub bottom: u32,
 }
 
-fn choice(b: bool, x: u32, y: u32) -> u32
-    ensures { result ≡ cond b x y }
-{
-    if b { x } else { y }
-}
-
-// 1 for true, without a branch.
-pub fn one(b: bool) -> usize
-    ensures { (result ≡ cond b 1 0) × (result ≤ 1) }
-{
-    b as usize
-}
-
 // The quarter k of a region, in row order.
+#[tactic(auto, unfolding(crate::specs::Rule::quarter))]
 pub fn quarter_of(r: Region, k: usize) -> Region
     requires { Ordered r }
     ensures { result ≡ quarter r k }
 {
     let x = r.left + (r.right - r.left) / 2;
     let y = r.top + (r.bottom - r.top) / 2;
-    let left = k % 2 == 0;
-    let upper = k < 2;
+    let (left, right) = if k % 2 == 0 {
+        (r.left, x)
+    } else {
+        (x, r.right)
+    };
+    let (top, bottom) = if k < 2 { (r.top, y) } else { (y, r.bottom) };
     Region {
-        left: choice(left, r.left, x),
-        right: choice(left, x, r.right),
-        top: choice(upper, r.top, y),
-        bottom: choice(upper, y, r.bottom),
+        left,
+        right,
+        top,
+        bottom,
     }
 }
 
 // The share of a quota that the quarter k has.
+#[tactic(auto, using(crate::proofs::Bytes::byte_is), unfolding(crate::specs::Rule::share))]
 pub fn share_of(q: usize, k: usize) -> usize
     ensures { result ≡ share q k }
 {
-    q / 4 + one(k < q % 4)
+    q / 4 + usize::from(k < q % 4)
 }
 
+// A conversion in which nothing is rounded: that law of it stands here once.
 pub fn whole(n: u32) -> f32
     requires { n ≤ max_side }
     ensures { result ≡ float n }
@@ -99,6 +93,7 @@ pub fn edges_of(r: Region) -> Edges
 }
 
 // x and y between the edges: compared by their bits, without a branch.
+#[tactic(auto, unfolding(crate::specs::Strength::edged))]
 pub fn in_region(words: &[u32], e: Edges, p: usize) -> bool
     requires { p < points_in words.now }
     ensures { result ≡ edged words.now e p }
@@ -108,35 +103,25 @@ pub fn in_region(words: &[u32], e: Edges, p: usize) -> bool
     ((e.left <= x) & (x < e.right)) & ((e.top <= y) & (y < e.bottom))
 }
 
-pub fn index(x: u32) -> usize
-    ensures { result ≡ x }
-{
-    x as usize
-}
-
 // 1 where a is less than b: no comparison, so that no compiler makes a branch of it.
 pub fn less(a: u32, b: u32) -> usize
     ensures { (result ≡ cond (ltb a b) 1 0) × (result ≤ 1) }
 {
-    1 - (index(a) + 0x1_0000_0000 - index(b)) / 0x1_0000_0000
+    1 - (a as usize + 0x1_0000_0000 - b as usize) / 0x1_0000_0000
 }
 
-fn wide(x: u32) -> u64
-    ensures { result ≡ x }
-{
-    x as u64
-}
-
+#[tactic(auto, using(thin_order::proofs::Signs::place_low, thin_order::proofs::Signs::place_high))]
 fn place_of(w: u32) -> u64
     ensures { (result ≡ place w) × (result < 2 ^ 32) }
 {
     if w < 0x8000_0000 {
-        wide(w) + 0x8000_0000
+        u64::from(w) + 0x8000_0000
     } else {
-        0x1_0000_0000 - wide(w)
+        0x1_0000_0000 - u64::from(w)
     }
 }
 
+#[tactic(auto, unfolding(crate::specs::Strength::strength))]
 pub fn strength_of(words: &[u32], p: usize) -> u64
     requires { (p < points_in words.now) × (points_in words.now ≤ max_keypoints) }
     ensures { result ≡ strength words.now p }

@@ -6,8 +6,8 @@ use mathlib.Core.List.{List}
 use mathlib.Core.Logic.{◌⊎◌, inl, inr, ⊎_elim}
 use native.Mathlib.Nat.{le_refl, add-zero, zero-add}
 use native.Mathlib.Omega.{arith}
-use borrow.Author.Tests.{lt-ltb, le-ltb, le-leb, lt-leb}
-use lib.Dec.{leb, ltb}
+use borrow.Author.Tests.{lt-ltb, le-ltb}
+use lib.Dec.{ltb}
 use lib.ListN.{length, get_or, set, length-set}
 use lib.Seq.{get_or-set_same, get_or-set_other}
 use Rattle.lists.proofs.Naturals.{le_or_lt}
@@ -20,10 +20,11 @@ use Rattle.thin_rule.specs.declared.Edges.{Edges}
 use Rattle.thin_rule.specs.declared.Region.{Region}
 use Rattle.thin_part.specs.Runs.{held, Beside}
 use Rattle.thin_part.proofs.Parts.{none_listed}
-use Rattle.thin_source.specs.Sources.{candidate, found, Stands, Covers}
+use Rattle.thin_source.specs.Sources.{is_all, from_of, to_of, candidate, found, Stands, Covers}
 use Rattle.thin_source.specs.Adds.{Added}
 use Rattle.thin_source.specs.declared.Source.{Source}
-use Rattle.thin_source.proofs.Covering.{covers_any, covers_all, many_all}
+use Rattle.thin_source.specs.declared.Source.TheVariants.{Held}
+use Rattle.thin_source.proofs.Covering.{covers_all, many_all}
 use Rattle.thin_source.proofs.Sources.{weighed, each_weighed}
 
 -- ---- the candidates from `from` to below k that pass the test are added at `at`, up to m
@@ -129,22 +130,22 @@ add_end test cand s d at from to k m f i h e =
 
 -- ---- a region's keypoints, added at the front of a list: a source of their own
 
-abbrev Put : List ℕ → Region → Source → List ℕ → List ℕ → ℕ → Type 0
-Put ws r c s d m = Added (λ g. found ws c (λ p. strong ws r 0 p && g p)) s d 0 m
+abbrev Put : List ℕ → Region → List ℕ → Source → List ℕ → List ℕ → ℕ → Type 0
+Put ws r l c s d m = Added (λ g. found l c (λ p. strong ws r 0 p && g p)) s d 0 m
 
-pub added_many : (ws : List ℕ) (r : Region) (c : Source) (s d : List ℕ) (m : ℕ) → Covers ws r ws c → Put ws r c s d m → m ≡ many ws r
-added_many ws r c s d m h a = a.count ∙ zero-add (found ws c (λ p. strong ws r 0 p && true)) ∙ covers_all ws r ws c h (λ i. true) ∙ many_all ws r
+pub added_many : (ws : List ℕ) (r : Region) (l : List ℕ) (c : Source) (s d : List ℕ) (m : ℕ) → Covers ws r l c → Put ws r l c s d m → m ≡ many ws r
+added_many ws r l c s d m h a = a.count ∙ zero-add (found l c (λ p. strong ws r 0 p && true)) ∙ covers_all ws r l c h (λ i. true) ∙ many_all ws r
 
-held_covers : (ws : List ℕ) (r : Region) (c : Source) (s d : List ℕ) (m : ℕ) → Covers ws r ws c → Put ws r c s d m → m ≤ length d → Covers ws r d (record { all = false; from = 0; to = m })
+pub added_covers : (ws : List ℕ) (r : Region) (l : List ℕ) (c : Source) (s d : List ℕ) (m : ℕ) → Covers ws r l c → Put ws r l c s d m → m ≤ length d → Covers ws r d (Held 0 m)
 unfolding candidate
-held_covers ws r c s d m h a l =
+added_covers ws r l c s d m h a f =
     record {
-      stands = record { order = omega arith; room = λ e. l; each = (none_listed (points_in ws) d 0 m none).each };
+      stands = record { order = omega arith; room = λ e. f; each = (none_listed (points_in ws) d 0 m none).each };
       each = λ g. all (λ p. inside ws r p && g p) ∙ counted_same 0 (points_in ws) (λ i. inside ws r i && (inside ws r i && g i)) (λ i. inside ws r i && g i) (λ i x y. twice (inside ws r i) (g i));
     }
   where
     all : (g : ℕ → Bool) → held d 0 m g ≡ counted 0 (points_in ws) (λ i. inside ws r i && g i)
-    all g = a.each (let e = a.beside.length in omega arith) g ∙ covers_all ws r ws c h g
+    all g = a.each (let e = a.beside.length in omega arith) g ∙ covers_all ws r l c h g
 
     none : held d 0 m (λ p. not (ltb p (points_in ws))) ≡ 0
     none =
@@ -154,17 +155,11 @@ held_covers ws r c s d m h a l =
     twice true y = refl
     twice false y = refl
 
--- where they do not fit, all positions stay the source
-pub added_covers : (ws : List ℕ) (r : Region) (c : Source) (s d : List ℕ) (m x y : ℕ) → c.all ≡ true → Covers ws r ws c → Put ws r c s d m → x ≡ cond (leb m (length d)) 0 c.from → y ≡ cond (leb m (length d)) m c.to → Covers ws r d (record { all = not (leb m (length d)); from = x; to = y })
-added_covers ws r c s d m x y t h a u v =
-    rw (u, v)
-    (⊎_elim (λ l. rw (le-leb m (length d) l) (held_covers ws r c s d m h a l)) (λ l. rw (lt-leb m (length d) l, ← t) (covers_any ws r ws d c t h)) (le_or_lt m (length d)))
-
 -- ---- those that are strong
 
 module _ (ws : List ℕ) (r : Region) (e : Edges) (t : ℕ) (s : List ℕ) (c : Source) (sd : Sound ws) (o : Ordered r) (h : Stands (points_in ws) s c) (z : e ≡ edges_of r) where
-  pub add_strong_within : (u d : List ℕ) (at k m : ℕ) → Adding (weighed ws e t) (candidate c.all s) u d at c.from c.to k m → m ≤ at + found s c (strong ws r t)
-  add_strong_within u d at k m i = add_within (weighed ws e t) (candidate c.all s) u d at c.from c.to k m (strong ws r t) i (each_weighed ws r e t s c sd o h z)
+  pub add_strong_within : (u d : List ℕ) (at k m : ℕ) → Adding (weighed ws e t) (candidate (is_all c) s) u d at (from_of c) (to_of c) k m → m ≤ at + found s c (strong ws r t)
+  add_strong_within u d at k m i = add_within (weighed ws e t) (candidate (is_all c) s) u d at (from_of c) (to_of c) k m (strong ws r t) i (each_weighed ws r e t s c sd o h z)
 
-  pub add_strong : (u d : List ℕ) (at k m : ℕ) → Adding (weighed ws e t) (candidate c.all s) u d at c.from c.to k m → c.to ≤ k → Added (λ g. found s c (λ p. strong ws r t p && g p)) u d at m
-  add_strong u d at k m i l = add_end (weighed ws e t) (candidate c.all s) u d at c.from c.to k m (strong ws r t) i l (each_weighed ws r e t s c sd o h z)
+  pub add_strong : (u d : List ℕ) (at k m : ℕ) → Adding (weighed ws e t) (candidate (is_all c) s) u d at (from_of c) (to_of c) k m → to_of c ≤ k → Added (λ g. found s c (λ p. strong ws r t p && g p)) u d at m
+  add_strong u d at k m i l = add_end (weighed ws e t) (candidate (is_all c) s) u d at (from_of c) (to_of c) k m (strong ws r t) i l (each_weighed ws r e t s c sd o h z)

@@ -12,7 +12,7 @@ use Rattle.thin_rule.specs.Strength.{strong, Ordered}
 use Rattle.thin_rule.specs.declared.Region.{Region}
 use Rattle.thin_laws.proofs.Best.{strong_inside, strong_zero}
 use Rattle.thin_laws.proofs.Quarters.{quarter_inside}
-use Rattle.thin_source.specs.Sources.{candidate, found, Stands, Covers}
+use Rattle.thin_source.specs.Sources.{is_all, from_of, to_of, candidate, found, Stands, Covers}
 use Rattle.thin_source.specs.declared.Source.{Source}
 
 -- ---- a source that has all positions
@@ -21,19 +21,19 @@ candidate_any : (s t : List ℕ) (k : ℕ) (b : Bool) → b ≡ true → candida
 unfolding candidate
 candidate_any s t k b e = rw e
 
-stands_any : (n : ℕ) (s t : List ℕ) (c : Source) → c.all ≡ true → Stands n s c → Stands n t c
+stands_any : (n : ℕ) (s t : List ℕ) (c : Source) → is_all c ≡ true → Stands n s c → Stands n t c
 stands_any n s t c e h =
     record {
       order = h.order;
       room = λ f. absurd (true≢false (sym e ∙ f));
-      each = λ k a b. rw (candidate_any t s k c.all e) (h.each k a b);
+      each = λ k a b. rw (candidate_any t s k (is_all c) e) (h.each k a b);
     }
 
-pub covers_any : (ws : List ℕ) (r : Region) (s t : List ℕ) (c : Source) → c.all ≡ true → Covers ws r s c → Covers ws r t c
+pub covers_any : (ws : List ℕ) (r : Region) (s t : List ℕ) (c : Source) → is_all c ≡ true → Covers ws r s c → Covers ws r t c
 covers_any ws r s t c e h =
     record {
       stands = stands_any (points_in ws) s t c e h.stands;
-      each = λ g. counted_same c.from c.to (λ k. inside ws r (candidate c.all t k) && g (candidate c.all t k)) (λ k. inside ws r (candidate c.all s k) && g (candidate c.all s k)) (λ k a b. rw (candidate_any t s k c.all e)) ∙ h.each g;
+      each = λ g. counted_same (from_of c) (to_of c) (λ k. inside ws r (candidate (is_all c) t k) && g (candidate (is_all c) t k)) (λ k. inside ws r (candidate (is_all c) s k) && g (candidate (is_all c) s k)) (λ k a b. rw (candidate_any t s k (is_all c) e)) ∙ h.each g;
     }
 
 -- ---- what a source has of its region
@@ -42,7 +42,7 @@ module _ (ws : List ℕ) (r : Region) (s : List ℕ) (c : Source) (h : Covers ws
   -- of a test that only the region's keypoints pass
   pub covers_test : (f : ℕ → Bool) → ((i : ℕ) → f i ≡ true → inside ws r i ≡ true) → found s c f ≡ counted 0 (points_in ws) f
   covers_test f p =
-      counted_same c.from c.to (λ k. f (candidate c.all s k)) (λ k. inside ws r (candidate c.all s k) && f (candidate c.all s k)) (λ k a b. sym (absorbed (inside ws r (candidate c.all s k)) (f (candidate c.all s k)) (p (candidate c.all s k))))
+      counted_same (from_of c) (to_of c) (λ k. f (candidate (is_all c) s k)) (λ k. inside ws r (candidate (is_all c) s k) && f (candidate (is_all c) s k)) (λ k a b. sym (absorbed (inside ws r (candidate (is_all c) s k)) (f (candidate (is_all c) s k)) (p (candidate (is_all c) s k))))
       ∙ h.each f
       ∙ counted_same 0 (points_in ws) (λ i. inside ws r i && f i) f (λ i a b. absorbed (inside ws r i) (f i) (p i))
 

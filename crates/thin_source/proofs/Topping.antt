@@ -19,7 +19,7 @@ use Rattle.thin_rule.specs.declared.Edges.{Edges}
 use Rattle.thin_laws.proofs.Strengths.{strength_apart}
 use Rattle.thin_laws.proofs.Best.{strong_zero}
 use Rattle.thin_laws.proofs.Edged.{inside_edged}
-use Rattle.thin_source.specs.Sources.{candidate, found, Covers}
+use Rattle.thin_source.specs.Sources.{is_all, from_of, to_of, candidate, found, Covers}
 use Rattle.thin_source.specs.declared.Source.{Source}
 use Rattle.thin_source.proofs.Covering.{covers_test}
 
@@ -135,18 +135,18 @@ module _ (ws : List ℕ) (r : Region) (u : ℕ) (sd : Sound ws) (few : counted 0
           apart true x m = ⊎_elim (λ l. rw (le-leb x u l) (lt-leb b x (omega arith))) (λ l. rw (lt-leb x u l)) (le_or_lt x u)
 
   -- found by the edges in a source
-  pub next_found : (e : Edges) (s : List ℕ) (c : Source) (k b : ℕ) → Ordered r → Covers ws r s c → e ≡ edges_of r → c.to ≤ k → Topping (capped ws e u) (strength ws) (candidate c.all s) c.from c.to k b
+  pub next_found : (e : Edges) (s : List ℕ) (c : Source) (k b : ℕ) → Ordered r → Covers ws r s c → e ≡ edges_of r → to_of c ≤ k → Topping (capped ws e u) (strength ws) (candidate (is_all c) s) (from_of c) (to_of c) k b
       → counted 0 (points_in ws) (strong ws r b) ≡ counted 0 (points_in ws) (strong ws r (u + 1)) + 1
   next_found e s c k b o h z l i =
       next_is b (sym (all (λ p. ltb b (strength ws p))) ∙ none) (⊎_elim (λ x. inl x) (λ x. inr (let y = all (λ p. leb b (strength ws p)) in let w = some x in omega arith)) i.some)
     where
-      same : k ≡ c.to
+      same : k ≡ to_of c
       same = let x = i.high in omega arith
 
-      edge : (g : ℕ → Bool) → counted c.from c.to (λ j. capped ws e u (candidate c.all s j) && g (candidate c.all s j)) ≡ found s c (λ p. (inside ws r p && leb (strength ws p) u) && g p)
+      edge : (g : ℕ → Bool) → counted (from_of c) (to_of c) (λ j. capped ws e u (candidate (is_all c) s j) && g (candidate (is_all c) s j)) ≡ found s c (λ p. (inside ws r p && leb (strength ws p) u) && g p)
       edge g =
-          counted_same c.from c.to (λ j. capped ws e u (candidate c.all s j) && g (candidate c.all s j)) (λ j. (inside ws r (candidate c.all s j) && leb (strength ws (candidate c.all s j)) u) && g (candidate c.all s j))
-          (λ j a d. rw (inside_edged ws r (candidate c.all s j) sd o (h.stands.each j a d), z))
+          counted_same (from_of c) (to_of c) (λ j. capped ws e u (candidate (is_all c) s j) && g (candidate (is_all c) s j)) (λ j. (inside ws r (candidate (is_all c) s j) && leb (strength ws (candidate (is_all c) s j)) u) && g (candidate (is_all c) s j))
+          (λ j a d. rw (inside_edged ws r (candidate (is_all c) s j) sd o (h.stands.each j a d), z))
 
       all : (g : ℕ → Bool) → found s c (λ p. (inside ws r p && leb (strength ws p) u) && g p) ≡ counted 0 (points_in ws) (λ i. (inside ws r i && leb (strength ws i) u) && g i)
       all g =
@@ -154,21 +154,10 @@ module _ (ws : List ℕ) (r : Region) (u : ℕ) (sd : Sound ws) (few : counted 0
           (λ j f. and_left (inside ws r j) (leb (strength ws j) u) (and_left (inside ws r j && leb (strength ws j) u) (g j) f))
 
       none : found s c (λ p. (inside ws r p && leb (strength ws p) u) && ltb b (strength ws p)) ≡ 0
-      none = sym (edge (λ p. ltb b (strength ws p))) ∙ subst (λ (v : ℕ). counted c.from v (λ j. capped ws e u (candidate c.all s j) && ltb b (strength ws (candidate c.all s j))) ≡ 0) same i.none
+      none = sym (edge (λ p. ltb b (strength ws p))) ∙ subst (λ (v : ℕ). counted (from_of c) v (λ j. capped ws e u (candidate (is_all c) s j) && ltb b (strength ws (candidate (is_all c) s j))) ≡ 0) same i.none
 
-      some : 1 ≤ counted c.from k (λ j. capped ws e u (candidate c.all s j) && leb b (strength ws (candidate c.all s j))) → 1 ≤ found s c (λ p. (inside ws r p && leb (strength ws p) u) && leb b (strength ws p))
-      some x = let y = edge (λ p. leb b (strength ws p)) in let w = ap (λ (v : ℕ). counted c.from v (λ j. capped ws e u (candidate c.all s j) && leb b (strength ws (candidate c.all s j)))) same in omega arith
-
--- ---- one candidate
-
-pub pick_yes : (a d : Bool) (x u b t : ℕ) → d ≡ a → d ≡ true → t ≡ x → (leb t u && ltb b t) ≡ true → t ≡ cond ((a && leb x u) && ltb b x) x b
-pick_yes a d x u b t e f z w = let g : a ≡ true = sym e ∙ f in rw (g, ← z, w)
-
-pub pick_no : (a d : Bool) (x u b t : ℕ) → d ≡ a → d ≡ true → t ≡ x → (leb t u && ltb b t) ≡ false → b ≡ cond ((a && leb x u) && ltb b x) x b
-pick_no a d x u b t e f z w = let g : a ≡ true = sym e ∙ f in rw (g, ← z, w)
-
-pub pick_out : (a d : Bool) (x u b : ℕ) → d ≡ a → d ≡ false → b ≡ cond ((a && leb x u) && ltb b x) x b
-pick_out a d x u b e f = let g : a ≡ false = sym e ∙ f in rw g
+      some : 1 ≤ counted (from_of c) k (λ j. capped ws e u (candidate (is_all c) s j) && leb b (strength ws (candidate (is_all c) s j))) → 1 ≤ found s c (λ p. (inside ws r p && leb (strength ws p) u) && leb b (strength ws p))
+      some x = let y = edge (λ p. leb b (strength ws p)) in let w = ap (λ (v : ℕ). counted (from_of c) v (λ j. capped ws e u (candidate (is_all c) s j) && leb b (strength ws (candidate (is_all c) s j)))) same in omega arith
 
 -- ---- one after the other
 

@@ -6,7 +6,7 @@ ghost use Rattle.params.specs.Limits.{max_keypoints};
 ghost use Rattle.counts.specs.Counts.{counted};
 ghost use Rattle.thin_rule.specs.Rule.{points_in, many};
 ghost use Rattle.thin_rule.specs.Strength.{strength, strong, edged, Ordered, Sound};
-ghost use Rattle.thin_source.specs.Sources.{candidate, found, Stands, Covers, Reaches, bound_of, source_of, Split};
+ghost use Rattle.thin_source.specs.Sources.{candidate, found, Stands, Covers, Reaches, source_of, Split, is_all, from_of, to_of};
 ghost use Rattle.thin_source.specs.Adds.{Added};
 
 use params::KEYPOINT_WORDS;
@@ -16,12 +16,35 @@ use thin_rule::{Edges, Region};
 // So few of a region are found one by one.
 const FEW: usize = 8;
 
-// The places of a source: each is a position itself, or holds one.
+// Where a region's keypoints are looked for: among all positions from the first number to below the second, or among those that the lent list holds there.
 #[derive(Clone, Copy)]
-pub struct Source {
-    pub all: bool,
-    pub from: usize,
-    pub to: usize,
+pub enum Source {
+    All(usize, usize),
+    Held(usize, usize),
+}
+
+// Gone over by ranges of places: how many came before a place bounds the sums on the way, which a closure or an iterator would have to carry besides.
+impl Source {
+    // Its places, from the first to below the second.
+    fn places(self) -> (usize, usize)
+        ensures { (result.0 ≡ from_of self) × (result.1 ≡ to_of self) }
+    {
+        match self {
+            Source::All(from, to) | Source::Held(from, to) => (from, to),
+        }
+    }
+
+    // The position at a place, which is the place itself where all are looked at.
+    #[tactic(auto, unfolding(crate::specs::Sources::candidate))]
+    fn candidate(self, s: &[u32], k: usize) -> usize
+        requires { is_all self ≡ false → k < length s.now }
+        ensures { result ≡ candidate (is_all self) s.now k }
+    {
+        match self {
+            Source::All(_, _) => k,
+            Source::Held(_, _) => s[k] as usize,
+        }
+    }
 }
 
 // The least and the largest strength of a list, or less and more.
@@ -31,16 +54,6 @@ pub struct Reach {
     pub high: u64,
 }
 
-// Where the four parts of a run begin, and where it ends.
-#[derive(Clone, Copy)]
-pub struct Bounds {
-    pub first: usize,
-    pub second: usize,
-    pub third: usize,
-    pub fourth: usize,
-    pub last: usize,
-}
-
 // How many keypoints a region has, and the source for all that is asked of it further.
 #[derive(Clone, Copy)]
 pub struct Found {
@@ -48,29 +61,12 @@ pub struct Found {
     pub source: Source,
 }
 
-fn choice(b: bool, x: usize, y: usize) -> usize
-    ensures { result ≡ cond b x y }
-{
-    if b { x } else { y }
-}
-
-fn candidate_at(s: &[u32], all: bool, k: usize) -> usize
-    requires { all ≡ false → k < length s.now }
-    ensures { result ≡ candidate all s.now k }
-{
-    if all { k } else { thin_rule::index(s[k]) }
-}
-
 // A keypoint between the edges that is at least so strong.
 fn is_strong(words: &[u32], e: Edges, t: u64, p: usize) -> bool
     requires { (p < points_in words.now) × (points_in words.now ≤ max_keypoints) }
     ensures { result ≡ (edged words.now e p && leb t (strength words.now p)) }
 {
-    if thin_rule::in_region(words, e, p) {
-        t <= thin_rule::strength_of(words, p)
-    } else {
-        false
-    }
+    thin_rule::in_region(words, e, p) && t <= thin_rule::strength_of(words, p)
 }
 
 // How many of the region's keypoints are at least so strong.
@@ -80,14 +76,10 @@ fn tally(words: &[u32], r: Region, t: u64, s: &[u32], c: Source) -> usize
     ensures { result ≡ found s.now c (strong words.now r t) }
 {
     let e = thin_rule::edges_of(r);
-    let all = c.all;
-    let to = c.to;
-    let mut m: usize = 0;
-    let mut k: usize = c.from;
-    while k < to {
-        let p = candidate_at(s, all, k);
-        m += thin_rule::one(is_strong(words, e, t, p));
-        k += 1;
+    let (from, to) = c.places();
+    let mut m = 0;
+    for k in from..to {
+        m += usize::from(is_strong(words, e, t, c.candidate(s, k)));
     }
     m
 }
@@ -96,10 +88,8 @@ fn put_if(out: &mut [u32], at: usize, p: usize, yes: bool)
     requires { p < 2 ^ 32 }
     ensures { out.new ≡ cond (yes && ltb at (length out.old)) (set out.old at p) out.old }
 {
-    if yes {
-        if at < out.len() {
-            out[at] = p as u32;
-        }
+    if yes && at < out.len() {
+        out[at] = p as u32;
     }
 }
 
@@ -119,16 +109,13 @@ pub fn put(
     ensures { Added (λ g. found s.now c (λ p. strong words.now r t p && g p)) out.old out.new at result }
 {
     let e = thin_rule::edges_of(r);
-    let all = c.all;
-    let to = c.to;
-    let mut m: usize = at;
-    let mut k: usize = c.from;
-    while k < to {
-        let p = candidate_at(s, all, k);
+    let (from, to) = c.places();
+    let mut m = at;
+    for k in from..to {
+        let p = c.candidate(s, k);
         let yes = is_strong(words, e, t, p);
         put_if(out, m, p, yes);
-        m += thin_rule::one(yes);
-        k += 1;
+        m += usize::from(yes);
     }
     m
 }
@@ -154,14 +141,10 @@ fn next(words: &[u32], r: Region, u: u64, s: &[u32], c: Source) -> u64
     ensures { counted 0 (points_in words.now) (strong words.now r result) ≡ counted 0 (points_in words.now) (strong words.now r (u + 1)) + 1 }
 {
     let e = thin_rule::edges_of(r);
-    let all = c.all;
-    let to = c.to;
-    let mut b: u64 = 0;
-    let mut k: usize = c.from;
-    while k < to {
-        let p = candidate_at(s, all, k);
-        b = stronger(words, e, u, b, p);
-        k += 1;
+    let (from, to) = c.places();
+    let mut b = 0;
+    for k in from..to {
+        b = stronger(words, e, u, b, c.candidate(s, k));
     }
     b
 }
@@ -173,11 +156,9 @@ fn top(words: &[u32], r: Region, q: usize, h: Reach, s: &[u32], c: Source) -> u6
     requires le_q { (1 ≤ q) × (q < many words.now r) }
     ensures { counted 0 (points_in words.now) (strong words.now r result) ≡ q }
 {
-    let mut t: u64 = next(words, r, h.high, s, c);
-    let mut k: usize = 1;
-    while k < q {
+    let mut t = next(words, r, h.high, s, c);
+    for found in 1..q {
         t = next(words, r, t - 1, s, c);
-        k += 1;
     }
     t
 }
@@ -189,8 +170,8 @@ fn halve(words: &[u32], r: Region, q: usize, h: Reach, s: &[u32], c: Source) -> 
     requires le_q { (1 ≤ q) × (q < many words.now r) }
     ensures { counted 0 (points_in words.now) (strong words.now r result) ≡ q }
 {
-    let mut lo: u64 = h.low;
-    let mut hi: u64 = h.high;
+    let mut lo = h.low;
+    let mut hi = h.high;
     while lo < hi {
         let mid = lo + ((hi - lo - 1) / 2 + 1);
         let m = tally(words, r, mid, s, c);
@@ -225,101 +206,56 @@ pub fn hold(words: &[u32], r: Region, s: &mut [u32], c: Source) -> Found
     requires ordered { Ordered r × Sound words.now }
     requires covers { Covers words.now r s.old c }
     ensures many_value { (result.many ≡ many words.now r) × Covers words.now r s.new result.source }
-    ensures source_value { c.all ≡ false → (result.source ≡ c) × (s.new ≡ s.old) }
+    ensures source_value { is_all c ≡ false → (result.source ≡ c) × (s.new ≡ s.old) }
 {
-    if c.all {
-        let m = put(words, r, 0, words, c, s, 0);
-        let fits = m <= s.len();
-        Found {
-            many: m,
-            source: Source {
-                all: !fits,
-                from: choice(fits, 0, c.from),
-                to: choice(fits, m, c.to),
-            },
+    match c {
+        Source::All(_, _) => {
+            let many = put(words, r, 0, &[], c, s, 0);
+            if many <= s.len() {
+                Found {
+                    many,
+                    source: Source::Held(0, many),
+                }
+            } else {
+                Found { many, source: c }
+            }
         }
-    } else {
-        Found {
+        Source::Held(_, _) => Found {
             many: tally(words, r, 0, s, c),
             source: c,
-        }
+        },
     }
 }
 
-// Parts a run in four, for the region's quarters.
-pub fn split(words: &[u32], r: Region, s: &mut [u32], c: Source) -> Bounds
+// Parts a run in four, for the region's quarters: where each part begins, and where the last ends.
+pub fn split(words: &[u32], r: Region, s: &mut [u32], c: Source) -> [usize; 5]
     requires ordered { Ordered r × Sound words.now }
     requires covers { Covers words.now r s.old c }
     ensures { Split words.now r s.old s.new c result }
 {
-    let from = c.from;
-    let to = c.to;
-    if c.all {
-        return Bounds {
-            first: from,
-            second: from,
-            third: from,
-            fourth: from,
-            last: from,
-        };
-    }
-    let x = thin_rule::edge_at(r.left + (r.right - r.left) / 2);
-    let y = thin_rule::edge_at(r.top + (r.bottom - r.top) / 2);
-    let third = thin_part::part(words, Cut::Row(y), s, from, to);
-    let second = thin_part::part(words, Cut::Column(x), s, from, third);
-    let fourth = thin_part::part(words, Cut::Column(x), s, third, to);
-    Bounds {
-        first: from,
-        second: second,
-        third: third,
-        fourth: fourth,
-        last: to,
-    }
-}
-
-fn bound_of(b: Bounds, k: usize) -> usize
-    ensures { result ≡ bound_of b k }
-{
-    if k == 0 {
-        return b.first;
-    }
-    if k == 1 {
-        return b.second;
-    }
-    if k == 2 {
-        return b.third;
-    }
-    if k == 3 {
-        return b.fourth;
-    }
-    b.last
-}
-
-pub fn source_of(c: Source, b: Bounds, k: usize) -> Source
-    requires { k < 4 }
-    ensures { result ≡ source_of c b k }
-{
-    if c.all {
-        c
-    } else {
-        Source {
-            all: false,
-            from: bound_of(b, k),
-            to: bound_of(b, k + 1),
+    match c {
+        Source::All(from, _) => [from; 5],
+        Source::Held(from, to) => {
+            let x = thin_rule::edge_at(r.left + (r.right - r.left) / 2);
+            let y = thin_rule::edge_at(r.top + (r.bottom - r.top) / 2);
+            let third = thin_part::part(words, Cut::Row(y), s, from, to);
+            let second = thin_part::part(words, Cut::Column(x), s, from, third);
+            let fourth = thin_part::part(words, Cut::Column(x), s, third, to);
+            [from, second, third, fourth, to]
         }
     }
 }
 
-fn lesser(x: u64, y: u64) -> u64
-    ensures { (result ≤ x) × (result ≤ y) }
+// The source of the quarter k.
+#[tactic(auto, unfolding(crate::specs::Sources::source_of))]
+pub fn source_of(c: Source, b: [usize; 5], k: usize) -> Source
+    requires { k < 4 }
+    ensures { result ≡ source_of c b k }
 {
-    if x < y { x } else { y }
-}
-
-fn larger(x: u64, y: u64) -> u64
-    ensures { (x ≤ result) × (y ≤ result) }
-{
-    if x < y { y } else { x }
+    match c {
+        Source::All(_, _) => c,
+        Source::Held(_, _) => Source::Held(b[k], b[k + 1]),
+    }
 }
 
 // The reach of a list, in one run over it.
@@ -327,18 +263,12 @@ pub fn reach_of(words: &[u32]) -> Reach
     requires { points_in words.now ≤ max_keypoints }
     ensures { Reaches words.now result }
 {
-    let n = words.len() / KEYPOINT_WORDS;
-    let mut low: u64 = 0xffff_ffff_ffff_ffff;
-    let mut high: u64 = 0;
-    let mut i: usize = 0;
-    while i < n {
+    let mut low = u64::MAX;
+    let mut high = 0;
+    for i in 0..words.len() / KEYPOINT_WORDS {
         let t = thin_rule::strength_of(words, i);
-        low = lesser(low, t);
-        high = larger(high, t);
-        i += 1;
+        low = low.min(t);
+        high = high.max(t);
     }
-    Reach {
-        low: low,
-        high: high,
-    }
+    Reach { low, high }
 }

@@ -1,9 +1,8 @@
-use Prim.Native.Nat.{◌-◌}
-use Rattle.thin.proofs.Listing.{Listing}
+use Prim.Native.Nat.{ℕ, ◌<◌}
+use mathlib.Core.Path.{◌≡◌}
+use lib.ListN.{get_or}
+use Rattle.thin_part.specs.Runs.{Beside}
 use Rattle.thin.proofs.list_all.Given as goal
 
 abbrev pub invariant-loop-k : goal.invariant-loop-k
-invariant-loop-k l = Listing l.initial.out l.out l.n l.k
-
-abbrev pub decreases-loop-k : goal.decreases-loop-k
-decreases-loop-k l = l.n - l.k
+invariant-loop-k l = record { beside : Beside l.initial.out l.out 0 l.k; each : (j : ℕ) → j < l.k → get_or l.out j 0 ≡ j }

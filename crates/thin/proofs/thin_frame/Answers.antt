@@ -1,20 +1,17 @@
-use Rattle.thin.proofs.Keeps.{frame_refused, frame_asks, frame_kept}
+use Rattle.std.proofs.lemmas.Result.{err_from_is_err_and}
+use Rattle.thin.proofs.Keeps.{frame_refused, frame_kept}
 use Rattle.thin.proofs.thin_frame.Goals as goal
 
-pub returns-then-f-ne0 : goal.returns-then-f-ne0
-returns-then-f-ne0 c =
-    let w = frame_refused _ _ _ _ _ _ _ c.fault-f.ensures.value c.if-f-ne0.true in
-    record { value = w.0; out_after = w.1 }
+pub returns-in_err-fault-clause-value : goal.returns-in_err-fault-clause-value
+returns-in_err-fault-clause-value c =
+    let p = err_from_is_err_and c.from_residual.result c.from_residual.ensures.1 in
+    rw (p.1, p.2) (frame_refused _ _ _ _ _ _ c.args.out.now c.in_err-fault.ensures.value).0
 
-pub frame_of-requires : goal.frame_of-requires
-frame_of-requires c = let a = c.fault-f.ensures.accepted c.if-f-ne0.false in (a.ordered.right, a.ordered.bottom)
+pub returns-in_err-fault-clause-out_after : goal.returns-in_err-fault-clause-out_after
+returns-in_err-fault-clause-out_after c = (frame_refused _ _ _ _ _ _ c.args.out.now c.in_err-fault.ensures.value).1
 
-pub keep-requires : goal.keep-requires
-keep-requires c =
-    let w = frame_asks _ _ _ _ _ c.frame_of.ensures (c.fault-f.ensures.accepted c.if-f-ne0.false) in
-    record { ordered = w.0; le_q = w.1 }
+pub returns-clause-value : goal.returns-clause-value
+returns-clause-value c = (frame_kept _ _ _ _ _ _ _ _ _ c.in_ok-fault.ensures.value c.frame_of.ensures c.keep.ensures).0
 
-pub returns : goal.returns
-returns c =
-    let w = frame_kept _ _ _ _ _ _ _ _ _ _ c.fault-f.ensures.value c.if-f-ne0.false c.frame_of.ensures c.keep.ensures in
-    record { value = w.0; out_after = w.1 }
+pub returns-clause-out_after : goal.returns-clause-out_after
+returns-clause-out_after c = (frame_kept _ _ _ _ _ _ _ _ _ c.in_ok-fault.ensures.value c.frame_of.ensures c.keep.ensures).1

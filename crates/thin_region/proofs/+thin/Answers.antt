@@ -1,5 +1,5 @@
 use Rattle.std.proofs.Common.{refl, arith}
-use Rattle.thin_region.proofs.Turns.{case_all, case_best, room_all, room_best, not_last, rounds_start, rounds_covers, rounds_room, rounds_turn, rounds_end, rounds_beside, end_beside, depth_falls, next_ordered, next_some}
+use Rattle.thin_region.proofs.Turns.{case_all, case_best, room_all, room_best, not_last, rounds_start, rounds_covers, rounds_room, rounds_turn, rounds_end, depth_falls, next_ordered, next_some}
 use Rattle.thin_region.proofs.+thin.Goals as goal
 
 pub put-requires-clause-t_bound : goal.put-requires-clause-t_bound
@@ -40,6 +40,3 @@ pub returns-clause-added : goal.returns-clause-added
 returns-clause-added t c =
     let n = not_last c.args.q c.args.depth c.if-q-depth.false in
     rounds_end _ _ _ _ _ _ _ _ _ _ _ _ _ _ _ c.requires.ordered.0 c.hold-f.ensures.many_value.0 (omega arith) n.0 n.1 refl (let l = c.loop-k.invariant.few in omega arith) c.loop-k.invariant
-
-pub returns-clause-beside : goal.returns-clause-beside
-returns-clause-beside t c = λ z. end_beside _ _ _ _ _ (c.hold-f.ensures.source_value z) (rounds_beside _ _ _ _ _ _ _ _ _ _ _ _ _ _ c.split-b.ensures c.loop-k.invariant (let l = c.loop-k.invariant.few in omega arith)) z

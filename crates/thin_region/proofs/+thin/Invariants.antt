@@ -5,8 +5,5 @@ use Rattle.thin_region.proofs.+thin.Given as goal
 abbrev pub invariant-loop-k : goal.invariant-loop-k
 invariant-loop-k l = Rounds l.words (l.depth - 1) l.r l.q l.near l.b l.initial.s l.initial.out l.at l.k l.s l.out l.end
 
-abbrev pub decreases-loop-k : goal.decreases-loop-k
-decreases-loop-k l = 4 - l.k
-
 abbrev pub decreases-thin : goal.decreases-thin
 decreases-thin l = l.depth

@@ -1,44 +1,30 @@
 use native.Mathlib.Omega.{arith}
-use mathlib.Core.Path.{refl, sym, ◌∙◌}
-use mathlib.Core.Bool.{true≢false}
+use mathlib.Core.Path.{ap, ◌∙◌}
+use mathlib.Core.List.{[]}
+use Rattle.thin_source.specs.Sources.{is_all}
 use Rattle.thin_source.proofs.Covering.{covers_any, covers_few, covers_many}
 use Rattle.thin_source.proofs.Adding.{added_many, added_covers}
 use Rattle.thin_source.proofs.hold.Goals as goal
 
-pub put-m-requires-clause-ordered : goal.put-m-requires-clause-ordered
-put-m-requires-clause-ordered c =
-    let t = c.if-c.true in
-    let h = covers_any _ _ _ c.args.words.now _ t c.requires.covers in
-    c.requires.ordered
+pub put-many-requires-clause-stands : goal.put-many-requires-clause-stands
+put-many-requires-clause-stands c = (covers_any _ _ _ _ _ (ap is_all c.in-All.is) c.requires.covers).stands
 
-pub put-m-requires-clause-stands : goal.put-m-requires-clause-stands
-put-m-requires-clause-stands c =
-    let t = c.if-c.true in
-    let h = covers_any _ _ _ c.args.words.now _ t c.requires.covers in
-    h.stands
+pub put-many-requires-clause-t_bound : goal.put-many-requires-clause-t_bound
+put-many-requires-clause-t_bound c =
+    let f = covers_few _ _ _ _ (covers_any _ _ _ [] _ (ap is_all c.in-All.is) c.requires.covers) in
+    let n = c.requires.ordered.1.few in
+    omega arith
 
-pub put-m-requires-clause-t_bound : goal.put-m-requires-clause-t_bound
-put-m-requires-clause-t_bound c =
-    let t = c.if-c.true in
-    let h = covers_any _ _ _ c.args.words.now _ t c.requires.covers in
-    (let f = covers_few _ _ _ _ h in let n = c.requires.ordered.1.few in omega arith)
+pub returns-then-many-s-clause-many_value : goal.returns-then-many-s-clause-many_value
+returns-then-many-s-clause-many_value c =
+    let h = covers_any _ _ _ [] _ (ap is_all c.in-All.is) c.requires.covers in
+    let a = c.put-many.ensures in
+    (added_many _ _ _ _ _ _ _ h a, added_covers _ _ _ _ _ _ _ h a c.if-many-s.true)
 
-pub returns-then-c-clause-many_value : goal.returns-then-c-clause-many_value
-returns-then-c-clause-many_value c =
-    let t = c.if-c.true in
-    let h = covers_any _ _ _ c.args.words.now _ t c.requires.covers in
-    let a = c.put-m.ensures in
-    (added_many _ _ _ _ _ _ h a, added_covers _ _ _ _ _ _ _ _ t h a c.choice.ensures c.choice-then-c.ensures)
+pub returns-else-many-s-clause-many_value : goal.returns-else-many-s-clause-many_value
+returns-else-many-s-clause-many_value c =
+    let z = ap is_all c.in-All.is in
+    (added_many _ _ _ _ _ _ _ (covers_any _ _ _ [] _ z c.requires.covers) c.put-many.ensures, covers_any _ _ _ _ _ z c.requires.covers)
 
-pub returns-then-c-clause-source_value : goal.returns-then-c-clause-source_value
-returns-then-c-clause-source_value c =
-    let t = c.if-c.true in
-    let h = covers_any _ _ _ c.args.words.now _ t c.requires.covers in
-    let a = c.put-m.ensures in
-    λ f. absurd (true≢false (sym t ∙ f))
-
-pub returns-else-c-clause-many_value : goal.returns-else-c-clause-many_value
-returns-else-c-clause-many_value c = (c.tally.ensures ∙ covers_many _ _ _ _ c.requires.covers, c.requires.covers)
-
-pub returns-else-c-clause-source_value : goal.returns-else-c-clause-source_value
-returns-else-c-clause-source_value c = λ f. (refl, refl)
+pub returns-in-Held-clause-many_value : goal.returns-in-Held-clause-many_value
+returns-in-Held-clause-many_value c = (c.tally.ensures ∙ covers_many _ _ _ _ c.requires.covers, c.requires.covers)

@@ -1,16 +1,15 @@
 -- The words of a record as they are written, one after another. Assumes nothing.
-use Rattle.std.proofs.Common.{◌≡◌, ℕ, suc, ◌+◌, ◌-◌, ◌<◌, ◌≤◌, Bool, true, false, cond, ◌&&◌, eqb, List, [], ◌∷◌, ◌++◌, map, length, get_or, take, drop, set, sym, refl, ap, ◌∙◌, append-nil, arith, length-append, length-set, drop_of_length-le, length-take, take_all}
+use Rattle.std.proofs.Common.{◌≡◌, ℕ, suc, ◌+◌, ◌<◌, ◌≤◌, Bool, true, false, cond, ◌&&◌, eqb, List, [], ◌∷◌, ◌++◌, map, length, get_or, drop, set, sym, refl, ap, ◌∙◌, append-nil, arith, add-one, length-append, length-set, length-drop, drop_of_length-le}
 use lib.ListN.{length-map}
-use lib.Seq.{sets, sets-eq}
+use lib.Seq.{sets, sets-eq, drop-cons}
 use mir.Val.{bool_byte}
 use Rattle.lists.specs.Pasted.{pasted}
-use Rattle.lists.proofs.Pasted.{pasted_one, pasted_cons, length_pasted}
+use Rattle.lists.proofs.Pasted.{pasted_none, pasted_one, pasted_cons, length_pasted}
 use Rattle.ieee.specs.F32.{bits_of}
 use Rattle.params.specs.Limits.{value_count}
 use Rattle.detect_keypoint.specs.declared.RawKeypoint.{RawKeypoint}
 use Rattle.orient_words.specs.declared.OrientedKeypoint.{OrientedKeypoint}
 use Rattle.sheet.specs.Words.{read_words, front_words, plain_words}
-use Rattle.sheet.proofs.Steps.{part_cons}
 use Rattle.sheet.proofs.Runs.{triple}
 use Rattle.record.specs.Record.{head_of, floats_of, byte_of, blank_of, record_of}
 use Rattle.record.specs.Make.{alike}
@@ -36,23 +35,18 @@ front_is k o d x y size response angle h p q r s t = run (head_of k ++ (x ∷ y 
 pub length_bytes : (values : List ℕ) → length values ≡ value_count → length (map byte_of values) ≡ value_count
 length_bytes values l = length-map values byte_of ∙ l
 
--- the values from i on, as whole numbers
-abbrev pub rest : List ℕ → ℕ → List ℕ
-rest values i = map byte_of (take (value_count - i) (drop i values))
-
-pub rest_first : (values : List ℕ) → length values ≡ value_count → rest values 0 ≡ map byte_of values
-rest_first values h = ap (map byte_of) (take_all value_count values (omega arith))
-
-pub rest_turn : (values out : List ℕ) (i : ℕ) → length values ≡ value_count → front_words + value_count ≤ length out → i < value_count
-    → pasted (front_words + (i + 1)) (rest values (i + 1)) (set out (front_words + i) (byte_of (get_or values i 0))) ≡ pasted (front_words + i) (rest values i) out
-rest_turn values out i l h t =
-    let e = part_cons (value_count - i) i values (omega arith) (omega arith) in
-    let m : value_count - i - 1 ≡ value_count - (i + 1) = omega arith in
+-- one value more, as a whole number
+pub value_next : (values out : List ℕ) (i : ℕ) → front_words + length values ≤ length out → i < length values
+    → pasted (front_words + (i + 1)) (map byte_of (drop (i + 1) values)) (set out (front_words + i) (byte_of (get_or values i 0))) ≡ pasted (front_words + i) (map byte_of (drop i values)) out
+value_next values out i h t =
+    let d : drop i values ≡ get_or values i 0 ∷ drop (i + 1) values = rw (add-one, drop-cons values i 0 t) in
     let n : front_words + i + 1 ≡ front_words + (i + 1) = omega arith in
-    let s : length (take (value_count - (i + 1)) (drop (i + 1) values)) ≤ value_count - (i + 1) = rw length-take (omega arith) in
-    let r : front_words + i + suc (length (rest values (i + 1))) ≤ length out = rw length-map (omega arith) in
-    let p = pasted_cons (front_words + i) (byte_of (get_or values i 0)) (rest values (i + 1)) out r in
-    sym (ap (λ (ws : List ℕ). pasted (front_words + i) (map byte_of ws) out) (rw m at e) ∙ rw n at p)
+    let r : front_words + i + suc (length (map byte_of (drop (i + 1) values))) ≤ length out = simp (length-map, length-drop) (omega arith) in
+    rw (d, pasted_cons (front_words + i) (byte_of (get_or values i 0)) (map byte_of (drop (i + 1) values)) out r, n)
+
+-- past the last nothing is left to write
+pub values_end : (values out : List ℕ) (i : ℕ) → length values ≤ i → pasted (front_words + i) (map byte_of (drop i values)) out ≡ out
+values_end values out i h = rw (drop_of_length-le values h) (pasted_none (front_words + i) out)
 
 -- ---- the whole record
 

@@ -12,14 +12,19 @@ use Rattle.orient_words.specs.declared.OrientedKeypoint.{OrientedKeypoint}
 use Rattle.words.specs.Keypoint.{keypoint_in}
 use Rattle.words.specs.Oriented.{oriented_in}
 use Rattle.descriptor_inputs.proofs.Checks.{eq_self}
-use Rattle.sheet.specs.Layout.{edition2, layout_of}
+use Rattle.sheet.specs.Layout.{Layout, edition2, layout_of}
 use Rattle.sheet.specs.Words.{read_words, taken_words}
 use Rattle.sheet.specs.Writes.{words_right}
-use Rattle.sheet_edition.specs.Edition.{edition_of, layout_for}
+use Rattle.sheet_edition.specs.Edition.{layout_for}
 use Rattle.sheet_edition.specs.declared.Edition.{Edition}
+use Rattle.sheet_edition.proofs.Layouts.{layout_is, layout_two}
 use Rattle.record.specs.Record.{record_of}
 use Rattle.record.specs.Make.{alike, widest, record_wrong, make_fault, make_number, make_left}
 use Rattle.record.proofs.Puts.{length_record}
+
+-- what edition 2 goes by
+pub edition_two : (e : Edition) → e.number ≡ (layout_of 2).edition → layout_for e ≡ edition2
+edition_two e h = layout_is 2 e h ∙ layout_two
 
 -- two tests at once, before a third
 first_two : (a b c d : Bool) → (a || b) ≡ d → (d || c) ≡ (a || (b || c))
@@ -41,16 +46,15 @@ module _ (k : RawKeypoint) (o : OrientedKeypoint) (values : List ℕ) (samples :
   wrong_values h = rw (ne_eqb (length values) value_count h, or_true, or_true)
 
   -- else the rules decide, of edition 2 on the widest frame, whose words they are
-  pub asked : (e : Edition) (ws : List ℕ) → e ≡ edition_of (layout_of 2) → length values ≡ value_count → ws ≡ record_of k o values samples → length ws ≡ taken_words (layout_for e)
-  unfolding layout_of
-  asked e ws i l w = ap length w ∙ length_record k o values samples l ∙ sym (ap (λ (y : Edition). taken_words (layout_for y)) i)
+  pub asked : (e : Edition) (ws : List ℕ) → layout_for e ≡ edition2 → length values ≡ value_count → ws ≡ record_of k o values samples → length ws ≡ taken_words (layout_for e)
+  asked e ws i l w = ap length w ∙ length_record k o values samples l ∙ sym (ap taken_words i)
 
   pub rules_decide : (r : Bool) → r ≡ alike k o → (ne k.xi k.xi || not r) ≡ false → length values ≡ value_count
-      → (e : Edition) (ws : List ℕ) (s : Bool) → e ≡ edition_of (layout_of 2) → ws ≡ record_of k o values samples → s ≡ words_right (layout_for e) widest ws
+      → (e : Edition) (ws : List ℕ) (s : Bool) → layout_for e ≡ edition2 → ws ≡ record_of k o values samples → s ≡ words_right (layout_for e) widest ws
       → not s ≡ record_wrong k o values samples
-  unfolding record_wrong layout_of
+  unfolding record_wrong
   rules_decide r e h l d ws s i w t =
-      ap not (t ∙ ap (λ (y : Edition). words_right (layout_for y) widest ws) i ∙ ap (words_right edition2 widest) w)
+      ap not (t ∙ ap (λ (l : Layout). words_right l widest ws) i ∙ ap (words_right edition2 widest) w)
       ∙ sym (ap (λ (b : Bool). not b || not (words_right edition2 widest (record_of k o values samples))) (eq-eqb (length values) value_count l))
       ∙ first_two (is_nan k.xi) (not (alike k o)) _ false (sym (told r e) ∙ h)
 

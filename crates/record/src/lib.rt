@@ -1,9 +1,11 @@
 // The maker of records: the words of a sheet's record, of a raw keypoint, an oriented one and a descriptor's answer. Whether it is blank is told by the samples alone.
 #![tactic(auto)]
 
-ghost use Rattle.std.specs.Prelude.{◌≡◌, ◌+◌, ◌≤◌, ◌++◌, map, length};
+ghost use Rattle.std.specs.Prelude.{◌≡◌, ℕ, ◌+◌, ◌≤◌, ◌++◌, map, length};
 ghost use Rattle.lists.specs.Pasted.{pasted};
 ghost use Rattle.params.specs.Limits.{value_count};
+ghost use Rattle.params.specs.Answers.{fault_told};
+ghost use Rattle.params.specs.declared.Refusal.TheVariants.{Room};
 ghost use Rattle.sheet.specs.Words.{read_words, front_words};
 ghost use Rattle.words.specs.Keypoint.{keypoint_in};
 ghost use Rattle.words.specs.Oriented.{oriented_in};
@@ -12,23 +14,10 @@ ghost use Rattle.record.specs.Make.{alike, record_wrong, make_number, make_left}
 
 use detect_keypoint::RawKeypoint;
 use orient_words::OrientedKeypoint;
+use params::{MAX_LAYERS, MAX_SIDE, Refusal};
+use sheet::{FRONT_WORDS, Frame, PLAIN_WORDS, READ_WORDS, VALUES};
 
-// The words of a record; of these the first ten, and all but the blank word.
-const RECORD_WORDS: usize = 139;
-
-const FRONT_WORDS: usize = 10;
-
-const PLAIN_WORDS: usize = 138;
-
-// The values of a descriptor.
-const VALUES: usize = 128;
-
-// The largest side and the most layers of a frame.
-const MAX_SIDE: u64 = 8192;
-
-const MAX_LAYERS: u64 = 15;
-
-// A value, by its bits, as the whole number that it is; 256 where it is none from 0 to 255.
+// A value, by its bits, as the whole number that it is; 256 where it is none from 0 to 255: a word that the sheet's rules refuse, so that no case of its own is needed.
 fn byte_of(bits: u32) -> u32
     ensures { result ≡ byte_of bits }
 {
@@ -76,10 +65,8 @@ fn put_values(values: &[u32], out: &mut [u32])
     requires { (length values.now ≡ value_count) × (front_words + value_count ≤ length out.old) }
     ensures { out.new ≡ pasted front_words (map byte_of values.now) out.old }
 {
-    let mut i = 0;
-    while i < VALUES {
-        out[FRONT_WORDS + i] = byte_of(values[i]);
-        i += 1;
+    for (i, value) in values.iter().enumerate() {
+        out[FRONT_WORDS + i] = byte_of(*value);
     }
 }
 
@@ -90,7 +77,7 @@ fn put_record(k: RawKeypoint, o: OrientedKeypoint, values: &[u32], samples: usiz
 {
     put_front(k, o, out);
     put_values(values, out);
-    out[PLAIN_WORDS] = (samples == 0) as u32;
+    out[PLAIN_WORDS] = u32::from(samples == 0);
 }
 
 // Whether the maker refuses them: the record is put together, and the sheet's own rules are asked of it.
@@ -103,10 +90,14 @@ fn record_wrong(k: RawKeypoint, o: OrientedKeypoint, values: &[u32], samples: us
     if values.len() != VALUES {
         return true;
     }
-    let mut words = [0u32; 139];
+    let mut words = [0; READ_WORDS];
     put_record(k, o, values, samples, &mut words);
-    let e = sheet_edition::edition_of(2);
-    !sheet_pack::record_right(e, MAX_SIDE, MAX_SIDE, MAX_LAYERS, &words)
+    let widest = Frame {
+        width: MAX_SIDE as u64,
+        height: MAX_SIDE as u64,
+        layers: MAX_LAYERS as u64,
+    };
+    !sheet_pack::record_right(sheet_edition::edition_of(2), widest, &words)
 }
 
 // The maker: the 139 words of a record, of the words of a raw keypoint and of an oriented one, and of a descriptor's values and samples.
@@ -116,18 +107,19 @@ pub fn make_record(
     values: &[u32],
     samples: usize,
     out: &mut [u32],
-) -> u32
-    ensures { (result ≡ make_number (keypoint_in keypoint.now) (oriented_in oriented.now) values.now samples (length out.old))
+) -> Result<(), Refusal>
+    ensures value { (fault_told result ≡ make_number (keypoint_in keypoint.now) (oriented_in oriented.now) values.now samples (length out.old))
         × (out.new ≡ make_left (keypoint_in keypoint.now) (oriented_in oriented.now) values.now samples out.old) }
+    ensures room { (n : ℕ) → result ≡ Err (Room n) → n ≡ read_words }
 {
     let k = words::keypoint_in(keypoint);
     let o = words::oriented_in(oriented);
     if record_wrong(k, o, values, samples) {
-        return 5;
+        return Err(Refusal::Fields);
     }
-    if out.len() != RECORD_WORDS {
-        return 7;
+    if out.len() != READ_WORDS {
+        return Err(Refusal::Room(READ_WORDS));
     }
     put_record(k, o, values, samples, out);
-    0
+    Ok(())
 }

@@ -11,13 +11,13 @@ use lib.Seq.{get_or-take, get_or-drop}
 use lib.Ieee.{Float}
 use Rattle.ieee.specs.F32.{bits_of}
 use Rattle.params.specs.Limits.{value_count}
-use Rattle.params.specs.declared.Answer.TheVariants.{Done}
+use Rattle.params.specs.Answers.{Done}
 use Rattle.picture.specs.declared.Size.{Size}
 use Rattle.detect_keypoint.specs.declared.RawKeypoint.{RawKeypoint}
 use Rattle.orient_words.specs.declared.OrientedKeypoint.{OrientedKeypoint}
 use Rattle.descriptor_run.specs.Cells.{samples_of}
 use Rattle.descriptor_words.specs.Words.{turn_at, values_at, words_at}
-use Rattle.descriptor_words.specs.declared.Spot.{Spot}
+use Rattle.picture.specs.declared.Spot.{Spot}
 use Rattle.descriptor.specs.Nothing.{Told, read, samples, left}
 use Rattle.descriptor.specs.Entry.{fault_of}
 use Rattle.descriptor.proofs.Nothing.{samples_are, left_is as described_is, nothing_rule}

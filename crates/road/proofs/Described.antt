@@ -29,15 +29,14 @@ use Rattle.orient.specs.Entry.{oriented_list}
 use Rattle.orient.specs.Rules.{Passed}
 use Rattle.orient.proofs.Rules.{orient_rule}
 use Rattle.orient_laws.specs.Rules.{Turn}
-use Rattle.descriptor_inputs.specs.Inputs.{shrink_of, given_of, inputs_of}
+use Rattle.descriptor_inputs.specs.Inputs.{shrink_of, given_of, inputs_of, Inputs}
 use Rattle.descriptor_inputs.specs.Rules.{Taken}
-use Rattle.descriptor_inputs.specs.declared.Inputs.{Inputs}
 use Rattle.descriptor_inputs.proofs.Rules.{input_rule}
 use Rattle.descriptor_patch.specs.Patch.{cell_of}
 use Rattle.descriptor_run.specs.Cells.{used_at, over_cells, reads_of}
 use Rattle.descriptor_patch.specs.declared.Patch.{Patch}
 use Rattle.descriptor_words.specs.Words.{turn_at}
-use Rattle.descriptor_words.specs.declared.Spot.{Spot}
+use Rattle.picture.specs.declared.Spot.{Spot}
 use Rattle.descriptor.specs.Place.{on_side, spot_wrong, turn_wrong}
 use Rattle.descriptor.specs.Entry.{fault_of}
 use Rattle.descriptor.specs.Rules.{Inside}

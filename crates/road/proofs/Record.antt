@@ -31,7 +31,7 @@ use Rattle.descriptor_run.specs.Cells.{samples_of}
 use Rattle.descriptor_grid.specs.Grid.{gathered}
 use Rattle.descriptor_laws.proofs.ValuesRules.{value_rule}
 use Rattle.descriptor_words.specs.Words.{turn_at, values_at}
-use Rattle.descriptor_words.specs.declared.Spot.{Spot}
+use Rattle.picture.specs.declared.Spot.{Spot}
 use Rattle.descriptor.specs.Entry.{fault_of}
 use Rattle.descriptor.proofs.Nothing.{none_zeros}
 use Rattle.descriptor.proofs.Rules.{descriptor_rule}

@@ -18,7 +18,7 @@ use Rattle.detect_refine.specs.Place.{Searched}
 use Rattle.orient_words.specs.Oriented.{oriented_of}
 use Rattle.orient_words.specs.declared.OrientedKeypoint.{OrientedKeypoint}
 use Rattle.descriptor_words.specs.Words.{words_at}
-use Rattle.descriptor_words.specs.declared.Spot.{Spot}
+use Rattle.picture.specs.declared.Spot.{Spot}
 use Rattle.record.specs.Record.{record_of}
 use Rattle.record.specs.Make.{make_number, make_left}
 use Rattle.sheet.specs.Layout.{layout_of}

@@ -8,8 +8,7 @@ use borrow.Author.Tests.{eqb-true}
 use lib.Dec.{eqb}
 use lib.ListN.{length, drop}
 use lib.Seq.{length-take-le}
-use Rattle.params.specs.Answers.{answer_of}
-use Rattle.params.specs.declared.Answer.TheVariants.{Done}
+use Rattle.params.specs.Answers.{answer_of, Done}
 use Rattle.sheet.specs.Layout.{Layout, Frame, layout_of, known, header_size, record_size, max_count}
 use Rattle.sheet.specs.Sheet.{parts, all_pass}
 use Rattle.sheet.specs.Words.{read_words, taken_words, with_blank}

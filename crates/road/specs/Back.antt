@@ -2,7 +2,7 @@
 use Rattle.std.specs.Prelude.{ℕ, ◌+◌, ◌*◌, ◌≤◌, ◌≡◌, length, take, drop}
 use mathlib.Core.List.{List, ◌++◌, flat_map}
 use Rattle.params.specs.Limits.{max_side, max_layers}
-use Rattle.params.specs.declared.Answer.TheVariants.{Done}
+use Rattle.params.specs.Answers.{Done}
 use Rattle.sheet.specs.Layout.{layout_of, header_size, record_size}
 use Rattle.sheet.specs.Words.{read_words, taken_words, with_blank}
 use Rattle.sheet.specs.Writes.{write_fault, write_answer, write_out, frame_of}

@@ -10,11 +10,10 @@ use Rattle.detect_keypoint.specs.declared.RawKeypoint.{RawKeypoint}
 use Rattle.detect.specs.Entry as Detection
 use Rattle.orient_words.specs.declared.OrientedKeypoint.{OrientedKeypoint}
 use Rattle.orient.specs.Entry.{orient_fault, oriented_list}
-use Rattle.descriptor_inputs.specs.Inputs.{inputs_of}
-use Rattle.descriptor_inputs.specs.declared.Inputs.{Inputs}
+use Rattle.descriptor_inputs.specs.Inputs.{inputs_of, Inputs}
 use Rattle.descriptor_run.specs.Cells.{samples_of, reads_of}
 use Rattle.descriptor_words.specs.Words.{turn_at, values_at, words_at}
-use Rattle.descriptor_words.specs.declared.Spot.{Spot}
+use Rattle.picture.specs.declared.Spot.{Spot}
 use Rattle.descriptor.specs.Entry as Descriptor
 use Rattle.record.specs.Record.{record_of}
 

@@ -2,7 +2,7 @@
 use Rattle.std.specs.Prelude.{ℕ, cond, List, [], ◌∷◌, eqb, length}
 use Rattle.ieee.specs.F32.{bits_of}
 use Rattle.params.specs.Answers.{on_fault}
-use Rattle.descriptor_inputs.specs.declared.Inputs.{Inputs}
+use Rattle.descriptor_inputs.specs.Inputs.{Inputs}
 
 -- the inputs go out as so many words: x, y, scale and angle by their bits
 abbrev pub input_words : ℕ

@@ -1,41 +1,36 @@
 // A keypoint and an oriented keypoint of the words that they went out as, and the descriptor's inputs as words. Any other number of words stands for a keypoint that no entry takes.
 #![tactic(auto)]
 
-ghost use Rattle.std.specs.Prelude.{◌≡◌, length};
-ghost use Rattle.std.specs.Float.{nan};
+ghost use Rattle.std.specs.Prelude.{◌≡◌, ℕ, length, MatchResult};
 ghost use Rattle.params.specs.Limits.{keypoint_words};
+ghost use Rattle.params.specs.Answers.{fault_told};
+ghost use Rattle.params.specs.declared.Refusal.TheVariants.{Room};
+ghost use Rattle.descriptor_inputs.specs.Inputs.{inputs_told};
 ghost use Rattle.orient_words.specs.Oriented.{oriented_words};
 ghost use Rattle.words.specs.Keypoint.{words_in, broken, keypoint_in};
-ghost use Rattle.words.specs.Inputs.{input_words, words_out, inputs_number, inputs_left};
+ghost use Rattle.words.specs.Inputs.{input_words, inputs_number, inputs_left};
 ghost use Rattle.words.specs.Oriented.{six_in, unoriented, oriented_in};
 
-use descriptor_inputs::Inputs;
 use detect_keypoint::RawKeypoint;
 use orient_words::OrientedKeypoint;
-use params::KEYPOINT_WORDS;
+use params::{KEYPOINT_WORDS, Refusal};
+use picture::Spot;
 
 // An oriented keypoint goes out as so many words.
 const ORIENTED_WORDS: usize = 6;
-
-fn not_a_number() -> f32
-    ensures { result ≡ nan }
-{
-    0.0 / 0.0
-}
 
 // A keypoint that no entry takes.
 fn broken_keypoint() -> RawKeypoint
     ensures { result ≡ broken }
 {
-    let x = not_a_number();
     RawKeypoint {
-        x: x,
-        y: x,
-        size: x,
-        response: x,
+        x: f32::NAN,
+        y: f32::NAN,
+        size: f32::NAN,
+        response: f32::NAN,
         octave: 0,
         layer: 0,
-        xi: x,
+        xi: f32::NAN,
         cc: 0,
         rr: 0,
         moves: 0,
@@ -76,14 +71,13 @@ pub fn keypoint_in(k: &[u32]) -> RawKeypoint
 fn unoriented_keypoint() -> OrientedKeypoint
     ensures { result ≡ unoriented }
 {
-    let x = not_a_number();
     OrientedKeypoint {
-        x: x,
-        y: x,
-        size: x,
-        response: x,
+        x: f32::NAN,
+        y: f32::NAN,
+        size: f32::NAN,
+        response: f32::NAN,
         octave: 0,
-        angle: x,
+        angle: f32::NAN,
     }
 }
 
@@ -116,26 +110,20 @@ pub fn oriented_in(o: &[u32]) -> OrientedKeypoint
 // The inputs of a descriptor go out as so many words.
 const INPUT_WORDS: usize = 4;
 
-fn put_inputs(i: Inputs, out: &mut [u32])
-    requires { length out.old ≡ input_words }
-    ensures { out.new ≡ words_out i }
+// The inputs as words, or why there are none; lack of room where not so many words are lent.
+pub fn give_inputs(i: Result<Spot, Refusal>, out: &mut [u32]) -> Result<(), Refusal>
+    ensures value { (fault_told result ≡ inputs_number (inputs_told i) (length out.old)) × (out.new ≡ inputs_left (inputs_told i) out.old) }
+    ensures refused { MatchResult i (λ _. (n : ℕ) → result ≡ Err (Room n) → n ≡ input_words) (λ r. result ≡ Err r) }
 {
-    out[0] = ieee::bits_of(i.x);
-    out[1] = ieee::bits_of(i.y);
-    out[2] = ieee::bits_of(i.scale);
-    out[3] = ieee::bits_of(i.angle);
-}
-
-// The inputs as words: their number, then 7 where not so many words are lent.
-pub fn give_inputs(i: Inputs, out: &mut [u32]) -> u32
-    ensures { (result ≡ inputs_number i (length out.old)) × (out.new ≡ inputs_left i out.old) }
-{
-    if i.number != 0 {
-        return i.number;
-    }
+    let spot = i?;
     if out.len() != INPUT_WORDS {
-        return 7;
+        return Err(Refusal::Room(INPUT_WORDS));
     }
-    put_inputs(i, out);
-    0
+    out.copy_from_slice(&[
+        ieee::bits_of(spot.x),
+        ieee::bits_of(spot.y),
+        ieee::bits_of(spot.scale),
+        ieee::bits_of(spot.angle),
+    ]);
+    Ok(())
 }

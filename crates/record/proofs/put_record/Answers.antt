@@ -7,4 +7,4 @@ shape_of-out c =
 
 pub returns : goal.returns
 returns c =
-    rw blank_is (record_is c.args.k c.args.o c.args.values.now c.args.out.now _ _ c.args.samples c.requires.0 c.requires.1 c.put_front.ensures c.put_values.ensures)
+    rw (c.from.ensures, blank_is) (record_is c.args.k c.args.o c.args.values.now c.args.out.now _ _ c.args.samples c.requires.0 c.requires.1 c.put_front.ensures c.put_values.ensures)

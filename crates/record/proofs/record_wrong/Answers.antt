@@ -1,5 +1,4 @@
-use Rattle.std.proofs.Common.{arith}
-use Rattle.record.proofs.Wrong.{wrong_keypoints, wrong_values, asked, rules_decide}
+use Rattle.record.proofs.Wrong.{wrong_keypoints, wrong_values, edition_two, asked, rules_decide}
 use Rattle.record.proofs.record_wrong.Goals as goal
 
 pub returns-then-k-is_alike : goal.returns-then-k-is_alike
@@ -12,25 +11,12 @@ returns-then-values-ne-VALUES c =
     let a = c.args in
     wrong_values a.k a.o a.values.now a.samples c.if-values-ne-VALUES.true
 
-pub record_right-requires-clause-known : goal.record_right-requires-clause-known
-record_right-requires-clause-known c =
+pub record_right-requires : goal.record_right-requires
+record_right-requires c =
     let a = c.args in
-    let e = c.edition_of-e.ensures in
-    e.known
-
-pub record_right-requires-clause-le_width : goal.record_right-requires-clause-le_width
-record_right-requires-clause-le_width c =
-    let a = c.args in
-    let e = c.edition_of-e.ensures in
-    (omega arith, omega arith)
-
-pub record_right-requires-clause-words_len : goal.record_right-requires-clause-words_len
-record_right-requires-clause-words_len c =
-    let a = c.args in
-    let e = c.edition_of-e.ensures in
-    asked a.k a.o a.values.now a.samples _ _ e.value c.if-values-ne-VALUES.false c.put_record.ensures
+    asked a.k a.o a.values.now a.samples c.edition_of.result _ (edition_two c.edition_of.result c.edition_of.ensures) c.if-values-ne-VALUES.false c.put_record.ensures
 
 pub returns : goal.returns
 returns c =
     let a = c.args in
-    rules_decide a.k a.o a.values.now a.samples _ c.is_alike.ensures c.if-k-is_alike.false c.if-values-ne-VALUES.false _ _ _ c.edition_of-e.ensures.value c.put_record.ensures c.record_right.ensures
+    rules_decide a.k a.o a.values.now a.samples _ c.is_alike.ensures c.if-k-is_alike.false c.if-values-ne-VALUES.false c.edition_of.result _ _ (edition_two c.edition_of.result c.edition_of.ensures) c.put_record.ensures c.record_right.ensures

@@ -1,6 +1,8 @@
+use mathlib.Core.Path.{refl}
+use lib.Ieee.{of_bits}
 use Rattle.words.specs.Oriented.{unoriented}
 use Rattle.words.proofs.unoriented_keypoint.Goals as goal
 
 pub returns : goal.returns
-unfolding unoriented
-returns c = rw c.not_a_number-x.ensures
+unfolding unoriented of_bits
+returns c = refl

@@ -3,40 +3,48 @@
 
 ghost use Rattle.std.specs.Prelude.{◌≡◌, true, false, length};
 ghost use Rattle.params.specs.Table.{all_good};
+ghost use Rattle.params.specs.Answers.{fault_told};
 ghost use Rattle.sheet.specs.Sheet.{bytes_right};
 ghost use Rattle.sheet.specs.Reads.{layout_in};
 ghost use Rattle.audit_rule.specs.Entry.{form_fault, check_answer};
 ghost use Rattle.audit_rule.specs.Fine.{Fine};
+ghost use Rattle.audit_verdict.specs.Verdict.{verdict_told};
 ghost use Rattle.audit_rule.specs.Left.{answer_left};
 
 use audit_keypoint::Task;
-use audit_verdict::Checked;
-use params::Settings;
+use audit_verdict::Verdict;
+use params::{Refusal, Settings};
 use picture::{Shape, Size};
-
-const HEADER_BYTES: usize = 8;
+use sheet::HEADER_BYTES;
 
 // ---- the form
 
-// The first check that fails of those before the samples, or 0.
-fn form_fault(dogs: usize, gausses: usize, t: Shape, octave: u32, s: Settings, base: Size) -> u32
-    ensures { result ≡ form_fault dogs gausses t octave s base }
+// The first check that fails of those before the samples.
+fn form_fault(
+    dogs: usize,
+    gausses: usize,
+    t: Shape,
+    octave: u32,
+    s: Settings,
+    base: Size,
+) -> Result<(), Refusal>
+    ensures { fault_told result ≡ form_fault dogs gausses t octave s base }
 {
     if params::shape_wrong(t.width, t.height) | params::shape_wrong(base.width, base.height) {
-        return 1;
+        return Err(Refusal::Shape);
     }
     if params::layers_wrong(t.planes, 1, s.layers) {
-        return 2;
+        return Err(Refusal::Layers);
     }
     if (dogs != t.planes * t.height * t.width)
         | (gausses != (t.planes + 1) * (t.height * t.width))
     {
-        return 3;
+        return Err(Refusal::Length);
     }
     if params::settings_wrong(s, octave) {
-        return 4;
+        return Err(Refusal::Settings);
     }
-    0
+    Ok(())
 }
 
 // ---- the answer
@@ -50,10 +58,10 @@ fn of_no_sheet(
     s: Settings,
     base: Size,
     sheet: &[u8],
-) -> Checked
+) -> Result<Verdict, Refusal>
     requires fine { Fine (length dog.now) (length gauss.now) t octave s base }
     requires dog_value { (all_good dog.now ≡ true) × (bytes_right (layout_in sheet.now) sheet.now ≡ false) }
-    ensures { result ≡ answer_left dog.now gauss.now t octave s base sheet.now }
+    ensures { verdict_told result ≡ answer_left dog.now gauss.now t octave s base sheet.now }
 {
     let k = Task {
         shape: t,
@@ -61,11 +69,9 @@ fn of_no_sheet(
         edition: sheet_edition::edition_of(1),
         count: 0,
     };
-    let st = audit_walk::walk(dog, gauss, sheet, k, s);
-    if st.good {
-        Checked::Refused(8)
-    } else {
-        Checked::Refused(6)
+    match audit_walk::walk(dog, gauss, sheet, k, s) {
+        Ok(_) => Err(Refusal::Sheet),
+        Err(_) => Err(Refusal::Samples),
     }
 }
 
@@ -78,34 +84,31 @@ fn of_sheet(
     s: Settings,
     base: Size,
     sheet: &[u8],
-) -> Checked
+) -> Result<Verdict, Refusal>
     requires fine { Fine (length dog.now) (length gauss.now) t octave s base }
     requires dog_value { (all_good dog.now ≡ true) × (bytes_right (layout_in sheet.now) sheet.now ≡ true) }
-    ensures { result ≡ answer_left dog.now gauss.now t octave s base sheet.now }
+    ensures { verdict_told result ≡ answer_left dog.now gauss.now t octave s base sheet.now }
 {
     let e = sheet_fields::edition_in(sheet);
     let h = sheet_fields::header_in(e, sheet);
     let n = h.count as usize;
-    let end = sheet.len();
-    let body = &sheet[HEADER_BYTES..end];
+    let body = &sheet[HEADER_BYTES..];
     let k = Task {
         shape: t,
         octave,
         edition: e,
         count: n,
     };
-    let st = audit_walk::walk(dog, gauss, body, k, s);
-    if !st.good {
-        return Checked::Refused(6);
-    }
+    let Ok(agreement) = audit_walk::walk(dog, gauss, body, k, s) else {
+        return Err(Refusal::Samples);
+    };
     if !audit_compare::octaves_right(e, body, n, octave) {
-        return Checked::Refused(5);
+        return Err(Refusal::Fields);
     }
-    let field = audit_verdict::header_difference(e, h, base, s.layers);
-    if field != 0 {
-        return Checked::Header(field);
+    if let Some(field) = audit_verdict::header_difference(e, h, base, s.layers) {
+        return Ok(Verdict::Header(field));
     }
-    audit_verdict::told(n, st)
+    Ok(audit_verdict::told(n, agreement))
 }
 
 // The checker: the difference planes and the Gaussian planes of an octave, of which there is one more, its number, the settings, the size of octave 0, and the bytes of a sheet.
@@ -117,15 +120,12 @@ pub fn check_sheet(
     s: Settings,
     base: Size,
     sheet: &[u8],
-) -> Checked
-    ensures { result ≡ check_answer dog.now gauss.now t octave s base sheet.now }
+) -> Result<Verdict, Refusal>
+    ensures { verdict_told result ≡ check_answer dog.now gauss.now t octave s base sheet.now }
 {
-    let f = form_fault(dog.len(), gauss.len(), t, octave, s, base);
-    if f != 0 {
-        return Checked::Refused(f);
-    }
+    form_fault(dog.len(), gauss.len(), t, octave, s, base)?;
     if !samples::all_good(dog) {
-        return Checked::Refused(6);
+        return Err(Refusal::Samples);
     }
     if sheet_read::sheet_sound(sheet) {
         of_sheet(dog, gauss, t, octave, s, base, sheet)

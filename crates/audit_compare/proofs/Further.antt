@@ -11,8 +11,8 @@ use Rattle.lists.proofs.Naturals.{le_or_lt}
 use Rattle.sheet.specs.Layout.{Layout, record_size}
 use Rattle.sheet_fields.specs.Fields.{bytes_words}
 use Rattle.audit_compare.specs.Difference.{first_difference, fields_of}
-use Rattle.audit_compare.specs.Standing.{stated_in, missing, difference_at, compared}
-use Rattle.audit_compare.specs.declared.Standing.{Standing}
+use Rattle.audit_compare.specs.Numbered.{missing}
+use Rattle.audit_compare.specs.Standing.{stated_in, difference_at, compared, Standing}
 use Rattle.audit_compare.proofs.Stated.{stated_length, stated_at}
 
 module _ (l : Layout) (n : ℕ) (body : List ℕ) where

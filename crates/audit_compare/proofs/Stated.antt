@@ -15,9 +15,8 @@ use Rattle.sheet.proofs.Parts.{length_parts}
 use Rattle.sheet.proofs.Runs.{length_unpack}
 use Rattle.sheet.proofs.Words.{length_worded}
 use Rattle.sheet.proofs.Steps.{step_inside}
-use Rattle.sheet_edition.specs.Edition.{layout_for, Known}
+use Rattle.sheet_edition.specs.Edition.{layout_for}
 use Rattle.sheet_edition.specs.declared.Edition.{Edition}
-use Rattle.sheet_edition.proofs.Layouts.{bytes_are}
 use Rattle.sheet_fields.specs.Fields.{any_frame, bytes_words}
 use Rattle.audit_compare.specs.Difference.{fields_of}
 use Rattle.audit_compare.specs.Standing.{stated_in}
@@ -43,17 +42,17 @@ pub stated_at : (l : Layout) (n i : ℕ) (body : List ℕ) → i < n → get_or 
 stated_at l n i body h = map_at (λ b. fields_of l (bytes_words l b)) (record_size l) n i body h
 
 -- where the code finds the record at i
-module _ (e : Edition) (k : Known e) where
+module _ (e : Edition) where
   pub record_inside : (n i long : ℕ) → record_size (layout_for e) * n ≤ long → i < n → e.bytes * i + e.bytes ≤ long
   record_inside n i long h r =
-      let m : e.bytes * n ≡ record_size (layout_for e) * n = ap (λ (j : ℕ). j * n) (bytes_are e k) in
+      let m : e.bytes * n ≡ record_size (layout_for e) * n = ap (λ (j : ℕ). j * n) e.bytes_are in
       omega (arith, m, step_inside e.bytes n i r)
 
   pub record_at : (body : List ℕ) (i : ℕ) →
       take (e.bytes * i + e.bytes - e.bytes * i) (drop (e.bytes * i) body) ≡ take (record_size (layout_for e)) (drop (record_size (layout_for e) * i) body)
   record_at body i =
       let m : e.bytes * i + e.bytes - e.bytes * i ≡ e.bytes = omega arith in
-      ap (λ (j : ℕ). take j (drop (e.bytes * i) body)) m ∙ ap (λ (j : ℕ). take j (drop (j * i) body)) (bytes_are e k)
+      ap (λ (j : ℕ). take j (drop (e.bytes * i) body)) m ∙ ap (λ (j : ℕ). take j (drop (j * i) body)) e.bytes_are
 
 -- a list written over all of one that is as long
 pub pasted_all : (new old : List ℕ) → length new ≡ length old → pasted 0 new old ≡ new

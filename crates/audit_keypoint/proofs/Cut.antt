@@ -1,8 +1,8 @@
 -- A list of equal parts cut again: the parts of joined lists of one length, and a fold over one part more. Assumes nothing.
-use mathlib.Core.Path.{◌≡◌, refl, ap, ◌∙◌}
+use mathlib.Core.Path.{◌≡◌, refl, sym, ap, ◌∙◌}
 use mathlib.Core.List.{List, [], ◌∷◌, ◌++◌, map, flat_map, foldl, append_assoc}
 use Prim.Native.Nat.{ℕ, zero, suc, ◌+◌, ◌*◌}
-use native.Mathlib.Nat.{mul-zero, mul-suc}
+use native.Mathlib.Nat.{add-zero, mul-zero, mul-suc}
 use native.Mathlib.Numerals.{add-one}
 use native.Mathlib.Omega.{arith}
 use lib.ListN.{length, take, drop}
@@ -36,3 +36,10 @@ fold_next f st k n ws = rw add-one (fold_suc f st k n ws)
 pub fold_none {ℓ} : {S : Type ℓ} (f : S → List ℕ → S) (st : S) (k : ℕ) (ws : List ℕ) → foldl f st (parts k 0 ws) ≡ st
 unfolding parts
 fold_none f st k ws = refl
+
+-- once a fold has come to what no part changes, it stays there
+pub fold_settled {ℓ} : {S : Type ℓ} (f : S → List ℕ → S) (st x : S) → ((w : List ℕ) → f x w ≡ x) → (k i d : ℕ) (ws : List ℕ) → x ≡ foldl f st (parts k i ws) → x ≡ foldl f st (parts k (i + d) ws)
+fold_settled f st x still k i zero ws e = rw add-zero e
+fold_settled f st x still k i (suc d) ws e =
+    let m : i + suc d ≡ i + d + 1 = omega arith in
+    rw (m, fold_next f st k (i + d) ws, ← fold_settled f st x still k i d ws e) (sym (still (take k (drop (k * (i + d)) ws))))

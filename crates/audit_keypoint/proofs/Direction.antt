@@ -1,10 +1,10 @@
--- After the record of a direction, by cases: nothing is made after a refusal, a stage refuses, or the record is compared. Assumes nothing.
+-- After the record of a direction, by cases: a stage refuses, or the record is compared. Assumes nothing.
 use Prim.Native.Nat.{ℕ, ◌≤◌}
 use mathlib.Core.Path.{◌≡◌, refl, sym, ap, ◌∙◌}
-use mathlib.Core.Bool.{true, false, not, cond, and-false}
+use mathlib.Core.Bool.{true, false, cond, and-false}
 use mathlib.Core.List.{List}
 use native.Mathlib.Omega.{arith}
-use borrow.Author.Tests.{eq-eqb, ne_eqb, not-true, not-false}
+use borrow.Author.Tests.{eq-eqb, ne_eqb}
 use mir.Syntax.{w32}
 use mir.Val.{to_z}
 use mir.ValLaws.{to_z_pos}
@@ -14,25 +14,24 @@ use lib.ListN.{length}
 use lib.Ieee.{Float}
 use Rattle.params.specs.Limits.{max_octave, value_count}
 use Rattle.params.specs.Answers.{on_fault}
+use Rattle.params.specs.declared.Refusal.{Refusal}
+use Rattle.params.specs.declared.Refusal.TheVariants.{Shape, Layers, Length, Settings, Fields, Samples, Room, Sheet}
 use Rattle.picture.specs.declared.Size.{Size}
 use Rattle.orient_words.specs.declared.OrientedKeypoint.{OrientedKeypoint}
-use Rattle.descriptor_inputs.specs.Inputs.{inputs_of}
-use Rattle.descriptor_inputs.specs.declared.Inputs.{Inputs}
+use Rattle.descriptor_inputs.specs.Inputs.{inputs_of, Inputs}
 use Rattle.descriptor_run.specs.Cells.{samples_of}
 use Rattle.descriptor_words.specs.Words.{turn_at, words_at}
-use Rattle.descriptor_words.specs.declared.Spot.{Spot}
-use Rattle.descriptor.specs.Entry.{fault_of, described_of, described_out, number_of, used_of}
-use Rattle.descriptor.specs.declared.Described.{Described}
-use Rattle.descriptor.specs.declared.Described.TheVariants.{Done, Refused}
+use Rattle.picture.specs.declared.Spot.{Spot}
+use Rattle.descriptor.specs.Entry.{fault_of, described_of, described_out, number_of, used_of, refused_told, Described, Done, Refused}
 use Rattle.words.specs.Keypoint.{keypoint_in}
 use Rattle.words.specs.Oriented.{oriented_in}
 use Rattle.record.specs.Record.{record_of}
 use Rattle.record.specs.Make.{make_number}
 use Rattle.sheet.specs.Words.{read_words}
-use Rattle.audit_compare.specs.Standing.{refused, compared}
-use Rattle.audit_compare.specs.declared.Standing.{Standing}
+use Rattle.audit_compare.specs.declared.agreement.Agreement.{Agreement}
+use Rattle.audit_compare.specs.Standing.{refused, compared, standing_of, Standing}
 use Rattle.audit_keypoint.specs.Steps.{served, made_of, Given, size_for, direction_step}
-use Rattle.audit_keypoint.proofs.Fault.{Undone, fault_there, fault_none}
+use Rattle.audit_keypoint.proofs.Fault.{fault_there, fault_none}
 
 -- ---- the descriptor's inputs: an octave is the same signed
 
@@ -44,50 +43,72 @@ abbrev spot_of : Inputs → Spot
 spot_of i = record { x = i.x; y = i.y; scale = i.scale; angle = i.angle }
 
 module _ (img : List Float) (z : Size) (p : Spot) (out : List ℕ) (d : Described) (room : length out ≡ value_count) (e : d ≡ described_of img z p (length out)) where
-  given : d ≡ on_fault (fault_of img z p) (Done (length (samples_of img (turn_at z p)))) (Refused (fault_of img z p))
+  abbrev fine : Described
+  fine = Done (length (samples_of img (turn_at z p)))
+
+  abbrev refusal : Described
+  refusal = Refused (fault_of img z p)
+
+  given : d ≡ on_fault (fault_of img z p) fine refusal
   unfolding described_of
   given = e ∙ rw room
 
-  fault_told : Undone Done d → eqb (fault_of img z p) 0 ≡ false
-  fault_told k = fault_there Done (fault_of img z p) (length (samples_of img (turn_at z p))) (Refused (fault_of img z p)) d given k
+  fault_told : (number_of d ≡ 0 → ⊥) → eqb (fault_of img z p) 0 ≡ false
+  fault_told k = fault_there number_of fine refusal d (fault_of img z p) refl given k
 
   described : (m : ℕ) → d ≡ Done m → (eqb (fault_of img z p) 0 ≡ true) × ((length (samples_of img (turn_at z p)) ≡ m) × (described_out img z p out ≡ words_at img z p))
   unfolding described_out
   described m k =
-      let q = fault_none number_of (fault_of img z p) (Done (length (samples_of img (turn_at z p)))) (Refused (fault_of img z p)) d given refl (ap number_of k) in
+      let q = fault_none number_of fine refusal d (fault_of img z p) given refl (ap number_of k) in
       (q.0, (ap used_of (sym q.1 ∙ k), rw (sym e ∙ k)))
+
+-- a refusal of the descriptor has a number
+pub undescribed : (r : Refusal) → number_of (refused_told r) ≡ 0 → ⊥
+undescribed Shape z = omega arith
+undescribed Layers z = omega arith
+undescribed Length z = omega arith
+undescribed Settings z = omega arith
+undescribed Fields z = omega arith
+undescribed Samples z = omega arith
+undescribed (Room n) z = omega arith
+undescribed Sheet z = omega arith
 
 -- ---- the step
 
-module _ (g : Given) (img : List Float) (kw ow : List ℕ) (st : Standing) where
-  pub step_over : not st.good ≡ true → st ≡ direction_step g img kw st ow
+module _ (g : Given) (img : List Float) (kw ow : List ℕ) where
+  -- nothing is made after a refusal
+  pub step_still : direction_step g img kw refused ow ≡ refused
   unfolding direction_step
-  step_over e = rw (not-true st.good e)
+  step_still = refl
 
-  module _ (good : not st.good ≡ false) (i : Inputs) (fit : i ≡ inputs_of (oriented_in ow) (pos g.octave)) where
-    unserved : served img (size_for g.shape) g.octave kw ow ≡ false → (r : Standing) → r ≡ refused → r ≡ direction_step g img kw st ow
+  module _ (a : Agreement) (i : Inputs) (fit : i ≡ inputs_of (oriented_in ow) (pos g.octave)) where
+    unserved : served img (size_for g.shape) g.octave kw ow ≡ false → refused ≡ direction_step g img kw (standing_of a) ow
     unfolding direction_step
-    unserved e r q = q ∙ rw (not-false st.good good, e)
+    unserved e = rw e
 
     unfit : (i.number ≡ 0 → ⊥) → served img (size_for g.shape) g.octave kw ow ≡ false
     unfolding served
     unfit n = rw (← fit, ne_eqb i.number 0 n)
 
-    pub step_unfit : (i.number ≡ 0 → ⊥) → (r : Standing) → r ≡ refused → r ≡ direction_step g img kw st ow
-    step_unfit n r q = unserved (unfit n) r q
+    pub step_unfit : (i.number ≡ 0 → ⊥) → refused ≡ direction_step g img kw (standing_of a) ow
+    step_unfit n = unserved (unfit n)
 
-    module _ (out : List ℕ) (d : Described) (room : length out ≡ value_count) (told : d ≡ described_of img (size_for g.shape) (spot_of i) (length out)) where
-      fault_at : Undone Done d → served img (size_for g.shape) g.octave kw ow ≡ false
+    module _ (out : List ℕ) (d : Described) (room : length out ≡ value_count) (z : Size) (sized : z ≡ size_for g.shape) (told : d ≡ described_of img z (spot_of i) (length out)) where
+      here : d ≡ described_of img (size_for g.shape) (spot_of i) (length out)
+      here = told ∙ ap (λ (y : Size). described_of img y (spot_of i) (length out)) sized
+
+      fault_at : (number_of d ≡ 0 → ⊥) → served img (size_for g.shape) g.octave kw ow ≡ false
       unfolding served
-      fault_at k = rw (← fit, fault_told img (size_for g.shape) (spot_of i) out d room told k, and-false)
+      fault_at k = rw (← fit, fault_told img (size_for g.shape) (spot_of i) out d room here k, and-false)
 
-      pub step_undescribed : Undone Done d → (r : Standing) → r ≡ refused → r ≡ direction_step g img kw st ow
-      step_undescribed k r q = unserved (fault_at k) r q
+      pub step_undescribed : (number_of d ≡ 0 → ⊥) → refused ≡ direction_step g img kw (standing_of a) ow
+      step_undescribed k = unserved (fault_at k)
 
-      pub step_made : (i.number ≡ 0) → (m : ℕ) → d ≡ Done m → (values : List ℕ) → values ≡ described_out img (size_for g.shape) (spot_of i) out → (r : Standing) →
-          r ≡ cond (eqb (make_number (keypoint_in kw) (oriented_in ow) values m read_words) 0) (compared g.layout g.stated st (record_of (keypoint_in kw) (oriented_in ow) values m)) refused →
-          r ≡ direction_step g img kw st ow
+      pub step_made : (i.number ≡ 0) → (m : ℕ) → d ≡ Done m → (values : List ℕ) → values ≡ described_out img z (spot_of i) out → (r : Standing) →
+          r ≡ cond (eqb (make_number (keypoint_in kw) (oriented_in ow) values m read_words) 0) (compared g.layout g.stated (standing_of a) (record_of (keypoint_in kw) (oriented_in ow) values m)) refused →
+          r ≡ direction_step g img kw (standing_of a) ow
       unfolding direction_step served made_of
       step_made n m k values v r q =
-          let b = described img (size_for g.shape) (spot_of i) out d room told m k in
-          q ∙ rw (not-false st.good good, ← fit, eq-eqb i.number 0 n, b.0, b.1.0, ← b.1.1, ← v)
+          let b = described img (size_for g.shape) (spot_of i) out d room here m k in
+          let w = v ∙ ap (λ (y : Size). described_out img y (spot_of i) out) sized in
+          q ∙ rw (← fit, eq-eqb i.number 0 n, b.0, b.1.0, ← b.1.1, ← w)

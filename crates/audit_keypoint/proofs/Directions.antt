@@ -1,5 +1,5 @@
 -- The loop over directions: none of them, and one more. Assumes nothing.
-use Prim.Native.Nat.{ℕ, ◌+◌, ◌-◌, ◌*◌}
+use Prim.Native.Nat.{ℕ, ◌+◌, ◌-◌, ◌*◌, ◌<◌}
 use mathlib.Core.Path.{◌≡◌, sym, ◌∙◌}
 use mathlib.Core.List.{List}
 use native.Mathlib.Omega.{arith}
@@ -7,9 +7,10 @@ use lib.ListN.{take, drop}
 use lib.Ieee.{Float}
 use Rattle.orient_words.specs.Oriented.{oriented_words}
 use Rattle.sheet.specs.Sheet.{parts}
-use Rattle.audit_compare.specs.declared.Standing.{Standing}
+use Rattle.audit_compare.specs.Standing.{refused, Standing}
 use Rattle.audit_keypoint.specs.Steps.{Given, direction_step, direction_steps}
-use Rattle.audit_keypoint.proofs.Cut.{fold_none, fold_next}
+use Rattle.audit_keypoint.proofs.Cut.{fold_none, fold_next, fold_settled}
+use Rattle.audit_keypoint.proofs.Direction.{step_still}
 
 module _ (g : Given) (img : List Float) (kw ws : List ℕ) (st : Standing) where
   -- after the first j
@@ -27,3 +28,11 @@ module _ (g : Given) (img : List Float) (kw ws : List ℕ) (st : Standing) where
   steps_next j now r e q =
       let m : oriented_words * j + oriented_words - oriented_words * j ≡ oriented_words = omega arith in
       q ∙ rw (m, e, fold_next (direction_step g img kw) st oriented_words j ws)
+
+  -- where one refuses, so do all
+  pub steps_refused : (j n : ℕ) (now : Standing) → now ≡ steps_to j → j < n →
+      refused ≡ direction_step g img kw now (take (oriented_words * j + oriented_words - oriented_words * j) (drop (oriented_words * j) ws)) → refused ≡ steps_to n
+  unfolding direction_steps
+  steps_refused j n now e h q =
+      let m : n ≡ j + 1 + (n - (j + 1)) = omega arith in
+      rw m (fold_settled (direction_step g img kw) st refused (λ w. step_still g img kw w) oriented_words (j + 1) (n - (j + 1)) ws (steps_next j now refused e q))

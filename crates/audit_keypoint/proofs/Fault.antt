@@ -1,20 +1,40 @@
--- What an answer tells of the fault behind it: any other answer than done, that there is one; done, that there is none. Assumes nothing.
+-- What an answer tells of the fault behind it: a number, that there is one; none, that there is none. Assumes nothing.
 use Prim.Native.Nat.{ℕ, zero, suc}
 use mathlib.Core.Path.{◌≡◌, refl, sym, ap, ◌∙◌}
-use mathlib.Core.Bool.{true, false}
+use mathlib.Core.Bool.{true, false, false≢true}
 use native.Mathlib.Nat.{suc-ne-zero}
+use native.Mathlib.Omega.{arith}
 use borrow.Author.Tests.{ne_eqb}
 use lib.Dec.{eqb}
-use Rattle.params.specs.Answers.{on_fault}
+use Rattle.std.specs.Prelude.{Result, Ok, Err, IsErr}
+use Rattle.params.specs.Answers.{on_fault, refusal_number}
+use Rattle.params.specs.declared.Refusal.{Refusal}
+use Rattle.params.specs.declared.Refusal.TheVariants.{Shape, Layers, Length, Settings, Fields, Samples, Room, Sheet}
+use Rattle.audit_compare.specs.declared.agreement.Agreement.{Agreement}
+use Rattle.audit_compare.specs.declared.agreement.Stopped.{Stopped}
+use Rattle.audit_compare.specs.Standing.{refused, standing_told}
 
--- an answer that is not done
-abbrev pub Undone : {A : Type 0} → (ℕ → A) → A → Type 0
-Undone done a = (n : ℕ) → a ≡ done n → ⊥
+-- a refusal has a number
+pub number_some : (r : Refusal) → refusal_number r ≡ 0 → ⊥
+number_some Shape z = omega arith
+number_some Layers z = omega arith
+number_some Length z = omega arith
+number_some Settings z = omega arith
+number_some Fields z = omega arith
+number_some Samples z = omega arith
+number_some (Room n) z = omega arith
+number_some Sheet z = omega arith
 
-pub fault_there : {A : Type 0} (done : ℕ → A) (fault n : ℕ) (refusal a : A) → a ≡ on_fault fault (done n) refusal → Undone done a → eqb fault 0 ≡ false
-fault_there done zero n refusal a e k = absurd (k n e)
-fault_there done (suc f) n refusal a e k = ne_eqb (suc f) 0 (suc-ne-zero f)
+-- what a stage's refusal becomes
+pub stopped : (r : Result Agreement Stopped) → IsErr r → standing_told r ≡ refused
+stopped (Ok a) h = absurd (false≢true h)
+stopped (Err y) h = refl
 
-pub fault_none : {A : Type 0} (number : A → ℕ) (fault : ℕ) (done refusal a : A) → a ≡ on_fault fault done refusal → number refusal ≡ fault → number a ≡ 0 → (eqb fault 0 ≡ true) × (a ≡ done)
-fault_none number zero done refusal a e n z = (refl, e)
-fault_none number (suc f) done refusal a e n z = absurd (suc-ne-zero f (sym n ∙ ap number (sym e) ∙ z))
+module _ {A : Type 0} (number : A → ℕ) (done refusal a : A) where
+  pub fault_there : (fault : ℕ) → number done ≡ 0 → a ≡ on_fault fault done refusal → (number a ≡ 0 → ⊥) → eqb fault 0 ≡ false
+  fault_there zero d e k = absurd (k (ap number e ∙ d))
+  fault_there (suc f) d e k = ne_eqb (suc f) 0 (suc-ne-zero f)
+
+  pub fault_none : (fault : ℕ) → a ≡ on_fault fault done refusal → number refusal ≡ fault → number a ≡ 0 → (eqb fault 0 ≡ true) × (a ≡ done)
+  fault_none zero e n z = (refl, e)
+  fault_none (suc f) e n z = absurd (suc-ne-zero f (sym n ∙ ap number (sym e) ∙ z))

@@ -1,7 +1,7 @@
 pub mod Cut
-mod Fault
+pub mod Fault
 mod Made
 mod Direction
 mod Directions
 mod Turned
-mod Keypoint
+pub mod Keypoint

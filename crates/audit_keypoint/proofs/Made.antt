@@ -12,15 +12,14 @@ use Rattle.record.specs.Record.{record_of}
 use Rattle.record.specs.Make.{make_number, make_left}
 use Rattle.sheet.specs.Words.{read_words}
 use Rattle.sheet.specs.Layout.{Layout}
-use Rattle.audit_compare.specs.Standing.{refused, compared}
-use Rattle.audit_compare.specs.declared.Standing.{Standing}
+use Rattle.audit_compare.specs.Standing.{refused, compared, Standing}
 
 module _ (k : RawKeypoint) (o : OrientedKeypoint) (values : List ℕ) (samples : ℕ) (l : Layout) (stated : List (List ℕ)) (st : Standing) (number : ℕ) where
   abbrev After : Standing → Type 0
   After r = r ≡ cond (eqb (make_number k o values samples read_words) 0) (compared l stated st (record_of k o values samples)) refused
 
-  pub made_refused : number ≡ make_number k o values samples read_words → (number ≡ 0 → ⊥) → (r : Standing) → r ≡ refused → After r
-  made_refused e n r q = q ∙ rw (← e, ne_eqb number 0 n)
+  pub made_refused : number ≡ make_number k o values samples read_words → (number ≡ 0 → ⊥) → After refused
+  made_refused e n = rw (← e, ne_eqb number 0 n)
 
   module _ (out made : List ℕ) (room : length out ≡ read_words) (e : number ≡ make_number k o values samples (length out)) (z : number ≡ 0) (left : made ≡ make_left k o values samples out) where
     record_left : made ≡ record_of k o values samples

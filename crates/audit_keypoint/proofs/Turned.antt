@@ -8,36 +8,41 @@ use borrow.Author.Tests.{le-leb}
 use lib.Dec.{eqb}
 use lib.ListN.{length}
 use lib.Ieee.{Float}
+use Rattle.std.specs.Prelude.{Err}
 use Rattle.lists.specs.Pasted.{pasted}
 use Rattle.lists.proofs.Pasted.{length_pasted}
-use Rattle.params.specs.Answers.{on_fault, answer_of, number_of, count_of}
-use Rattle.params.specs.declared.Answer.TheVariants.{Done, Refused}
+use Rattle.params.specs.Answers.{on_fault, answer_of, number_of, count_of, told, Done, Refused}
+use Rattle.params.specs.declared.Refusal.{Refusal}
+use Rattle.params.proofs.Told.{number_told}
+use Rattle.picture.specs.declared.Size.{Size}
 use Rattle.detect_keypoint.specs.declared.RawKeypoint.{RawKeypoint}
-use Rattle.orient_words.specs.Oriented.{oriented_words, words_of, words}
+use Rattle.orient_words.specs.Oriented.{oriented_words, words_of, words, OrientAnswer}
 use Rattle.orient_words.specs.declared.OrientedKeypoint.{OrientedKeypoint}
-use Rattle.orient_words.specs.declared.OrientAnswer.{OrientAnswer}
 use Rattle.orient_words.proofs.Words.{length_words}
 use Rattle.orient.specs.Entry.{orient_fault, oriented_list, given_back, orient_answer, orient_out}
 use Rattle.orient.proofs.Rules.{orient_rule}
 use Rattle.words.specs.Keypoint.{keypoint_in}
 use Rattle.sheet.specs.Sheet.{parts}
-use Rattle.audit_compare.specs.Standing.{refused}
-use Rattle.audit_compare.specs.declared.Standing.{Standing}
+use Rattle.audit_compare.specs.Standing.{refused, Standing}
 use Rattle.audit_keypoint.specs.Steps.{Given, size_for, direction_steps, turn_step}
 use Rattle.audit_keypoint.proofs.Cut.{parts_joined}
-use Rattle.audit_keypoint.proofs.Fault.{Undone, fault_there, fault_none}
+use Rattle.audit_keypoint.proofs.Fault.{number_some, fault_there, fault_none}
 
 words_joined : (os : List OrientedKeypoint) → words os ≡ flat_map words_of os
 unfolding words flat_map
 words_joined [] = refl
 words_joined (o ∷ os) = rw (words_joined os)
 
+-- a refusal of orientation has a number
+pub unturned : (r : Refusal) → number_of (told (Err r)) ≡ 0 → ⊥
+unturned r z = number_some r (sym (number_told (Err r)) ∙ z)
+
 -- 18 directions of six words
 abbrev room_lent : ℕ
 room_lent = 108
 
 module _ (g : Given) (img : List Float) (kw : List ℕ) (k : RawKeypoint) (read : k ≡ keypoint_in kw) (out : List ℕ) (room : length out ≡ room_lent)
-    (r : OrientAnswer) (told : r ≡ orient_answer img (size_for g.shape) k (length out)) where
+    (r : OrientAnswer) (z : Size) (sized : z ≡ size_for g.shape) (told : r ≡ orient_answer img z k (length out)) where
   fault : ℕ
   fault = orient_fault img (size_for g.shape) (keypoint_in kw)
 
@@ -53,24 +58,24 @@ module _ (g : Given) (img : List Float) (kw : List ℕ) (k : RawKeypoint) (read 
 
   answered : r.answer ≡ given_back img (size_for g.shape) k (length out)
   unfolding orient_answer
-  answered = ap (λ (a : OrientAnswer). a.answer) told
+  answered = ap (λ (a : OrientAnswer). a.answer) told ∙ rw sized
 
-  fault_told : Undone Done r.answer → eqb fault 0 ≡ false
-  fault_told u = fault_there Done fault (length found) (Refused fault) r.answer (answered ∙ back) u
+  fault_told : (number_of r.answer ≡ 0 → ⊥) → eqb fault 0 ≡ false
+  fault_told u = fault_there number_of (Done (length found)) (Refused fault) r.answer fault refl (answered ∙ back) u
 
-  pub turn_refused : Undone Done r.answer → (st s : Standing) → s ≡ refused → s ≡ turn_step g img st kw
+  pub turn_refused : (number_of r.answer ≡ 0 → ⊥) → (st : Standing) → refused ≡ turn_step g img st kw
   unfolding turn_step fault
-  turn_refused u st s q = q ∙ rw (fault_told u)
+  turn_refused u st = rw (fault_told u)
 
-  module _ (n : ℕ) (done : r.answer ≡ Done n) (left : List ℕ) (given : left ≡ orient_out img (size_for g.shape) k out) where
+  module _ (n : ℕ) (done : r.answer ≡ Done n) (left : List ℕ) (given : left ≡ orient_out img z k out) where
     all : (eqb fault 0 ≡ true) × (length found ≡ n)
     all =
-        let q = fault_none number_of fault (Done (length found)) (Refused fault) r.answer (answered ∙ back) refl (ap number_of done) in
+        let q = fault_none number_of (Done (length found)) (Refused fault) r.answer fault (answered ∙ back) refl (ap number_of done) in
         (q.0, ap count_of (sym q.1 ∙ done))
 
     left_is : left ≡ pasted 0 (words found) out
     unfolding orient_out
-    left_is = given ∙ rw (sym answered ∙ done, read)
+    left_is = given ∙ rw (sized, sym answered ∙ done, read)
 
     pub turn_room : (oriented_words * n ≤ room_lent) × (length left ≡ room_lent)
     turn_room =

@@ -2,13 +2,12 @@
 use Rattle.std.specs.Prelude.{ℕ, ◌+◌, ◌*◌, ◌≤◌, ◌≡◌}
 use Rattle.params.specs.Limits.{max_side, max_planes, max_octave}
 use Rattle.sheet.specs.Layout.{record_size}
-use Rattle.sheet_edition.specs.Edition.{layout_for, Known}
+use Rattle.sheet_edition.specs.Edition.{layout_for}
 use Rattle.audit_keypoint.specs.Pictures.{plane_size}
 use Rattle.audit_keypoint.specs.declared.Task.{Task}
 
--- the bytes, `len` of them, have so many records of a known edition, and the octave is within its limit
+-- the bytes, `len` of them, have so many records of the edition, and the octave is within its limit
 pub record Stated (len : ℕ) (k : Task) : Type 0 where
-  pub known : Known k.edition
   pub records : record_size (layout_for k.edition) * k.count ≤ len
   pub low : k.octave ≤ max_octave
 

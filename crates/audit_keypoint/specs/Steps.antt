@@ -5,11 +5,10 @@ use Rattle.picture.specs.declared.Shape.{Shape}
 use Rattle.picture.specs.declared.Size.{Size}
 use Rattle.orient_words.specs.Oriented.{words_of}
 use Rattle.orient.specs.Entry.{orient_fault, oriented_list}
-use Rattle.descriptor_inputs.specs.Inputs.{inputs_of}
-use Rattle.descriptor_inputs.specs.declared.Inputs.{Inputs}
+use Rattle.descriptor_inputs.specs.Inputs.{inputs_of, Inputs}
 use Rattle.descriptor_run.specs.Cells.{samples_of}
 use Rattle.descriptor_words.specs.Words.{turn_at, words_at}
-use Rattle.descriptor_words.specs.declared.Spot.{Spot}
+use Rattle.picture.specs.declared.Spot.{Spot}
 use Rattle.descriptor.specs.Entry.{fault_of}
 use Rattle.words.specs.Keypoint.{keypoint_in}
 use Rattle.words.specs.Oriented.{oriented_in}
@@ -18,8 +17,7 @@ use Rattle.record.specs.Make.{make_number}
 use Rattle.sheet.specs.Layout.{Layout}
 use Rattle.sheet.specs.Words.{read_words}
 use Rattle.sheet_edition.specs.Edition.{layout_for}
-use Rattle.audit_compare.specs.Standing.{stated_in, refused, compared}
-use Rattle.audit_compare.specs.declared.Standing.{Standing}
+use Rattle.audit_compare.specs.Standing.{stated_in, refused, compared, Standing}
 use Rattle.audit_keypoint.specs.Pictures.{picture_in}
 use Rattle.audit_keypoint.specs.declared.Task.{Task}
 

@@ -9,15 +9,13 @@ ghost use Rattle.record.specs.Record.{record_of};
 ghost use Rattle.record.specs.Make.{make_number};
 ghost use Rattle.sheet.specs.Sheet.{parts};
 ghost use Rattle.sheet.specs.Words.{read_words};
-ghost use Rattle.audit_compare.specs.Standing.{refused, compared};
-ghost use Rattle.audit_keypoint.specs.Steps.{given_of, direction_step, direction_steps, turn_step, keypoint_step};
+ghost use Rattle.audit_compare.specs.Standing.{refused, standing_of, standing_told, compared};
+ghost use Rattle.audit_keypoint.specs.Steps.{size_for, given_of, direction_step, direction_steps, turn_step, keypoint_step};
 ghost use Rattle.audit_keypoint.specs.Ready.{Stated, Pictured};
 
-use audit_compare::Standing;
-use descriptor::Described;
-use descriptor_words::Spot;
-use params::Answer;
+use audit_compare::{Agreement, Stopped};
 use picture::{Shape, Size};
+use sheet::{READ_WORDS, VALUES};
 use sheet_edition::Edition;
 
 // What the records of an octave are compared with: the shape of its difference planes, its number, and the edition and the records of the sheet.
@@ -29,14 +27,13 @@ pub struct Task {
     pub count: usize,
 }
 
-// A stage has refused.
-fn stopped() -> Standing
-    ensures { result ≡ refused }
+// The size of an octave's pictures.
+fn size_of(t: Shape) -> Size
+    ensures { result ≡ size_for t }
 {
-    Standing {
-        place: 0,
-        field: 0,
-        good: false,
+    Size {
+        width: t.width,
+        height: t.height,
     }
 }
 
@@ -48,18 +45,16 @@ fn add_made(
     oriented: &[u32],
     values: &[u32],
     samples: usize,
-    st: Standing,
-) -> Standing
+    a: Agreement,
+) -> Result<Agreement, Stopped>
     requires { Stated (length body.now) k }
-    ensures { result ≡ cond (eqb (make_number (keypoint_in keypoint.now) (oriented_in oriented.now) values.now samples read_words) 0)
-        (compared (given_of body.now k).layout (given_of body.now k).stated st (record_of (keypoint_in keypoint.now) (oriented_in oriented.now) values.now samples))
+    ensures { standing_told result ≡ cond (eqb (make_number (keypoint_in keypoint.now) (oriented_in oriented.now) values.now samples read_words) 0)
+        (compared (given_of body.now k).layout (given_of body.now k).stated (standing_of a) (record_of (keypoint_in keypoint.now) (oriented_in oriented.now) values.now samples))
         refused }
 {
-    let mut made = [0u32; 139];
-    if record::make_record(keypoint, oriented, values, samples, &mut made) != 0 {
-        return stopped();
-    }
-    audit_compare::compared(k.edition, body, k.count, st, &made)
+    let mut made = [0u32; READ_WORDS];
+    record::make_record(keypoint, oriented, values, samples, &mut made)?;
+    Ok(audit_compare::compared(k.edition, body, k.count, a, &made))
 }
 
 // After the record of a direction, on a picture of the octave.
@@ -69,35 +64,15 @@ fn add_direction(
     k: Task,
     keypoint: &[u32],
     oriented: &[u32],
-    was: Standing,
-) -> Standing
+    a: Agreement,
+) -> Result<Agreement, Stopped>
     requires { Stated (length body.now) k }
-    ensures { result ≡ direction_step (given_of body.now k) img.now keypoint.now was oriented.now }
+    ensures { standing_told result ≡ direction_step (given_of body.now k) img.now keypoint.now (standing_of a) oriented.now }
 {
-    if !was.good {
-        return was;
-    }
-    let i = descriptor_inputs::descriptor_inputs(words::oriented_in(oriented), k.octave as i32);
-    if i.number != 0 {
-        return stopped();
-    }
-    let mut values = [0u32; 128];
-    let p = Spot {
-        x: i.x,
-        y: i.y,
-        scale: i.scale,
-        angle: i.angle,
-    };
-    let t = k.shape;
-    let s = Size {
-        width: t.width,
-        height: t.height,
-    };
-    let d = descriptor::compute_descriptor(img, s, p, &mut values);
-    let Described::Done(samples) = d else {
-        return stopped();
-    };
-    add_made(body, k, keypoint, oriented, &values, samples, was)
+    let spot = descriptor_inputs::descriptor_inputs(words::oriented_in(oriented), k.octave as i32)?;
+    let mut values = [0u32; VALUES];
+    let samples = descriptor::compute_descriptor(img, size_of(k.shape), spot, &mut values)?;
+    add_made(body, k, keypoint, oriented, &values, samples, a)
 }
 
 // After the records of the first n directions, six words each.
@@ -108,57 +83,58 @@ fn add_directions(
     keypoint: &[u32],
     oriented: &[u32],
     n: usize,
-    st: Standing,
-) -> Standing
+    a: Agreement,
+) -> Result<Agreement, Stopped>
     requires stated { Stated (length body.now) k }
     requires n_in_bounds { oriented_words * n ≤ length oriented.now }
-    ensures { result ≡ direction_steps (given_of body.now k) img.now keypoint.now st (parts oriented_words n oriented.now) }
+    ensures { standing_told result ≡ direction_steps (given_of body.now k) img.now keypoint.now (standing_of a) (parts oriented_words n oriented.now) }
 {
-    let mut now = st;
+    let mut now = a;
+    // A plain index: the contract counts `parts` of the words, of which j is the next, and says nothing of those behind the n.
     for j in 0..n {
         let from = 6 * j;
         let to = from + 6;
-        now = add_direction(img, body, k, keypoint, &oriented[from..to], now);
+        now = add_direction(img, body, k, keypoint, &oriented[from..to], now)?;
     }
-    now
+    Ok(now)
 }
 
 // After those of a keypoint, on a picture of the octave.
-fn add_turned(img: &[f32], body: &[u8], k: Task, keypoint: &[u32], st: Standing) -> Standing
+fn add_turned(
+    img: &[f32],
+    body: &[u8],
+    k: Task,
+    keypoint: &[u32],
+    a: Agreement,
+) -> Result<Agreement, Stopped>
     requires { Stated (length body.now) k }
-    ensures { result ≡ turn_step (given_of body.now k) img.now st keypoint.now }
+    ensures { standing_told result ≡ turn_step (given_of body.now k) img.now (standing_of a) keypoint.now }
 {
     let mut out = [0u32; 108];
-    let t = k.shape;
-    let s = Size {
-        width: t.width,
-        height: t.height,
-    };
-    let r = orient::assign_orientations(img, s, words::keypoint_in(keypoint), &mut out);
-    let a = r.answer;
-    let Answer::Done(n) = a else {
-        return stopped();
-    };
-    add_directions(img, body, k, keypoint, &out, n, st)
+    let raw = words::keypoint_in(keypoint);
+    let found = orient::assign_orientations(img, size_of(k.shape), raw, &mut out)?;
+    add_directions(img, body, k, keypoint, &out, found.count, a)
 }
 
 // After those of a keypoint, by its words: its picture is the Gaussian plane of the layer where it settled, which may be another than the one searched.
-pub fn add_keypoint(gauss: &[f32], body: &[u8], k: Task, keypoint: &[u32], st: Standing) -> Standing
+pub fn add_keypoint(
+    gauss: &[f32],
+    body: &[u8],
+    k: Task,
+    keypoint: &[u32],
+    a: Agreement,
+) -> Result<Agreement, Stopped>
     requires stated { Stated (length body.now) k }
     requires pictured { Pictured (length gauss.now) k }
-    ensures { result ≡ keypoint_step gauss.now (given_of body.now k) st keypoint.now }
+    ensures { standing_told result ≡ keypoint_step gauss.now (given_of body.now k) (standing_of a) keypoint.now }
 {
-    if !st.good {
-        return st;
-    }
-    let p = words::keypoint_in(keypoint);
-    let layer = p.layer as usize;
+    let layer = words::keypoint_in(keypoint).layer as usize;
     let t = k.shape;
     if layer > t.planes {
-        return stopped();
+        return Err(Stopped);
     }
     let size = t.height * t.width;
     let from = layer * size;
     let to = from + size;
-    add_turned(&gauss[from..to], body, k, keypoint, st)
+    add_turned(&gauss[from..to], body, k, keypoint, a)
 }

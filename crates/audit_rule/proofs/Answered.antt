@@ -17,16 +17,13 @@ use Rattle.sheet.specs.Reads.{layout_in}
 use Rattle.sheet.proofs.Parts.{length_parts}
 use Rattle.road.specs.Road.{Octave, octave_records}
 use Rattle.audit_compare.specs.Difference.{fields_of, of_octave}
-use Rattle.audit_compare.specs.Standing.{start, refused, compared, stated_in}
-use Rattle.audit_compare.specs.declared.Standing.{Standing}
+use Rattle.audit_compare.specs.Standing.{start, refused, compared, stated_in, Standing}
 use Rattle.audit_walk.specs.Walk.{passed, octave_found}
 use Rattle.audit_rule.specs.Entry.{octave_of, keypoints_in, all_of, read_good, planes_fault, sheet_fault, unless}
-use Rattle.audit_verdict.specs.Verdict.{records_verdict, header_difference, sheet_verdict}
+use Rattle.audit_verdict.specs.Verdict.{records_verdict, header_difference, sheet_verdict, Checked, Refused, Header}
 use Rattle.audit_rule.specs.Fine.{Fine}
 use Rattle.audit_verdict.specs.Told.{told_by}
 use Rattle.audit_rule.specs.Left.{answer_left}
-use Rattle.audit_verdict.specs.declared.Checked.{Checked}
-use Rattle.audit_verdict.specs.declared.Checked.TheVariants.{Refused, Header}
 use Rattle.audit_rule.proofs.Folds.{all_good_lem}
 use Rattle.audit_rule.proofs.Walked.{walked}
 use Rattle.audit_rule.proofs.Told.{told}

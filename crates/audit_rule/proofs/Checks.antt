@@ -11,8 +11,7 @@ use Rattle.picture.specs.declared.Shape.{Shape}
 use Rattle.picture.specs.declared.Size.{Size}
 use Rattle.audit_rule.specs.Entry.{form_fault, planes_fault, unless, check_answer}
 use Rattle.audit_rule.specs.Left.{answer_left}
-use Rattle.audit_verdict.specs.declared.Checked.{Checked}
-use Rattle.audit_verdict.specs.declared.Checked.TheVariants.{Refused}
+use Rattle.audit_verdict.specs.Verdict.{Checked, Refused}
 
 refuses : (f : ℕ) (x : Checked) → (f ≡ 0 → ⊥) → unless f x ≡ Refused f
 refuses zero x n = absurd (n refl)

@@ -11,10 +11,8 @@ use Rattle.params.specs.Answers.{on_fault}
 use Rattle.sheet.specs.Sheet.{all_pass}
 use Rattle.sheet.proofs.Words.{field_count}
 use Rattle.audit_compare.specs.Difference.{differs_from, first_difference}
-use Rattle.audit_verdict.specs.Verdict.{records_verdict}
+use Rattle.audit_verdict.specs.Verdict.{records_verdict, Checked, Refused, Accepted, Header, Differs, Missing, LeftOver}
 use Rattle.audit_rule.specs.Rules.{FirstAt}
-use Rattle.audit_verdict.specs.declared.Checked.{Checked}
-use Rattle.audit_verdict.specs.declared.Checked.TheVariants.{Refused, Accepted, Header, Differs, Missing, LeftOver}
 
 -- ---- where two lists of fields first differ
 

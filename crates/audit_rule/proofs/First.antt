@@ -16,10 +16,8 @@ use Rattle.sheet.specs.Writes.{frame_of}
 use Rattle.sheet.specs.Reads.{layout_in}
 use Rattle.road.specs.Road.{octave_records}
 use Rattle.audit_rule.specs.Entry.{octave_of, form_fault, planes_fault, sheet_fault, unless, check_answer}
-use Rattle.audit_verdict.specs.Verdict.{number_of, verdict_of, field_of, records_verdict, header_difference, sheet_verdict}
+use Rattle.audit_verdict.specs.Verdict.{number_of, verdict_of, field_of, records_verdict, header_difference, sheet_verdict, Checked, Accepted, Header, Differs, Missing, LeftOver}
 use Rattle.audit_rule.specs.Rules.{FirstAt, Sound, given, stated, answer, SameHeader}
-use Rattle.audit_verdict.specs.declared.Checked.{Checked}
-use Rattle.audit_verdict.specs.declared.Checked.TheVariants.{Accepted, Header, Differs, Missing, LeftOver}
 use Rattle.audit_rule.proofs.Differences.{first_at, differs_none, Outcome, differs_here, ends_here, outcome}
 use Rattle.audit_rule.proofs.Rows.{stated_rows, given_rows}
 

@@ -8,8 +8,7 @@ use lib.Dec.{eqb, leb}
 use Rattle.lists.specs.Ranges.{joined}
 use Rattle.sheet.specs.Layout.{Layout}
 use Rattle.road.specs.Road.{Among}
-use Rattle.audit_compare.specs.Standing.{refused, difference_at, moved, compared}
-use Rattle.audit_compare.specs.declared.Standing.{Standing}
+use Rattle.audit_compare.specs.Standing.{refused, difference_at, moved, compared, Standing}
 use Rattle.audit_rule.specs.Entry.{all_of}
 
 -- a record that is compared refuses nothing

@@ -17,7 +17,7 @@ use Rattle.params.proofs.Accepted.{accepted}
 use Rattle.picture.specs.declared.Shape.{Shape}
 use Rattle.picture.specs.declared.Size.{Size}
 use Rattle.sheet.specs.Layout.{record_size}
-use Rattle.sheet_edition.specs.Edition.{layout_for, Known}
+use Rattle.sheet_edition.specs.Edition.{layout_for}
 use Rattle.sheet_edition.specs.declared.Edition.{Edition}
 use Rattle.audit_keypoint.specs.Ready.{Stated, Pictured}
 use Rattle.detect.specs.Entry as Detection
@@ -121,8 +121,8 @@ searched dog gausses t octave s base f good layer a b =
 
 -- and the walk has what it asks
 module _ (dogs gausses : ℕ) (t : Shape) (octave : ℕ) (s : Settings) (base : Size) (f : Fine dogs gausses t octave s base) (e : Edition) (n : ℕ) where
-  pub stated_in_lem : (len : ℕ) → Known e → record_size (layout_for e) * n ≤ len → Stated len (record { shape = t; octave = octave; edition = e; count = n })
-  stated_in_lem len k h = record { known = k; records = h; low = f.searchable.low }
+  pub stated_in_lem : (len : ℕ) → record_size (layout_for e) * n ≤ len → Stated len (record { shape = t; octave = octave; edition = e; count = n })
+  stated_in_lem len h = record { records = h; low = f.searchable.low }
 
   pub pictured : Pictured gausses (record { shape = t; octave = octave; edition = e; count = n })
   pictured = record { whole = f.pictures; wide = f.searchable.wide; high = f.searchable.high; deep = f.planes }

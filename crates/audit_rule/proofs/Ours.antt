@@ -12,7 +12,7 @@ use lib.Seq.{get_or-take, length-take-le}
 use lib.Ieee.{Float}
 use Rattle.params.specs.Table.{line, first_fault, all_good}
 use Rattle.params.specs.declared.Settings.{Settings}
-use Rattle.params.specs.declared.Answer.TheVariants.{Done}
+use Rattle.params.specs.Answers.{Done}
 use Rattle.picture.specs.declared.Shape.{Shape}
 use Rattle.picture.specs.declared.Size.{Size}
 use Rattle.detect_keypoint.specs.declared.RawKeypoint.{RawKeypoint}
@@ -34,9 +34,8 @@ use Rattle.road.proofs.Stages.{sound}
 use Rattle.road.proofs.Writer.{whole}
 use Rattle.audit_compare.specs.Difference.{differs_from, first_difference, octave_place, fields_of, of_octave}
 use Rattle.audit_rule.specs.Entry.{octave_of, keypoints_in, all_of, read_good, planes_fault, sheet_fault, check_answer}
-use Rattle.audit_verdict.specs.Verdict.{records_verdict, header_difference, sheet_verdict}
+use Rattle.audit_verdict.specs.Verdict.{records_verdict, header_difference, sheet_verdict, Accepted}
 use Rattle.audit_rule.specs.Rules.{Sound, Ours, given, stated, answer, SameHeader, rules_words}
-use Rattle.audit_verdict.specs.declared.Checked.TheVariants.{Accepted}
 use Rattle.audit_rule.specs.Fine as Form
 use Rattle.audit_rule.proofs.Form.{searched}
 use Rattle.audit_rule.proofs.Form as Forms

@@ -16,7 +16,7 @@ use Rattle.picture.specs.declared.Size.{Size}
 use Rattle.detect_keypoint.specs.declared.RawKeypoint.{RawKeypoint}
 use Rattle.orient_words.specs.declared.OrientedKeypoint.{OrientedKeypoint}
 use Rattle.descriptor_words.specs.Words.{values_at, words_at}
-use Rattle.descriptor_words.specs.declared.Spot.{Spot}
+use Rattle.picture.specs.declared.Spot.{Spot}
 use Rattle.descriptor_laws.proofs.ValuesRules.{value_rule}
 use Rattle.record.specs.Record.{byte_of, blank_of, record_of}
 use Rattle.sheet.specs.Pack.{Slot, fields, unpack, value}

@@ -14,12 +14,10 @@ use Rattle.params.specs.Answers.{on_fault}
 use Rattle.sheet.specs.Layout.{Layout}
 use Rattle.sheet.specs.Words.{plain_words, head_words, filled, taken_words}
 use Rattle.audit_compare.specs.Difference.{differs_from, first_difference, fields_of}
-use Rattle.audit_compare.specs.Standing.{missing, start, moved, difference_at, compared}
-use Rattle.audit_compare.specs.declared.Standing.{Standing}
-use Rattle.audit_verdict.specs.Verdict.{records_verdict}
+use Rattle.audit_compare.specs.Numbered.{missing}
+use Rattle.audit_compare.specs.Standing.{start, moved, difference_at, compared, Standing}
+use Rattle.audit_verdict.specs.Verdict.{records_verdict, Checked, Accepted, Differs, Missing, LeftOver}
 use Rattle.audit_verdict.specs.Told.{told_by}
-use Rattle.audit_verdict.specs.declared.Checked.{Checked}
-use Rattle.audit_verdict.specs.declared.Checked.TheVariants.{Accepted, Differs, Missing, LeftOver}
 
 -- ---- no field has the number that stands for a missing record
 

@@ -31,8 +31,7 @@ use Rattle.road.specs.Rules.{six_unless, Making}
 use Rattle.road.proofs.Members.{from_joined}
 use Rattle.road.proofs.Stages.{sound, passed, oriented, turn, described}
 use Rattle.road.proofs.Road.{made}
-use Rattle.audit_compare.specs.Standing.{start, refused, compared}
-use Rattle.audit_compare.specs.declared.Standing.{Standing}
+use Rattle.audit_compare.specs.Standing.{start, refused, compared, Standing}
 use Rattle.audit_keypoint.specs.Pictures.{picture_in}
 use Rattle.audit_keypoint.specs.Steps.{Given, served, made_of, direction_step, direction_steps, turn_step, keypoint_step}
 use Rattle.audit_walk.specs.Walk as Walk

@@ -9,7 +9,7 @@ use borrow.Author.Tests.{eqb-true, eq-eqb, le-leb}
 use lib.Dec.{lit<}
 use lib.ListN.{length, get_or, take, drop, length-append, length-map, get_or-append, length-take}
 use lib.Seq.{take_at, get_or-take}
-use Rattle.params.specs.declared.Answer.TheVariants.{Done}
+use Rattle.params.specs.Answers.{Done}
 use Rattle.sheet.specs.Pack.{slot, Bytes}
 use Rattle.sheet.specs.Layout.{Layout, Frame, layout_of, known, header_size, header_slots, header_values, record_size, record_slots, max_count}
 use Rattle.sheet.specs.Sheet.{all_pass, Sheet, record_right, sheet_bytes, header_in, read_frame, read_count, read_sheet, bytes_right}

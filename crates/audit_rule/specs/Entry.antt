@@ -15,9 +15,7 @@ use Rattle.sheet.specs.Reads.{layout_in}
 use Rattle.road.specs.Road.{Octave, size_in, found_in, directions_of, picture_for, patch_reads, octave_records}
 use Rattle.audit_compare.specs.Difference.{of_octave}
 use Rattle.audit_keypoint.specs.Pictures.{picture_in}
-use Rattle.audit_verdict.specs.Verdict.{sheet_verdict}
-use Rattle.audit_verdict.specs.declared.Checked.{Checked}
-use Rattle.audit_verdict.specs.declared.Checked.TheVariants.{Refused}
+use Rattle.audit_verdict.specs.Verdict.{sheet_verdict, Checked, Refused}
 
 -- ---- what is checked against
 

@@ -7,8 +7,7 @@ use Rattle.sheet.specs.Writes.{frame_of}
 use Rattle.sheet.specs.Reads.{layout_in}
 use Rattle.road.specs.Road.{octave_records}
 use Rattle.audit_rule.specs.Entry.{octave_of, planes_fault, sheet_fault, unless}
-use Rattle.audit_verdict.specs.declared.Checked.{Checked}
-use Rattle.audit_verdict.specs.Verdict.{sheet_verdict}
+use Rattle.audit_verdict.specs.Verdict.{Checked, sheet_verdict}
 
 -- where the form is not refused
 unfoldable pub answer_left : List Float → List Float → Shape → ℕ → Settings → Size → List ℕ → Checked

@@ -1,7 +1,7 @@
 -- Law: what is proved of the checker of a sheet. proofs/Rules.antt proves each. Definitions only.
 use Rattle.std.specs.Prelude.{ℕ, ◌+◌, ◌-◌, ◌<◌, ◌≤◌, ◌≡◌, List, [], ◌++◌, map, length, get_or, take, drop, Float}
 use Rattle.params.specs.declared.Settings.{Settings}
-use Rattle.params.specs.declared.Answer.TheVariants.{Done}
+use Rattle.params.specs.Answers.{Done}
 use Rattle.picture.specs.declared.Shape.{Shape}
 use Rattle.picture.specs.declared.Size.{Size}
 use Rattle.detect_keypoint.specs.declared.RawKeypoint.{RawKeypoint}
@@ -16,8 +16,7 @@ use Rattle.road.specs.Back.{handed_over}
 use Rattle.road.specs.Rules.{Through, Making}
 use Rattle.audit_compare.specs.Difference.{fields_of}
 use Rattle.audit_rule.specs.Entry.{octave_of, keypoints_in, form_fault, planes_fault, check_answer}
-use Rattle.audit_verdict.specs.declared.Checked.{Checked}
-use Rattle.audit_verdict.specs.declared.Checked.TheVariants.{Accepted, Header, Differs, Missing, LeftOver}
+use Rattle.audit_verdict.specs.Verdict.{Checked, Accepted, Header, Differs, Missing, LeftOver}
 
 -- two lists of fields agree before the place f, counted from 1, and differ there
 pub record FirstAt (f : ℕ) (xs ys : List ℕ) : Type 0 where

@@ -1,9 +1,8 @@
 -- Inner: the answer that a standing tells when all records are made; no part of a public contract. Definitions only.
 use Rattle.std.specs.Prelude.{ℕ, cond, eqb, ltb}
-use Rattle.audit_compare.specs.Standing.{missing}
-use Rattle.audit_compare.specs.declared.Standing.{Standing}
-use Rattle.audit_verdict.specs.declared.Checked.{Checked}
-use Rattle.audit_verdict.specs.declared.Checked.TheVariants.{Accepted, Differs, Missing, LeftOver}
+use Rattle.audit_compare.specs.Numbered.{missing}
+use Rattle.audit_compare.specs.Standing.{Standing}
+use Rattle.audit_verdict.specs.Verdict.{Checked, Accepted, Differs, Missing, LeftOver}
 
 -- of a sheet of n records
 unfoldable pub told_by : ℕ → Standing → Checked

@@ -1,11 +1,31 @@
 -- The verdict on a sheet: the first difference between it and the records that the rules give, and an answer in numbers (rules C4, C6 and C7). Definitions only.
-use Rattle.std.specs.Prelude.{ℕ, suc, List, [], ◌∷◌, map}
-use Rattle.params.specs.Answers.{on_fault}
+use Rattle.std.specs.Prelude.{ℕ, suc, List, [], ◌∷◌, map, Result, Ok, Err}
+use Rattle.params.specs.Answers.{on_fault, refusal_number}
 use Rattle.sheet.specs.Layout.{Layout, Frame, header_values}
 use Rattle.sheet.specs.Sheet.{header_in, read_count, read_sheet}
 use Rattle.audit_compare.specs.Difference.{first_difference, fields_of}
-use Rattle.audit_verdict.specs.declared.Checked.{Checked}
-use Rattle.audit_verdict.specs.declared.Checked.TheVariants.{Refused, Accepted, Header, Differs, Missing, LeftOver}
+use Rattle.params.specs.declared.Refusal.{Refusal}
+use Rattle.audit_verdict.specs.declared.Verdict.{Verdict}
+use Rattle.audit_verdict.specs.declared.Verdict.TheVariants as verdict
+
+-- What the checker answers: refused, by its number; the sheet is the rules' own; the header differs in a field; a record differs in a field; records are missing from one on;
+-- or are left over from one on.
+pub data Checked : Type 0 where
+  Refused : ℕ → Checked
+  Accepted : Checked
+  Header : ℕ → Checked
+  Differs : ℕ → ℕ → Checked
+  Missing : ℕ → Checked
+  LeftOver : ℕ → Checked
+
+-- what a result of the code is
+abbrev pub verdict_told : Result Verdict Refusal → Checked
+verdict_told (Ok verdict.Accepted) = Accepted
+verdict_told (Ok (verdict.Header f)) = Header f
+verdict_told (Ok (verdict.Differs i f)) = Differs i f
+verdict_told (Ok (verdict.Missing i)) = Missing i
+verdict_told (Ok (verdict.LeftOver i)) = LeftOver i
+verdict_told (Err r) = Refused (refusal_number r)
 
 -- ---- the first difference
 

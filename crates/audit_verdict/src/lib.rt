@@ -1,26 +1,28 @@
-// The verdict on a sheet: what the checker answers, how a header differs, and what the standing tells when all records are made.
+// The verdict on a sheet: what the checker answers, how a header differs, and how far the records agree when all records are made.
 #![tactic(auto)]
 
-ghost use Rattle.std.specs.Prelude.{◌≡◌, true, ◌≤◌};
+ghost use Rattle.std.specs.Prelude.{◌≡◌, true, ◌≤◌, IfSome};
 ghost use Rattle.sheet.specs.Pack.{sound};
 ghost use Rattle.sheet.specs.Layout.{header_slots, header_values};
 ghost use Rattle.sheet.specs.Writes.{frame_of};
-ghost use Rattle.sheet_edition.specs.Edition.{layout_for, Known};
+ghost use Rattle.sheet_edition.specs.Edition.{layout_for};
 ghost use Rattle.sheet_fields.specs.Fields.{header_list};
 ghost use Rattle.audit_compare.specs.Difference.{first_difference};
-ghost use Rattle.audit_verdict.specs.Verdict.{number_of, verdict_of, place_of, field_of};
+ghost use Rattle.audit_compare.specs.Numbered.{IsField};
+ghost use Rattle.audit_compare.specs.Standing.{number_or_none, standing_of};
+ghost use Rattle.audit_verdict.specs.Verdict.{verdict_told, verdict_of, place_of, field_of};
 ghost use Rattle.audit_verdict.specs.Told.{told_by};
 
-use audit_compare::{MISSING, Standing};
+use audit_compare::{Agreement, Difference};
+use params::Refusal;
 use picture::Size;
 use sheet_edition::Edition;
 use sheet_fields::Header;
 
-// What the checker answers: refused, by its number; the sheet is the rules' own; the header differs in a field; a record differs in a field; records are missing from one on;
-// or are left over from one on.
-#[derive(Clone, Copy)]
-pub enum Checked {
-    Refused(u32),
+// What the checker answers where nothing is refused: the sheet is the rules' own; the header differs in a field; a record differs in a field; records are missing from one on; or are
+// left over from one on.
+#[derive(Clone, Copy, Debug, PartialEq, Eq)]
+pub enum Verdict {
     Accepted,
     Header(u32),
     Differs(usize, u32),
@@ -28,93 +30,67 @@ pub enum Checked {
     LeftOver(usize),
 }
 
-// The field in which a header that keeps the rules differs from that of a frame: only width, height and layers can. 0 for none.
-pub fn header_difference(e: Edition, h: Header, base: Size, layers: usize) -> u32
-    requires known_1 { Known e }
-    requires known_2 { sound (header_slots (layout_for e)) (header_list h) ≡ true }
+// The field in which a header that keeps the rules differs from that of a frame: only width, height and layers can.
+pub fn header_difference(e: Edition, h: Header, base: Size, layers: usize) -> Option<u32>
+    requires known { sound (header_slots (layout_for e)) (header_list h) ≡ true }
     requires le_width { (1 ≤ base.width) × (1 ≤ base.height) }
-    ensures { result ≡ first_difference (header_values (layout_for e) (frame_of base.width base.height layers) h.count) (header_list h) }
+    ensures is_field { IfSome result IsField }
+    ensures value { number_or_none result ≡ first_difference (header_values (layout_for e) (frame_of base.width base.height layers) h.count) (header_list h) }
 {
-    let wide = base.width - 1;
-    let high = base.height - 1;
-    if wide as u64 != h.width {
-        return 2;
+    let wide = base.width as u64 - 1;
+    let high = base.height as u64 - 1;
+    if wide != h.width {
+        return Some(2);
     }
-    if high as u64 != h.height {
-        return 3;
+    if high != h.height {
+        return Some(3);
     }
     if layers as u64 != h.layers {
-        return 4;
+        return Some(4);
     }
-    0
+    None
 }
 
-// What the standing tells when all records are made, of a sheet of n records.
-pub fn told(n: usize, st: Standing) -> Checked
-    ensures { result ≡ told_by n st }
+// What the agreement tells when all records are made, of a sheet of n records.
+pub fn told(n: usize, a: Agreement) -> Verdict
+    ensures { verdict_told (Ok result) ≡ told_by n (standing_of a) }
 {
-    if st.field == 0 {
-        if st.place < n {
-            return Checked::LeftOver(st.place);
-        }
-        return Checked::Accepted;
+    match a.difference {
+        Some(Difference::Field(field)) => Verdict::Differs(a.place, field),
+        Some(Difference::Missing) => Verdict::Missing(a.place),
+        None if a.place < n => Verdict::LeftOver(a.place),
+        None => Verdict::Accepted,
     }
-    if st.field == MISSING {
-        return Checked::Missing(st.place);
-    }
-    Checked::Differs(st.place, st.field)
 }
 
 // ---- an answer in numbers
 
-pub fn number_of(a: Checked) -> u32
-    ensures { result ≡ number_of a }
+pub fn verdict_of(answer: Result<Verdict, Refusal>) -> u32
+    ensures { result ≡ verdict_of (verdict_told answer) }
 {
-    match a {
-        Checked::Refused(k) => k,
-        Checked::Accepted => 0,
-        Checked::Header(_) => 0,
-        Checked::Differs(_, _) => 0,
-        Checked::Missing(_) => 0,
-        Checked::LeftOver(_) => 0,
+    match answer {
+        Err(_) | Ok(Verdict::Accepted) => 0,
+        Ok(Verdict::Header(_)) => 1,
+        Ok(Verdict::Differs(_, _)) => 2,
+        Ok(Verdict::Missing(_)) => 3,
+        Ok(Verdict::LeftOver(_)) => 4,
     }
 }
 
-pub fn verdict_of(a: Checked) -> u32
-    ensures { result ≡ verdict_of a }
+pub fn place_of(answer: Result<Verdict, Refusal>) -> usize
+    ensures { result ≡ place_of (verdict_told answer) }
 {
-    match a {
-        Checked::Refused(_) => 0,
-        Checked::Accepted => 0,
-        Checked::Header(_) => 1,
-        Checked::Differs(_, _) => 2,
-        Checked::Missing(_) => 3,
-        Checked::LeftOver(_) => 4,
+    match answer {
+        Err(_) | Ok(Verdict::Accepted | Verdict::Header(_)) => 0,
+        Ok(Verdict::Differs(i, _) | Verdict::Missing(i) | Verdict::LeftOver(i)) => i,
     }
 }
 
-pub fn place_of(a: Checked) -> usize
-    ensures { result ≡ place_of a }
+pub fn field_of(answer: Result<Verdict, Refusal>) -> u32
+    ensures { result ≡ field_of (verdict_told answer) }
 {
-    match a {
-        Checked::Refused(_) => 0,
-        Checked::Accepted => 0,
-        Checked::Header(_) => 0,
-        Checked::Differs(i, _) => i,
-        Checked::Missing(i) => i,
-        Checked::LeftOver(i) => i,
-    }
-}
-
-pub fn field_of(a: Checked) -> u32
-    ensures { result ≡ field_of a }
-{
-    match a {
-        Checked::Refused(_) => 0,
-        Checked::Accepted => 0,
-        Checked::Header(f) => f,
-        Checked::Differs(_, f) => f,
-        Checked::Missing(_) => 0,
-        Checked::LeftOver(_) => 0,
+    match answer {
+        Ok(Verdict::Header(f) | Verdict::Differs(_, f)) => f,
+        _ => 0,
     }
 }

@@ -1,7 +1,6 @@
 -- The words that the search of a block leaves: how many keypoints they are, and that they are the block's. Assumes nothing.
 use Prim.Native.Nat.{ℕ, ◌-◌, ◌*◌, ◌≤◌}
 use mathlib.Core.Path.{◌≡◌, refl, sym, ap, ◌∙◌}
-use mathlib.Core.Bool.{false}
 use mathlib.Core.List.{List, [], ◌∷◌, ◌++◌, foldl, map}
 use native.Mathlib.Omega.{arith}
 use lib.ListN.{length}
@@ -17,9 +16,10 @@ use Rattle.detect_extrema.specs.Neighbours.{tied}
 use Rattle.detect_extrema.specs.Scan.{cells_of, words, words_of}
 use Rattle.detect_extrema.proofs.Rows.{cells_bound}
 use Rattle.detect_words.proofs.Words.{length_words, words_append, words_none}
+use Rattle.detect_words.specs.declared.Form.TheVariants.{KeypointWords}
 use Rattle.detect_rows.specs.Forms.{run_leaves}
 use Rattle.detect_rows.proofs.Forms.{both_run}
-use Rattle.audit_compare.specs.declared.Standing.{Standing}
+use Rattle.audit_compare.specs.Standing.{Standing}
 use Rattle.audit_keypoint.specs.Steps.{Given, keypoint_step}
 use Rattle.audit_walk.specs.Walk.{passed}
 
@@ -30,19 +30,19 @@ parts_words [] end = refl
 parts_words (k ∷ ks) end = rw (parts_words ks end)
 
 module _ (d : List Float) (t : Shape) (s : Search) (r lo hi : ℕ) where
-  run_left : run_leaves false d t s r lo hi ≡ words (cells_of tied d t s r lo hi)
+  run_left : run_leaves KeypointWords d t s r lo hi ≡ words (cells_of tied d t s r lo hi)
   run_left =
-      both_run d t s false (λ ws ks. ws ≡ words ks) (sym words_none) (λ a a' b b' p q. rw (p, q) (sym (words_append b b'))) r lo hi (λ c _ _ k _. refl)
+      both_run d t s KeypointWords (λ ws ks. ws ≡ words ks) (sym words_none) (λ a a' b b' p q. rw (p, q) (sym (words_append b b'))) r lo hi (λ c _ _ k _. refl)
 
   abbrev ks : List RawKeypoint
   ks = cells_of tied d t s r lo hi
 
   -- ten words are left of each, and no cell gives more than one
-  pub block_count : (n : ℕ) → n ≡ length (run_leaves false d t s r lo hi) → (n ≡ keypoint_words * length ks) × (length ks ≤ hi - lo)
+  pub block_count : (n : ℕ) → n ≡ length (run_leaves KeypointWords d t s r lo hi) → (n ≡ keypoint_words * length ks) × (length ks ≤ hi - lo)
   block_count n c = (c ∙ ap length run_left ∙ length_words ks, cells_bound tied d t s r lo hi)
 
   -- so where there is room their words stand in front, and each ten are a keypoint
-  module _ (old new : List ℕ) (room : keypoint_words * (hi - lo) ≤ length old) (e : new ≡ sets old 0 (run_leaves false d t s r lo hi)) where
+  module _ (old new : List ℕ) (room : keypoint_words * (hi - lo) ≤ length old) (e : new ≡ sets old 0 (run_leaves KeypointWords d t s r lo hi)) where
     block_parts : parts keypoint_words (length ks) new ≡ map words_of ks
     block_parts =
         let q = sets_front old (words ks) (omega (arith, length_words ks, cells_bound tied d t s r lo hi)) in

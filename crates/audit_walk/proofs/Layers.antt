@@ -11,7 +11,7 @@ use Rattle.detect_refine.specs.Place.{Searched}
 use Rattle.detect_extrema.specs.Neighbours.{tied}
 use Rattle.detect_extrema.specs.Scan.{keypoints}
 use Rattle.detect.specs.Entry.{list_of}
-use Rattle.audit_compare.specs.declared.Standing.{Standing}
+use Rattle.audit_compare.specs.Standing.{Standing}
 use Rattle.audit_keypoint.specs.Steps.{Given}
 use Rattle.audit_walk.specs.Walk.{passed, Searchable}
 

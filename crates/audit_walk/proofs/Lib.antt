@@ -1,5 +1,6 @@
 mod Parts
 mod Passed
 mod Blocks
+mod Row
 mod Borders
 mod Layers

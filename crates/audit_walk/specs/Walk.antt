@@ -9,7 +9,7 @@ use Rattle.picture.specs.declared.Shape.{Shape}
 use Rattle.detect_keypoint.specs.declared.RawKeypoint.{RawKeypoint}
 use Rattle.detect_extrema.specs.Scan.{words_of}
 use Rattle.detect.specs.Entry.{list_of}
-use Rattle.audit_compare.specs.declared.Standing.{Standing}
+use Rattle.audit_compare.specs.Standing.{Standing}
 use Rattle.audit_keypoint.specs.Steps.{Given, keypoint_step}
 
 -- after the keypoints of a list

@@ -1,35 +1,17 @@
-use mathlib.Core.Path.{sym, ◌∙◌}
+use mathlib.Core.Path.{refl, ap, ◌∙◌}
+use mathlib.Core.List.{List}
+use Prim.Native.Nat.{ℕ}
 use native.Mathlib.Omega.{arith}
-use borrow.Author.Rules.{rules}
-use Rattle.sheet.specs.Layout.{record_size}
-use Rattle.sheet.proofs.Steps.{pass_good, pass_bad, pass_end, pass_start}
+use Rattle.std.proofs.Common.{rules}
+use Rattle.std.proofs.lemmas.Iterator.{YieldsList-from_range}
+use Rattle.std.proofs.lemmas.Iterator.Search.{all_from_yields_List}
 use Rattle.sheet_edition.specs.Edition.{layout_for}
-use Rattle.audit_compare.proofs.Octaves.{octave_right, octave_good, octave_bad, octaves_are}
+use Rattle.audit_compare.proofs.Octaves.{right_at, octaves_are}
 use Rattle.audit_compare.proofs.octaves_right.Goals as goal
-
-pub loop-i-init : goal.loop-i-init
-loop-i-init c =
-    let l = layout_for c.args.e in
-    (search rules, pass_start (octave_right l c.args.octave) (record_size l) c.args.n c.args.body.now ∙ octaves_are l c.args.octave c.args.n c.args.body.now)
-
-pub returns-then-words-octave : goal.returns-then-words-octave
-returns-then-words-octave c =
-    let t = c.loop-i in
-    let l = layout_for c.args.e in
-    sym (pass_bad (octave_right l c.args.octave) (record_size l) c.args.n t.i c.args.body.now c.loop-i-test.true (octave_bad l c.args.octave _ _ c.words_at-words.ensures c.if-words-octave.true))
-    ∙ t.invariant.1
-
-pub loop-i-preserved : goal.loop-i-preserved
-loop-i-preserved c =
-    let t = c.loop-i in
-    let l = layout_for c.args.e in (
-      omega arith,
-      pass_good (octave_right l c.args.octave) (record_size l) c.args.n t.i c.args.body.now c.loop-i-test.true (octave_good l c.args.octave _ _ c.words_at-words.ensures c.if-words-octave.false)
-          ∙ t.invariant.1,
-    )
 
 pub returns : goal.returns
 returns c =
-    let t = c.loop-i in
-    let l = layout_for c.args.e in
-    sym (pass_end (octave_right l c.args.octave) (record_size l) c.args.n t.i c.args.body.now c.loop-i-test.false) ∙ t.invariant.1
+    let a = c.args in
+    let l = layout_for a.e in
+    all_from_yields_List (right_at l a.octave a.n a.body.now) _ _ _ c.all.ensures.ran (YieldsList-from_range 0 a.n a.n refl (omega arith)) (λ x b q k. search rules)
+    ∙ octaves_are l a.octave a.n a.body.now

@@ -2,18 +2,13 @@
 use native.Mathlib.Omega.{arith}
 use Rattle.audit_keypoint.specs.Pictures.{plane_size}
 use Rattle.audit_keypoint.specs.Steps.{given_of}
-use Rattle.audit_keypoint.proofs.Keypoint.{plane_inside, keypoint_over, keypoint_above, keypoint_turned}
+use Rattle.audit_keypoint.proofs.Keypoint.{plane_inside, keypoint_above, keypoint_turned}
 use Rattle.audit_keypoint.proofs.add_keypoint.Goals as goal
-
-pub returns-then-not-st : goal.returns-then-not-st
-returns-then-not-st c =
-    let a = c.args in
-    keypoint_over a.gauss.now (given_of a.body.now a.k) a.st a.keypoint.now c.if-not-st.true
 
 pub returns-then-layer-t : goal.returns-then-layer-t
 returns-then-layer-t c =
     let a = c.args in
-    keypoint_above a.gauss.now (given_of a.body.now a.k) a.st a.keypoint.now c.if-not-st.false _ c.keypoint_in-p.ensures c.if-layer-t.true _ c.stopped.ensures
+    keypoint_above a.gauss.now (given_of a.body.now a.k) a.keypoint.now a.a _ c.keypoint_in-layer.ensures c.if-layer-t.true
 
 pub overflow_mul-from : goal.overflow_mul-from
 overflow_mul-from c = omega (arith, plane_inside _ _ (plane_size c.args.k.shape) _ c.if-layer-t.false c.requires.pictured.whole)
@@ -30,4 +25,4 @@ slice_bounds-add_turned-end c = omega (arith, plane_inside _ _ (plane_size c.arg
 pub returns : goal.returns
 returns c =
     let a = c.args in
-    keypoint_turned a.gauss.now (given_of a.body.now a.k) a.st a.keypoint.now c.if-not-st.false _ c.keypoint_in-p.ensures c.if-layer-t.false _ c.add_turned.ensures
+    keypoint_turned a.gauss.now (given_of a.body.now a.k) a.keypoint.now a.a _ c.keypoint_in-layer.ensures c.if-layer-t.false _ c.add_turned.ensures

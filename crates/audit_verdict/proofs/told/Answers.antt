@@ -1,28 +1,23 @@
-use borrow.Author.Tests.{eq-eqb, ne_eqb, lt-ltb, le-ltb}
-use Rattle.audit_compare.specs.Standing.{missing}
-use Rattle.audit_verdict.specs.Told.{told_by}
+use mathlib.Core.Path.{◌≡◌, ap, ◌∙◌}
+use Rattle.std.specs.Prelude.{Some}
+use Rattle.audit_compare.specs.declared.agreement.Difference.TheVariants.{Field, Missing}
+use Rattle.audit_verdict.proofs.Numbers.{told_differs, told_missing, told_over, told_all}
 use Rattle.audit_verdict.proofs.told.Goals as goal
 
-pub returns-then-st-n : goal.returns-then-st-n
-unfolding told_by
-returns-then-st-n c =
-    let a = c.args in
-    rw (eq-eqb a.st.field 0 c.if-st-eq0.true, lt-ltb a.st.place a.n c.if-st-n.true)
+pub returns-in-Some-Field : goal.returns-in-Some-Field
+returns-in-Some-Field c =
+    let d = c.in-Some-Field in
+    let e : d.field-0 ≡ Field d.field = rw d.is at d.field-0-is in
+    told_differs c.args.n c.args.a d.field (d.is ∙ ap Some e)
 
-pub returns-then-st-eq0 : goal.returns-then-st-eq0
-unfolding told_by
-returns-then-st-eq0 c =
-    let a = c.args in
-    rw (eq-eqb a.st.field 0 c.if-st-eq0.true, le-ltb a.st.place a.n c.if-st-n.false)
+pub returns-in-Some-Missing : goal.returns-in-Some-Missing
+returns-in-Some-Missing c =
+    let d = c.in-Some-Missing in
+    let e : d.field-0 ≡ Missing = rw d.is at d.field-0-is in
+    told_missing c.args.n c.args.a (d.is ∙ ap Some e)
 
-pub returns-then-st-eq-MISSING : goal.returns-then-st-eq-MISSING
-unfolding told_by
-returns-then-st-eq-MISSING c =
-    let a = c.args in
-    rw (ne_eqb a.st.field 0 c.if-st-eq0.false, eq-eqb a.st.field missing c.if-st-eq-MISSING.true)
+pub returns-in-None : goal.returns-in-None
+returns-in-None c = told_over c.args.n c.args.a c.in-None.is c.if-a-n.true
 
-pub returns : goal.returns
-unfolding told_by
-returns c =
-    let a = c.args in
-    rw (ne_eqb a.st.field 0 c.if-st-eq0.false, ne_eqb a.st.field missing c.if-st-eq-MISSING.false)
+pub returns-in-None-2 : goal.returns-in-None-2
+returns-in-None-2 c = told_all c.args.n c.args.a c.in-None.is c.if-a-n.false

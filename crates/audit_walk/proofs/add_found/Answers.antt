@@ -1,29 +1,28 @@
-use mathlib.Core.Path.{◌≡◌, sym}
+use mathlib.Core.Path.{◌≡◌, sym, ◌∙◌}
 use native.Mathlib.Omega.{arith}
 use Rattle.params.specs.Limits.{keypoint_words}
+use Rattle.audit_compare.specs.Standing.{standing_of}
 use Rattle.audit_keypoint.specs.Steps.{given_of, keypoint_step}
 use Rattle.audit_keypoint.proofs.Cut.{fold_none}
-use Rattle.audit_walk.proofs.Parts.{part_next}
+use Rattle.audit_keypoint.proofs.Fault.{stopped}
+use Rattle.audit_walk.proofs.Parts.{part_next, part_refused}
 use Rattle.audit_walk.proofs.add_found.Goals as goal
 
 pub loop-i-init : goal.loop-i-init
 loop-i-init c = (omega arith, sym (fold_none _ _ keypoint_words _))
 
-pub add_keypoint-now-requires-clause-stated : goal.add_keypoint-now-requires-clause-stated
-add_keypoint-now-requires-clause-stated c =
-    let p = c.requires in
-    p.stated
-
-pub add_keypoint-now-requires-clause-pictured : goal.add_keypoint-now-requires-clause-pictured
-add_keypoint-now-requires-clause-pictured c =
-    let p = c.requires in
-    p.pictured
+pub returns-in_err-now : goal.returns-in_err-now
+returns-in_err-now c =
+    let l = c.loop-i in
+    let a = c.args in
+    stopped c.from_residual.result c.from_residual.ensures.0
+    ∙ part_refused a.gauss.now (given_of a.body.now a.k) a.found.now l.i a.n (standing_of a.a) (standing_of l.now) c.loop-i-test.true l.invariant.1 c.in_err-now.ensures
 
 pub loop-i-preserved : goal.loop-i-preserved
 loop-i-preserved c =
     let l = c.loop-i in
     let a = c.args in
-    (omega arith, part_next a.found.now l.i (keypoint_step a.gauss.now (given_of a.body.now a.k)) a.st l.now _ l.invariant.1 c.add_keypoint-now.ensures)
+    (omega arith, part_next a.found.now l.i (keypoint_step a.gauss.now (given_of a.body.now a.k)) (standing_of a.a) (standing_of l.now) _ l.invariant.1 c.in_ok-now.ensures)
 
 pub returns : goal.returns
 returns c =

@@ -36,12 +36,10 @@
  * Stack, in bytes, that a call takes at most on x86-64, what memcpy and memset take not counted. A test measures it:
  *
  *   thin: 32768
- *   check_sheet: 16384
+ *   check_sheet: 12288
  *   find_extrema: 12288
- *   compute_descriptor: 9216
- *   assign_orientations: 7168
- *   exp2, exp: 2560
- *   angle: 1536
+ *   compute_descriptor: 4096
+ *   assign_orientations: 2048
  *   make_record: 1024
  *   all others: 512
  */

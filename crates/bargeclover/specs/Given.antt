@@ -3,7 +3,7 @@ use Rattle.std.specs.Prelude.{ℕ, Float}
 use Rattle.params.specs.declared.Settings.{Settings}
 use Rattle.picture.specs.declared.Shape.{Shape}
 use Rattle.picture.specs.declared.Size.{Size}
-use Rattle.descriptor_words.specs.declared.Spot.{Spot}
+use Rattle.picture.specs.declared.Spot.{Spot}
 
 abbrev pub settings_of : Float → Float → Float → ℕ → Settings
 settings_of contrast edge sigma layers = record { contrast = contrast; edge = edge; sigma = sigma; layers = layers }

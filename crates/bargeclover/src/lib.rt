@@ -28,9 +28,8 @@ ghost use Rattle.hal_turn.specs.Turn.{sin_of, cos_of};
 ghost use Rattle.hal_angle.specs.Angle.{angle_of};
 ghost use Rattle.hal_magnitude.specs.Magnitude.{magnitude_of};
 
-use descriptor_words::Spot;
 use params::Settings;
-use picture::{Shape, Size};
+use picture::{Shape, Size, Spot};
 
 // ---- routines
 
@@ -140,15 +139,15 @@ pub fn bargeclover_find_extrema(
     ensures out_after { out.new ≡ extrema_out dog.now (shape_of width height planes) layer octave (settings_of contrast edge sigma layers) out.old }
 {
     let s = Settings {
-        contrast: contrast,
-        edge: edge,
-        sigma: sigma,
-        layers: layers,
+        contrast,
+        edge,
+        sigma,
+        layers,
     };
     let t = Shape {
-        width: width,
-        height: height,
-        planes: planes,
+        width,
+        height,
+        planes,
     };
     let a = detect::find_extrema(dog, t, layer, octave, s, out);
     *count = params::count_of(a);
@@ -172,15 +171,19 @@ pub fn bargeclover_assign_orientations(
     ensures out_after { out.new ≡ orient_out img.now (size_of width height) (keypoint_in keypoint.now) out.old }
 {
     let k = words::keypoint_in(keypoint);
-    let s = Size {
-        width: width,
-        height: height,
-    };
-    let r = orient::assign_orientations(img, s, k, out);
-    let a = r.answer;
-    *count = params::count_of(a);
-    *samples = r.samples;
-    params::number_of(a)
+    let s = Size { width, height };
+    match orient::assign_orientations(img, s, k, out) {
+        Ok(oriented) => {
+            *count = oriented.count;
+            *samples = oriented.samples;
+            0
+        }
+        Err(refusal) => {
+            *count = refusal.count();
+            *samples = 0;
+            refusal.number()
+        }
+    }
 }
 
 // ---- the descriptor's inputs
@@ -189,8 +192,8 @@ pub fn bargeclover_descriptor_inputs(oriented: &[u32], octave: i32, out: &mut [u
     ensures value { result ≡ inputs_number (inputs_of (oriented_in oriented.now) octave) (length out.old) }
     ensures out_after { out.new ≡ inputs_left (inputs_of (oriented_in oriented.now) octave) out.old }
 {
-    let i = descriptor_inputs::descriptor_inputs(words::oriented_in(oriented), octave);
-    words::give_inputs(i, out)
+    let inputs = descriptor_inputs::descriptor_inputs(words::oriented_in(oriented), octave);
+    params::number_of(words::give_inputs(inputs, out))
 }
 
 // ---- the descriptor
@@ -212,16 +215,8 @@ pub fn bargeclover_compute_descriptor(
     ensures samples_after { samples.new ≡ used_of (described_of img.now (size_of width height) (spot_of x y scale angle) (length out.old)) }
     ensures out_after { out.new ≡ described_out img.now (size_of width height) (spot_of x y scale angle) out.old }
 {
-    let s = Size {
-        width: width,
-        height: height,
-    };
-    let p = Spot {
-        x: x,
-        y: y,
-        scale: scale,
-        angle: angle,
-    };
+    let s = Size { width, height };
+    let p = Spot { x, y, scale, angle };
     let a = descriptor::compute_descriptor(img, s, p, out);
     *count = descriptor::count_of(a);
     *samples = descriptor::used_of(a);
@@ -260,7 +255,7 @@ pub fn bargeclover_make_record(
     ensures value { result ≡ make_number (keypoint_in keypoint.now) (oriented_in oriented.now) values.now samples (length out.old) }
     ensures out_after { out.new ≡ make_left (keypoint_in keypoint.now) (oriented_in oriented.now) values.now samples out.old }
 {
-    record::make_record(keypoint, oriented, values, samples, out)
+    params::number_of(record::make_record(keypoint, oriented, values, samples, out))
 }
 
 pub fn bargeclover_write_sheet(
@@ -298,14 +293,24 @@ pub fn bargeclover_read_sheet(
     ensures layers_after { layers.new ≡ (read_answer sheet.now (length out.old)).layers }
     ensures out_after { out.new ≡ read_out sheet.now out.old }
 {
-    let r = sheet_read::read_sheet(sheet, out);
-    let a = r.answer;
-    *count = params::count_of(a);
-    *edition = r.edition;
-    *width = r.width;
-    *height = r.height;
-    *layers = r.layers;
-    params::number_of(a)
+    match sheet_read::read_sheet(sheet, out) {
+        Ok(heading) => {
+            *count = heading.count;
+            *edition = heading.edition;
+            *width = heading.width;
+            *height = heading.height;
+            *layers = heading.layers;
+            0
+        }
+        Err(refusal) => {
+            *count = refusal.count();
+            *edition = 0;
+            *width = 0;
+            *height = 0;
+            *layers = 0;
+            refusal.number()
+        }
+    }
 }
 
 // ---- a sheet checked against the planes that it was made of
@@ -352,5 +357,5 @@ pub fn bargeclover_check_sheet(
     *verdict = audit_verdict::verdict_of(a);
     *place = audit_verdict::place_of(a);
     *field = audit_verdict::field_of(a);
-    audit_verdict::number_of(a)
+    params::number_of(a)
 }

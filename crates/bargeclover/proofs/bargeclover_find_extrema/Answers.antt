@@ -1,11 +1,12 @@
-use mathlib.Core.Path.{◌∙◌, ap}
+use mathlib.Core.Path.{sym, ◌∙◌, ap}
 use Rattle.params.specs.Answers.{number_of, count_of}
+use Rattle.params.proofs.Told.{number_told}
 use Rattle.bargeclover.proofs.bargeclover_find_extrema.Goals as goal
 
 pub returns-clause-value : goal.returns-clause-value
 returns-clause-value c =
     let found = c.find_extrema-a.ensures in
-    c.number_of.ensures ∙ ap number_of found.value
+    c.number_of.ensures ∙ sym (number_told c.find_extrema-a.result) ∙ ap number_of found.value
 
 pub returns-clause-count_after : goal.returns-clause-count_after
 returns-clause-count_after c =

@@ -3,13 +3,103 @@
 // what is asked, x and y by their f32 bits, and the value as an f64's bits.
 #![tactic(auto)]
 
-ghost use Rattle.std.specs.Prelude.{◌<◌};
+use run_vectors::{Record, Tally};
+use std::{fmt, io};
 
-use std::io;
-use std::io::Read;
+// What is asked of the routines: a value, or that there is none.
+#[derive(Clone, Copy, Debug, PartialEq, Eq)]
+enum Question {
+    Exp2,
+    Exp,
+    Sine,
+    Cosine,
+    Angle,
+    Magnitude,
+    TinyMagnitude,
+    OutsideExp2,
+    OutsideExp,
+    OutsideSine,
+    OutsideCosine,
+    OutsideAngle,
+    OutsideMagnitude,
+}
 
-// The row of what is not asked.
-const NONE: usize = 13;
+const QUESTIONS: [Question; 13] = [
+    Question::Exp2,
+    Question::Exp,
+    Question::Sine,
+    Question::Cosine,
+    Question::Angle,
+    Question::Magnitude,
+    Question::TinyMagnitude,
+    Question::OutsideExp2,
+    Question::OutsideExp,
+    Question::OutsideSine,
+    Question::OutsideCosine,
+    Question::OutsideAngle,
+    Question::OutsideMagnitude,
+];
+
+// A number by which nothing is asked.
+#[derive(Clone, Copy, Debug, PartialEq, Eq)]
+struct NoQuestion;
+
+impl TryFrom<u32> for Question {
+    type Error = NoQuestion;
+
+    fn try_from(number: u32) -> Result<Question, NoQuestion> {
+        match number {
+            1 => Ok(Question::Exp2),
+            2 => Ok(Question::Exp),
+            3 => Ok(Question::Sine),
+            4 => Ok(Question::Cosine),
+            5 => Ok(Question::Angle),
+            6 => Ok(Question::Magnitude),
+            7 => Ok(Question::TinyMagnitude),
+            9 => Ok(Question::OutsideExp2),
+            10 => Ok(Question::OutsideExp),
+            11 => Ok(Question::OutsideSine),
+            12 => Ok(Question::OutsideCosine),
+            13 => Ok(Question::OutsideAngle),
+            14 => Ok(Question::OutsideMagnitude),
+            _ => Err(NoQuestion),
+        }
+    }
+}
+
+impl fmt::Display for Question {
+    fn fmt<W: fmt::Write>(&self, f: &mut fmt::Formatter<W>) -> fmt::Result {
+        f.write_str(match self {
+            Question::Exp2 => "exp2",
+            Question::Exp => "exp",
+            Question::Sine => "sine",
+            Question::Cosine => "cosine",
+            Question::Angle => "angle",
+            Question::Magnitude => "magnitude",
+            Question::TinyMagnitude => "tiny magnitude",
+            Question::OutsideExp2 => "outside exp2's range",
+            Question::OutsideExp => "outside exp's range",
+            Question::OutsideSine => "outside the sine's range",
+            Question::OutsideCosine => "outside the cosine's range",
+            Question::OutsideAngle => "outside the angle's range",
+            Question::OutsideMagnitude => "outside the magnitude's range",
+        })
+    }
+}
+
+// What is said of the answers that are not good.
+fn complaint(question: Question) -> &'static str {
+    match question {
+        Question::Exp2
+        | Question::Exp
+        | Question::Sine
+        | Question::Cosine
+        | Question::Angle
+        | Question::Magnitude => "outside the bound",
+        Question::TinyMagnitude => "not the root of the fused sum",
+        _ => "answered with a number",
+    }
+}
 
 // The size of a - b: a not-a-number where either is one, which no bound holds.
 fn apart(a: f64, b: f64) -> f64 {
@@ -40,78 +130,53 @@ fn number(x: f32) -> f64 {
     std::num::f32_to_f64_with_nan(x)
 }
 
-fn is_nan(x: f32) -> bool {
-    x != x
-}
-
-// Whether the answer to what is asked is good.
-fn good(op: u32, x: f32, y: f32, v: f64) -> bool {
-    match op {
-        1 => near(number(hal::exp2(x)), v),
-        2 => near(number(hal::exp(x)), v),
-        3 => near_one(number(hal_turn::sin(x)), v),
-        4 => near_one(number(hal_turn::cos(x)), v),
-        5 => near_turn(number(hal_angle::angle(x, y)), v),
-        6 => near(number(hal_magnitude::magnitude(x, y)), v),
-        7 => number(hal_magnitude::magnitude(x, y)) == v,
-        9 => is_nan(hal::exp2(x)),
-        10 => is_nan(hal::exp(x)),
-        11 => is_nan(hal_turn::sin(x)),
-        12 => is_nan(hal_turn::cos(x)),
-        13 => is_nan(hal_angle::angle(x, y)),
-        14 => is_nan(hal_magnitude::magnitude(x, y)),
-        _ => false,
+// Whether the answer to a question is good.
+fn is_good(question: Question, x: f32, y: f32, v: f64) -> bool {
+    match question {
+        Question::Exp2 => near(number(hal::exp2(x)), v),
+        Question::Exp => near(number(hal::exp(x)), v),
+        Question::Sine => near_one(number(hal_turn::sin(x)), v),
+        Question::Cosine => near_one(number(hal_turn::cos(x)), v),
+        Question::Angle => near_turn(number(hal_angle::angle(x, y)), v),
+        Question::Magnitude => near(number(hal_magnitude::magnitude(x, y)), v),
+        Question::TinyMagnitude => number(hal_magnitude::magnitude(x, y)) == v,
+        Question::OutsideExp2 => hal::exp2(x).is_nan(),
+        Question::OutsideExp => hal::exp(x).is_nan(),
+        Question::OutsideSine => hal_turn::sin(x).is_nan(),
+        Question::OutsideCosine => hal_turn::cos(x).is_nan(),
+        Question::OutsideAngle => hal_angle::angle(x, y).is_nan(),
+        Question::OutsideMagnitude => hal_magnitude::magnitude(x, y).is_nan(),
     }
 }
 
-// Its row among the counts: 8 is nothing that is asked.
-fn row(op: u32) -> usize
-    ensures { result < 14 }
-{
-    match op {
-        1..=7 => op as usize - 1,
-        9..=14 => op as usize - 2,
-        _ => NONE,
-    }
+// What is counted: of each question, and of what is none.
+#[derive(Clone, Copy, Debug, Default)]
+struct Counts {
+    of: [Tally; 13],
+    of_none: Tally,
 }
 
-// Tries records until the file ends, and answers how many bytes were left over. The count of turns is more than any file here has.
-fn replay(file: &mut impl Read, counts: &mut [u64; 32]) -> io::Result<usize> {
-    for _ in 0..10_000_000u32 {
-        let r = run_vectors::next(file)?;
-        if r.got < 20 {
-            return Ok(r.got);
+impl run_vectors::Counts for Counts {
+    fn take(&mut self, r: Record) {
+        match Question::try_from(r.op) {
+            Ok(question) => {
+                let value = ieee::of_bits64(run_vectors::join(r.c, r.d));
+                let good = is_good(question, ieee::of_bits(r.a), ieee::of_bits(r.b), value);
+                self.of[question as usize].count(good);
+            }
+            Err(NoQuestion) => self.of_none.count(false),
         }
-        let v = ieee::of_bits64(run_vectors::join(r.c, r.d));
-        let fine = good(r.op, ieee::of_bits(r.a), ieee::of_bits(r.b), v);
-        run_vectors::count(counts, row(r.op), fine);
     }
-    Ok(20)
 }
 
 fn main(rt: HostRuntime) -> io::Result<()> {
-    let mut file = run_io::open(&rt, b"points.bin")?;
-    let mut counts = [0u64; 32];
-    let rest = replay(&mut file, &mut counts)?;
-    counts[28] = rest as u64;
-    run_io::report_counts(
-        &rt,
-        b"exp2: # tried, # outside the bound
-exp: # tried, # outside the bound
-sine: # tried, # outside the bound
-cosine: # tried, # outside the bound
-angle: # tried, # outside the bound
-magnitude: # tried, # outside the bound
-tiny magnitude: # tried, # not the root of the fused sum
-outside exp2's range: # tried, # answered with a number
-outside exp's range: # tried, # answered with a number
-outside the sine's range: # tried, # answered with a number
-outside the cosine's range: # tried, # answered with a number
-outside the angle's range: # tried, # answered with a number
-outside the magnitude's range: # tried, # answered with a number
-of no routine: # tried, # of them
-bytes left over: #
-",
-        &counts,
-    )
+    let mut file = run_io::open_file(&rt, "points.bin")?;
+    let mut counts = Counts::default();
+    let rest = run_vectors::replay(&mut file, &mut counts)?;
+    for question in QUESTIONS {
+        let tally = counts.of[question as usize];
+        println!(rt; "{question}: {tally} {}", complaint(question))?;
+    }
+    println!(rt; "of no routine: {} of them", counts.of_none)?;
+    println!(rt; "{rest}")
 }

@@ -1,183 +1,203 @@
-// What the programs share that replay a list of the published Rust's answers: its words, least significant byte first, read one after the other, the samples and the
-// lent words of a case, what is counted, and the report. A file that is too short, too long, or has what does not fit the buffers is told as such.
+// What the programs share that replay a list of the published Rust's answers: the list's words, least significant byte first, read one after the other, its cases replayed
+// through an entry, what is counted, and the report. A file that is too short, too long, or asks for more than is held is told as such.
 #![tactic(auto)]
 
-ghost use Rattle.std.specs.Prelude.{◌≡◌, ◌<◌, ◌≤◌, length, IfOk};
+ghost use Rattle.std.specs.Prelude.{◌≡◌, ◌+◌, ◌%◌, ◌^◌, ◌&&◌, cond, eqb, IfOk};
+ghost use Rattle.std.specs.Vec.{vec_len};
+ghost use Rattle.params.specs.Answers.{number_of, count_of, told};
 
-use params::Answer;
-use std::io;
+use params::Refusal;
+use std::alloc::Global;
 use std::io::Read;
+use std::{fmt, io};
 
+// The longest list of samples, and the most words that are lent.
 pub const MOST_SAMPLES: usize = 65536;
 
 pub const MOST_ROOM: usize = 4096;
 
-// What is counted, by its place in the counts, which is that in the report.
-const IN_THE_FILE: usize = 0;
+// What stands in the lent words before a call.
+pub const PATTERN: u32 = 0xa5a5_a5a5;
 
-pub const CASES: usize = 1;
-
-pub const KEYPOINTS: usize = 2;
-
-pub const WORDS: usize = 3;
-
-pub const NUMBERS_DIFFER: usize = 4;
-
-pub const COUNTS_DIFFER: usize = 5;
-
-pub const WORDS_DIFFER: usize = 6;
-
-const MISSING: usize = 7;
-
-pub const UNREADABLE: usize = 8;
-
-const LEFT_OVER: usize = 9;
-
-pub const CELLS_DIFFER: usize = 10;
-
-pub fn add(counts: &mut [u64; 32], at: usize, n: u64)
-    requires { at < 32 }
-{
-    counts[at] = std::num::wrapping_add_u64(counts[at], n);
+// What is counted.
+#[derive(Clone, Copy, Debug, Default, PartialEq, Eq)]
+pub struct Counts {
+    pub in_the_file: u64,
+    pub cases: u64,
+    pub keypoints: u64,
+    pub words: u64,
+    pub numbers_differ: u64,
+    pub counts_differ: u64,
+    pub words_differ: u64,
+    pub missing: u64,
+    pub unreadable: u64,
+    pub left_over: u64,
+    pub cells_differ: u64,
 }
 
-fn wide(b: u8) -> u32
-    ensures { result ≤ 255 }
-{
-    b as u32
-}
-
-// The word in four bytes, least significant byte first.
-fn joined(b: &[u8; 4]) -> u32 {
-    let high = wide(b[3]) * 256 + wide(b[2]);
-    let low = wide(b[1]) * 256 + wide(b[0]);
-    high * 65536 + low
-}
-
-// The file's next word. One that is not there is counted, and is 0.
-pub fn next(file: &mut impl Read, counts: &mut [u64; 32]) -> io::Result<u32> {
-    let mut b = [0u8; 4];
-    let got = run_io::read_full(file, &mut b)?;
-    if got < 4 {
-        add(counts, MISSING, 1);
-        return Ok(0);
+impl fmt::Display for Counts {
+    fn fmt<W: fmt::Write>(&self, f: &mut fmt::Formatter<W>) -> fmt::Result {
+        writeln!(f, "cases in the file: {}", self.in_the_file)?;
+        writeln!(f, "cases compared: {}", self.cases)?;
+        writeln!(f, "keypoints compared: {}", self.keypoints)?;
+        writeln!(f, "words compared: {}", self.words)?;
+        writeln!(f, "numbers that differ: {}", self.numbers_differ)?;
+        writeln!(f, "counts that differ: {}", self.counts_differ)?;
+        writeln!(f, "words that differ: {}", self.words_differ)?;
+        writeln!(f, "words missing from the file: {}", self.missing)?;
+        writeln!(
+            f,
+            "marks, cases and rooms that can't be read: {}",
+            self.unreadable
+        )?;
+        write!(f, "bytes left over: {}", self.left_over)
     }
-    Ok(joined(&b))
 }
 
-pub fn next_size(file: &mut impl Read, counts: &mut [u64; 32]) -> io::Result<usize> {
-    let n = next(file, counts)?;
-    Ok(n as usize)
-}
-
-pub fn next_float(file: &mut impl Read, counts: &mut [u64; 32]) -> io::Result<f32> {
-    let bits = next(file, counts)?;
-    Ok(ieee::of_bits(bits))
-}
-
-// The file's next n samples.
-pub fn read_samples(
-    file: &mut impl Read,
-    counts: &mut [u64; 32],
-    n: usize,
-) -> io::Result<[f32; 65536]>
-    requires { n ≤ 65536 }
-    ensures { IfOk result (λ samples. length samples ≡ 65536) }
-{
-    let mut to = [0.0f32; 65536];
-    for i in 0..n {
-        to[i] = next_float(file, counts)?;
+impl Counts {
+    // Whether the file can be read on.
+    pub fn readable(&self) -> bool
+        ensures { result ≡ (eqb self.now.missing 0 && eqb self.now.unreadable 0) }
+    {
+        (self.missing == 0) & (self.unreadable == 0)
     }
-    Ok(to)
+
+    // Counts a case, and whether its answer is the one that is wanted.
+    pub fn compare_answer(&mut self, answer: Result<usize, Refusal>, number: u32, count: usize)
+        ensures cases { self.new.cases ≡ (self.old.cases + 1) % 2 ^ 64 }
+        ensures numbers { self.new.numbers_differ ≡ (self.old.numbers_differ + cond (eqb (number_of (told answer)) number) 0 1) % 2 ^ 64 }
+        ensures counts { self.new.counts_differ ≡ (self.old.counts_differ + cond (eqb (count_of (told answer)) count) 0 1) % 2 ^ 64 }
+    {
+        let other_number = params::number_of(answer) != number;
+        let other_count = params::count_of(answer) != count;
+        self.numbers_differ = self.numbers_differ.wrapping_add(u64::from(other_number));
+        self.counts_differ = self.counts_differ.wrapping_add(u64::from(other_count));
+        self.keypoints = self.keypoints.wrapping_add(count as u64);
+        self.cases = self.cases.wrapping_add(1);
+    }
 }
 
-// Compares the n lent words, as they stand after the call, with the file's.
-pub fn compare_words(
-    file: &mut impl Read,
-    counts: &mut [u64; 32],
-    out: &[u32; 4096],
-    n: usize,
-) -> io::Result<()>
-    requires { n ≤ 4096 }
-{
-    for i in 0..n {
-        let want = next(file, counts)?;
-        if out[i] != want {
-            add(counts, WORDS_DIFFER, 1);
+// A list that is read, and what is counted on the way.
+#[derive(Drop)]
+pub struct Replay<R> {
+    file: R,
+    pub counts: Counts,
+}
+
+impl<R: Read + Drop> Replay<R> {
+    pub fn new(file: R) -> Replay<R>
+        ensures missing { result.counts.missing ≡ 0 }
+        ensures unreadable { result.counts.unreadable ≡ 0 }
+    {
+        Replay {
+            file,
+            counts: Counts::default(),
         }
     }
-    add(counts, WORDS, n as u64);
-    Ok(())
+
+    // The file's next word. One that is not there is counted, and is 0.
+    pub fn next(&mut self) -> io::Result<u32> {
+        let mut bytes = [0u8; 4];
+        let got = run_io::read_full(&mut self.file, &mut bytes)?;
+        if got < 4 {
+            self.counts.missing = self.counts.missing.wrapping_add(1);
+            return Ok(0);
+        }
+        Ok(u32::from_le_bytes(bytes))
+    }
+
+    pub fn next_size(&mut self) -> io::Result<usize> {
+        Ok(self.next()? as usize)
+    }
+
+    pub fn next_float(&mut self) -> io::Result<f32> {
+        Ok(ieee::of_bits(self.next()?))
+    }
+
+    // The file's next n samples.
+    pub fn samples(&mut self, alloc: Global, n: usize) -> io::Result<Vec<f32>>
+        ensures { IfOk result (λ samples. vec_len samples ≡ n) }
+    {
+        let mut samples = vec![in alloc; 0.0f32; n]?;
+        for i in 0..n {
+            samples[i] = self.next_float()?;
+        }
+        Ok(samples)
+    }
+
+    // Compares the lent words, as they stand after the call, with the file's.
+    pub fn compare_words(&mut self, out: &[u32]) -> io::Result<()> {
+        for word in out {
+            if self.next()? != *word {
+                self.counts.words_differ = self.counts.words_differ.wrapping_add(1);
+            }
+        }
+        self.counts.words = self.counts.words.wrapping_add(out.len() as u64);
+        Ok(())
+    }
+
+    // What can't be read of the file, so that nothing behind it can.
+    pub fn give_up(&mut self)
+        ensures { self.new.counts.unreadable ≡ (self.old.counts.unreadable + 1) % 2 ^ 64 }
+    {
+        self.counts.unreadable = self.counts.unreadable.wrapping_add(1);
+    }
 }
 
-pub fn compare_answer(counts: &mut [u64; 32], a: Answer, number: u32, count: usize) {
-    if params::number_of(a) != number {
-        add(counts, NUMBERS_DIFFER, 1);
-    }
-    if params::count_of(a) != count {
-        add(counts, COUNTS_DIFFER, 1);
-    }
-    add(counts, KEYPOINTS, count as u64);
-    add(counts, CASES, 1);
+// A case of a list: its head as it is read, the samples and the lent words that it asks for, and how it is replayed with these.
+pub trait Case: Drop {
+    // How a list of such cases begins.
+    const MARK: u32;
+
+    // More words than these are lent in no case.
+    const MOST_ROOM: usize;
+
+    fn read<R: Read + Drop>(replay: &mut Replay<R>) -> io::Result<Self>;
+
+    fn samples(&self) -> usize;
+
+    fn room(&self) -> usize;
+
+    fn replay<R: Read + Drop>(
+        &self,
+        replay: &mut Replay<R>,
+        samples: &[f32],
+        out: &mut [u32],
+    ) -> io::Result<()>;
 }
 
-fn times(a: usize, b: usize) -> usize
-    requires { (a ≤ 65536) × (b ≤ 65536) }
-{
-    a * b
+// Reads a case and replays it, if it asks for no more than is held.
+fn step<C: Case, R: Read + Drop>(alloc: Global, replay: &mut Replay<R>) -> io::Result<()> {
+    let case = C::read(replay)?;
+    let n = case.samples();
+    let room = case.room();
+    if (n > MOST_SAMPLES) | (room > C::MOST_ROOM) {
+        replay.give_up();
+        return Ok(());
+    }
+    let samples = replay.samples(alloc, n)?;
+    let mut out = vec![in alloc; PATTERN; room]?;
+    case.replay(replay, &samples, &mut out)?;
+    replay.compare_words(&out)
 }
 
-// a × b, or more than any buffer has.
-pub fn product(a: usize, b: usize) -> usize {
-    if (a == 0) | (b == 0) {
-        return 0;
+// Replays the cases of a list, or fewer if the file can't be read on, and what is counted. Nothing may stand behind the last case: four bytes are tried for, and 4 left over may be
+// more.
+pub fn replay_list<C: Case>(alloc: Global, file: impl Read + Drop) -> io::Result<Counts> {
+    let mut replay = Replay::new(file);
+    if replay.next()? != C::MARK {
+        replay.give_up();
     }
-    if a > MOST_SAMPLES {
-        return MOST_SAMPLES + 1;
+    let cases = replay.next()?;
+    for _ in 0..cases {
+        if !replay.counts.readable() {
+            break;
+        }
+        step::<C, _>(alloc, &mut replay)?;
     }
-    if b > MOST_SAMPLES {
-        return MOST_SAMPLES + 1;
-    }
-    times(a, b)
-}
-
-// Whether the file can be read on.
-pub fn readable(counts: &[u64; 32]) -> bool {
-    (counts[MISSING] == 0) & (counts[UNREADABLE] == 0)
-}
-
-// The number of cases, behind the mark that the list begins with.
-pub fn begin(file: &mut impl Read, counts: &mut [u64; 32], mark: u32) -> io::Result<u32> {
-    if next(file, counts)? != mark {
-        add(counts, UNREADABLE, 1);
-    }
-    next(file, counts)
-}
-
-// Closes the list and says what was counted. Nothing may stand behind the last case: four bytes are tried for, and 4 left over may be more.
-pub fn end(
-    rt: &impl Print,
-    file: &mut impl Read,
-    cases: u32,
-    counts: &mut [u64; 32],
-) -> io::Result<()> {
     let mut after = [0u8; 4];
-    let rest = run_io::read_full(file, &mut after)?;
-    add(counts, IN_THE_FILE, cases as u64);
-    add(counts, LEFT_OVER, rest as u64);
-    run_io::report_counts(
-        rt,
-        b"cases in the file: #
-cases compared: #
-keypoints compared: #
-words compared: #
-numbers that differ: #
-counts that differ: #
-words that differ: #
-words missing from the file: #
-marks, cases and rooms that can't be read: #
-bytes left over: #
-",
-        counts,
-    )
+    let rest = run_io::read_full(&mut replay.file, &mut after)?;
+    replay.counts.in_the_file = u64::from(cases);
+    replay.counts.left_over = rest as u64;
+    Ok(replay.counts)
 }

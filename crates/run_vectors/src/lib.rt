@@ -1,16 +1,15 @@
-// What the programs share that go through the vectors of an independent program: numbers of so many bytes, most significant byte first, records of five words, and what
-// is counted of them.
+// What the programs share that go through the vectors of an independent program: records of five words, most significant byte first, and what is counted of them.
 #![tactic(auto)]
 
-ghost use Rattle.std.specs.Prelude.{◌<◌, ◌≤◌};
+ghost use Rattle.std.specs.Prelude.{◌≡◌, ◌+◌, ◌*◌, ◌%◌, ◌^◌, ◌<◌, ◌≤◌, cond, IfOk, IfErr};
+ghost use Rattle.std.specs.Io.KnownBytes.{IsAtEnd};
 
-use std::io;
 use std::io::Read;
+use std::{fmt, io};
 
-// A record's words, and how many of its 20 bytes the file has.
-#[derive(Clone, Copy)]
+// What is asked, and four words.
+#[derive(Clone, Copy, Debug, PartialEq, Eq)]
 pub struct Record {
-    pub got: usize,
     pub op: u32,
     pub a: u32,
     pub b: u32,
@@ -18,68 +17,86 @@ pub struct Record {
     pub d: u32,
 }
 
-pub fn wide(b: u8) -> u64
-    ensures { result ≤ 255 }
-{
-    b as u64
-}
-
-// The byte at a place, 0 past the end.
-pub fn byte_at(s: &[u8], at: usize) -> u64
-    ensures { result ≤ 255 }
-{
-    if at < s.len() { wide(s[at]) } else { 0 }
-}
-
-// The 16, 32 or 64 bits from a place on. The bounds on places are only there so that no sum wraps.
-pub fn half_at(s: &[u8], at: usize) -> u64
-    requires { at ≤ 100000 }
-    ensures { result ≤ 65535 }
-{
-    byte_at(s, at) * 256 + byte_at(s, at + 1)
-}
-
-pub fn word_at(s: &[u8], at: usize) -> u32
-    requires { at ≤ 90000 }
-{
-    (half_at(s, at) * 65536 + half_at(s, at + 2)) as u32
-}
-
-pub fn long_at(s: &[u8], at: usize) -> u64
-    requires { at ≤ 80000 }
-{
-    word_at(s, at) as u64 * 4294967296 + word_at(s, at + 4) as u64
-}
-
-fn record_of(got: usize, s: &[u8]) -> Record {
-    Record {
-        got,
-        op: word_at(s, 0),
-        a: word_at(s, 4),
-        b: word_at(s, 8),
-        c: word_at(s, 12),
-        d: word_at(s, 16),
+impl From<[u8; 20]> for Record {
+    fn from(s: [u8; 20]) -> Record {
+        Record {
+            op: u32::from_be_bytes([s[0], s[1], s[2], s[3]]),
+            a: u32::from_be_bytes([s[4], s[5], s[6], s[7]]),
+            b: u32::from_be_bytes([s[8], s[9], s[10], s[11]]),
+            c: u32::from_be_bytes([s[12], s[13], s[14], s[15]]),
+            d: u32::from_be_bytes([s[16], s[17], s[18], s[19]]),
+        }
     }
 }
 
-// The file's next record.
-pub fn next(file: &mut impl Read) -> io::Result<Record> {
-    let mut s = [0u8; 20];
-    let got = run_io::read_full(file, &mut s)?;
-    Ok(record_of(got, &s))
-}
+// No record, but so many bytes at the end of the file.
+#[derive(Clone, Copy, Debug, PartialEq, Eq)]
+pub struct LeftOver(pub usize);
 
-pub fn join(high: u32, low: u32) -> u64 {
-    high as u64 * 4294967296 + low as u64
-}
-
-// Counts what was tried in a row, and what was not as it has to be: a row has two places, one for each.
-pub fn count(counts: &mut [u64; 32], row: usize, good: bool)
-    requires { row < 16 }
-{
-    let at = 2 * row;
-    counts[at] = std::num::wrapping_add_u64(counts[at], 1);
-    if !good {
-        counts[at + 1] = std::num::wrapping_add_u64(counts[at + 1], 1);
+impl fmt::Display for LeftOver {
+    fn fmt<W: fmt::Write>(&self, f: &mut fmt::Formatter<W>) -> fmt::Result {
+        write!(f, "bytes left over: {}", self.0)
     }
+}
+
+// The file's next record, or what is left over.
+pub fn next<R: Read>(file: &mut R) -> io::Result<Result<Record, LeftOver>>
+    ensures { IfOk result (λ r. IfErr r (λ rest. (rest.0 < 20) × IsAtEnd (R.remaining file.new))) }
+{
+    let mut bytes = [0u8; 20];
+    let got = run_io::read_full(file, &mut bytes)?;
+    if got < 20 {
+        return Ok(Err(LeftOver(got)));
+    }
+    Ok(Ok(Record::from(bytes)))
+}
+
+// The 64 bits of two words.
+pub fn join(high: u32, low: u32) -> u64
+    ensures { result ≡ high * 2 ^ 32 + low }
+{
+    u64::from(high) * 0x1_0000_0000 + u64::from(low)
+}
+
+// How many were tried, and how many of these were not as they have to be.
+#[derive(Clone, Copy, Debug, Default, PartialEq, Eq)]
+pub struct Tally {
+    pub tried: u64,
+    pub wrong: u64,
+}
+
+impl Tally {
+    pub fn count(&mut self, good: bool)
+        ensures tried { self.new.tried ≡ (self.old.tried + 1) % 2 ^ 64 }
+        ensures wrong { self.new.wrong ≡ cond good self.old.wrong ((self.old.wrong + 1) % 2 ^ 64) }
+    {
+        self.tried = self.tried.wrapping_add(1);
+        if !good {
+            self.wrong = self.wrong.wrapping_add(1);
+        }
+    }
+}
+
+impl fmt::Display for Tally {
+    fn fmt<W: fmt::Write>(&self, f: &mut fmt::Formatter<W>) -> fmt::Result {
+        write!(f, "{} tried, {}", self.tried, self.wrong)
+    }
+}
+
+// What a program counts of the records that it goes through.
+pub trait Counts {
+    fn take(&mut self, r: Record);
+}
+
+// Goes through the records of a file until it ends. The count of turns is more than any file here has.
+pub fn replay<C: Counts>(file: &mut impl Read, counts: &mut C) -> io::Result<LeftOver>
+    ensures { IfOk result (λ rest. rest.0 ≤ 20) }
+{
+    for _ in 0..10_000_000u32 {
+        match next(file)? {
+            Ok(record) => counts.take(record),
+            Err(rest) => return Ok(rest),
+        }
+    }
+    Ok(LeftOver(20))
 }

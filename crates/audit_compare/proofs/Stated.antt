@@ -55,8 +55,8 @@ module _ (e : Edition) where
       ap (λ (j : ℕ). take j (drop (e.bytes * i) body)) m ∙ ap (λ (j : ℕ). take j (drop (j * i) body)) e.bytes_are
 
 -- a list written over all of one that is as long
-pub pasted_all : (new old : List ℕ) → length new ≡ length old → pasted 0 new old ≡ new
+pub pasted_all : {A : Type 0} (new old : List A) → length new ≡ length old → pasted 0 new old ≡ new
 unfolding pasted
-pasted_all new old h =
+pasted_all {A} new old h =
     let r : length old ≤ 0 + length new = omega arith in
-    ap (λ (t : List ℕ). new ++ t) (drop_of_length-le old r) ∙ append-nil new
+    ap (λ (t : List A). new ++ t) (drop_of_length-le old r) ∙ append-nil new

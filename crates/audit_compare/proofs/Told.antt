@@ -1,7 +1,6 @@
 -- An agreement in the rules' words: it differs where its field has a number. Assumes nothing.
 use mathlib.Core.Path.{◌≡◌, refl, sym}
 use mathlib.Core.Bool.{true, false, false≢true}
-use Prim.Native.Nat.{ℕ}
 use native.Mathlib.Omega.{arith}
 use Rattle.std.specs.Option.{is_some}
 use Rattle.std.specs.Prelude.{Option, None, Some}

@@ -1,8 +1,12 @@
 -- The answer and the lent words, by cases: a fault or none. Assumes nothing.
 use Rattle.std.proofs.Common.{ℕ, ◌<◌, ◌≤◌, ◌≡◌, Bool, true, false, List, [], ◌∷◌, length, refl, sym, ap, ◌∙◌, subst, arith}
 use Rattle.std.proofs.lemmas.List.{length-map}
+use mathlib.Core.Bool.{◌&&◌}
+use borrow.Author.Tests.{ltb-true}
+use lib.Dec.{ltb}
 use lib.Ieee.{Float}
-use Rattle.params.specs.Table.{line, first_fault}
+use Rattle.lists.proofs.Bools.{and_both}
+use Rattle.params.specs.Table.{Line, line, first_fault}
 use Rattle.params.specs.Answers.{answer_of, landed, refusal_number, refused}
 use Rattle.params.specs.declared.Refusal.{Refusal}
 use Rattle.params.specs.declared.Refusal.TheVariants.{Shape, Layers, Length, Settings, Fields, Samples, Room, Sheet}
@@ -18,13 +22,16 @@ use Rattle.orient.specs.Entry.{window_at, angles_at, orient_fault, oriented_list
 use Rattle.orient.specs.Given.{directions_of}
 use Rattle.orient.proofs.Checks.{about_holds, about_read}
 
-first_small : (a b c d : Bool) → first_fault (line 1 a ∷ line 3 b ∷ line 5 c ∷ line 6 d ∷ []) < 7
+-- whether each line has a number below 7
+abbrev low : List Line → Bool
+low [] = true
+low (line n b ∷ ls) = ltb n 7 && low ls
+
+first_small : (ls : List Line) → low ls ≡ true → first_fault ls < 7
 unfolding first_fault
-first_small true b c d = omega arith
-first_small false true c d = omega arith
-first_small false false true d = omega arith
-first_small false false false true = omega arith
-first_small false false false false = omega arith
+first_small [] h = omega arith
+first_small (line n true ∷ ls) h = ltb-true n 7 (and_both (ltb n 7) (low ls) h).0
+first_small (line n false ∷ ls) h = first_small ls (and_both (ltb n 7) (low ls) h).1
 
 -- a refusal has no samples, and leaves the lent words as they were
 nothing : (r : Refusal) (read : ℕ) (new old : List ℕ) → (samples_with (refused r) read ≡ 0) × (landed (refused r) new old ≡ old)
@@ -41,7 +48,7 @@ module _ (img : List Float) (s : Size) (k : RawKeypoint) where
   -- room is no fault of the checks
   fault_small : orient_fault img s k < 7
   unfolding orient_fault
-  fault_small = first_small _ _ _ _
+  fault_small = first_small _ refl
 
   refused_is : (r : Refusal) (room : ℕ) → refusal_number r ≡ orient_fault img s k → given_back img s k room ≡ refused r
   unfolding given_back answer_of

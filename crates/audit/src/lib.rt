@@ -108,7 +108,7 @@ fn of_sheet(
     if let Some(field) = audit_verdict::header_difference(e, h, base, s.layers) {
         return Ok(Verdict::Header(field));
     }
-    Ok(audit_verdict::told(n, agreement))
+    Ok(audit_verdict::told(n, Ok(agreement)))
 }
 
 // The checker: the difference planes and the Gaussian planes of an octave, of which there is one more, its number, the settings, the size of octave 0, and the bytes of a sheet.

@@ -25,7 +25,7 @@ octave_right l octave bs = of_octave octave (fields_of l (bytes_words l bs))
 abbrev pub words_right : Layout → ℕ → List ℕ → Bool
 words_right l octave bs = eqb (get_or (bytes_words l bs) octave_place 0) octave
 
-words_are : (l : Layout) (octave : ℕ) (bs : List ℕ) → words_right l octave bs ≡ octave_right l octave bs
+pub words_are : (l : Layout) (octave : ℕ) (bs : List ℕ) → words_right l octave bs ≡ octave_right l octave bs
 words_are l octave bs = ap (λ (v : ℕ). eqb v octave) (sym (field_front l (bytes_words l bs) (words_length l bs) octave_place (lit< tt)))
 
 module _ (l : Layout) (octave n : ℕ) (body : List ℕ) where

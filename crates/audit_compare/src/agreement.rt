@@ -13,19 +13,26 @@ pub enum Difference {
 }
 
 // How far the records made so far agree with those of a sheet: `place` of them, and then the first difference, if there is one.
-#[derive(Clone, Copy)]
+#[derive(Clone, Copy, Debug, PartialEq, Eq)]
 pub struct Agreement {
     pub place: usize,
     pub difference: Option<Difference>,
     pub ghost numbered: { Numbered difference } by { numbered_prop difference },
 }
 
-// A stage refused. Which number, the checker does not tell.
+// A stage refused. Which number, the checker does not tell; and the agreement beside it counts for nothing.
 #[derive(Clone, Copy, Debug, PartialEq, Eq)]
-pub struct Stopped;
+pub struct Stopped {
+    pub agreement: Agreement,
+}
 
 impl From<Refusal> for Stopped {
+    ghost use Rattle.std.specs.Prelude.{◌≡◌, Err};
+    ghost use Rattle.audit_compare.specs.Standing.{refused, standing_told};
+
+    ghost from_gives = { λ _ s. standing_told (Err s) ≡ refused };
+
     fn from(_refusal: Refusal) -> Stopped {
-        Stopped
+        crate::stopped()
     }
 }

@@ -1,7 +1,7 @@
 // A record that the rules give beside a record of a sheet: the first field in which they differ, and how far all records agree.
 #![tactic(auto)]
 
-ghost use Rattle.std.specs.Prelude.{◌≡◌, ◌*◌, ◌<◌, ◌≤◌, IfSome, length, get_or, take, drop};
+ghost use Rattle.std.specs.Prelude.{◌≡◌, ◌*◌, ◌<◌, ◌≤◌, IfSome, Err, length, get_or, take, drop};
 ghost use Rattle.sheet.specs.Layout.{record_size};
 ghost use Rattle.sheet.specs.Sheet.{all_pass};
 ghost use Rattle.sheet.specs.Words.{read_words};
@@ -9,7 +9,7 @@ ghost use Rattle.sheet_edition.specs.Edition.{layout_for};
 ghost use Rattle.sheet_fields.specs.Fields.{bytes_words};
 ghost use Rattle.audit_compare.specs.Difference.{first_difference, fields_of, of_octave};
 ghost use Rattle.audit_compare.specs.Numbered.{IsField, Numbered};
-ghost use Rattle.audit_compare.specs.Standing.{stated_in, number_or_none, field_of, standing_of, difference_at, compared};
+ghost use Rattle.audit_compare.specs.Standing.{refused, stated_in, number_or_none, field_of, standing_told, difference_at, compared};
 
 mod agreement;
 
@@ -83,24 +83,53 @@ fn difference_at(e: Edition, body: &[u8], n: usize, i: usize, made: &[u32]) -> O
     Some(Difference::Field(number))
 }
 
-// How far the records agree after one more.
-pub fn compared(e: Edition, body: &[u8], n: usize, a: Agreement, made: &[u32]) -> Agreement
-    requires { (record_size (layout_for e) * n ≤ length body.now) × (length made.now ≡ read_words) }
-    ensures { standing_of result ≡ compared (layout_for e) (stated_in (layout_for e) n body.now) (standing_of a) made.now }
+// After a stage that refused: nothing is made.
+pub fn stopped() -> Stopped
+    ensures { standing_told (Err result) ≡ refused }
 {
+    let agreement = Agreement {
+        place: 0,
+        difference: None,
+    };
+    Stopped { agreement }
+}
+
+// The agreement of a standing, whether a stage has refused or not.
+pub fn agreement_of(st: Result<Agreement, Stopped>) -> Agreement
+    ensures place { result.place ≡ (standing_told st).place }
+    ensures field { field_of result.difference ≡ (standing_told st).field }
+{
+    match st {
+        Ok(agreement) => agreement,
+        Err(stopped) => stopped.agreement,
+    }
+}
+
+// How far the records agree after one more. A difference stays, with its refusal if there is one; anything else is good from here on.
+pub fn compared(
+    e: Edition,
+    body: &[u8],
+    n: usize,
+    st: Result<Agreement, Stopped>,
+    made: &[u32],
+) -> Result<Agreement, Stopped>
+    requires { (record_size (layout_for e) * n ≤ length body.now) × (length made.now ≡ read_words) }
+    ensures { standing_told result ≡ compared (layout_for e) (stated_in (layout_for e) n body.now) (standing_told st) made.now }
+{
+    let a = agreement_of(st);
     if a.difference.is_some() {
-        return a;
+        return st;
     }
     let Some(difference) = difference_at(e, body, n, a.place, made) else {
-        return Agreement {
+        return Ok(Agreement {
             place: a.place + 1,
             difference: None,
-        };
+        });
     };
-    Agreement {
+    Ok(Agreement {
         place: a.place,
         difference: Some(difference),
-    }
+    })
 }
 
 // Whether every record is of an octave.

@@ -1,10 +1,10 @@
--- After the record of a direction, by cases: a stage refuses, or the record is compared. Assumes nothing.
+-- After the record of a direction, by cases: nothing is made after a refusal, a stage refuses, or the record is compared. Assumes nothing.
 use Prim.Native.Nat.{ℕ, ◌≤◌}
 use mathlib.Core.Path.{◌≡◌, refl, sym, ap, ◌∙◌}
-use mathlib.Core.Bool.{true, false, cond, and-false}
+use mathlib.Core.Bool.{true, false, not, cond, and-false}
 use mathlib.Core.List.{List}
 use native.Mathlib.Omega.{arith}
-use borrow.Author.Tests.{eq-eqb, ne_eqb}
+use borrow.Author.Tests.{eq-eqb, ne_eqb, not-true, not-false}
 use mir.Syntax.{w32}
 use mir.Val.{to_z}
 use mir.ValLaws.{to_z_pos}
@@ -28,8 +28,7 @@ use Rattle.words.specs.Oriented.{oriented_in}
 use Rattle.record.specs.Record.{record_of}
 use Rattle.record.specs.Make.{make_number}
 use Rattle.sheet.specs.Words.{read_words}
-use Rattle.audit_compare.specs.declared.agreement.Agreement.{Agreement}
-use Rattle.audit_compare.specs.Standing.{refused, compared, standing_of, Standing}
+use Rattle.audit_compare.specs.Standing.{refused, compared, Standing}
 use Rattle.audit_keypoint.specs.Steps.{served, made_of, Given, size_for, direction_step}
 use Rattle.audit_keypoint.proofs.Fault.{fault_there, fault_none}
 
@@ -75,22 +74,21 @@ undescribed Sheet z = omega arith
 
 -- ---- the step
 
-module _ (g : Given) (img : List Float) (kw ow : List ℕ) where
-  -- nothing is made after a refusal
-  pub step_still : direction_step g img kw refused ow ≡ refused
+module _ (g : Given) (img : List Float) (kw ow : List ℕ) (st : Standing) where
+  pub step_over : not st.good ≡ true → st ≡ direction_step g img kw st ow
   unfolding direction_step
-  step_still = refl
+  step_over e = rw (not-true st.good e)
 
-  module _ (a : Agreement) (i : Inputs) (fit : i ≡ inputs_of (oriented_in ow) (pos g.octave)) where
-    unserved : served img (size_for g.shape) g.octave kw ow ≡ false → refused ≡ direction_step g img kw (standing_of a) ow
+  module _ (good : not st.good ≡ false) (i : Inputs) (fit : i ≡ inputs_of (oriented_in ow) (pos g.octave)) where
+    unserved : served img (size_for g.shape) g.octave kw ow ≡ false → refused ≡ direction_step g img kw st ow
     unfolding direction_step
-    unserved e = rw e
+    unserved e = rw (not-false st.good good, e)
 
     unfit : (i.number ≡ 0 → ⊥) → served img (size_for g.shape) g.octave kw ow ≡ false
     unfolding served
     unfit n = rw (← fit, ne_eqb i.number 0 n)
 
-    pub step_unfit : (i.number ≡ 0 → ⊥) → refused ≡ direction_step g img kw (standing_of a) ow
+    pub step_unfit : (i.number ≡ 0 → ⊥) → refused ≡ direction_step g img kw st ow
     step_unfit n = unserved (unfit n)
 
     module _ (out : List ℕ) (d : Described) (room : length out ≡ value_count) (z : Size) (sized : z ≡ size_for g.shape) (told : d ≡ described_of img z (spot_of i) (length out)) where
@@ -101,14 +99,14 @@ module _ (g : Given) (img : List Float) (kw ow : List ℕ) where
       unfolding served
       fault_at k = rw (← fit, fault_told img (size_for g.shape) (spot_of i) out d room here k, and-false)
 
-      pub step_undescribed : (number_of d ≡ 0 → ⊥) → refused ≡ direction_step g img kw (standing_of a) ow
+      pub step_undescribed : (number_of d ≡ 0 → ⊥) → refused ≡ direction_step g img kw st ow
       step_undescribed k = unserved (fault_at k)
 
       pub step_made : (i.number ≡ 0) → (m : ℕ) → d ≡ Done m → (values : List ℕ) → values ≡ described_out img z (spot_of i) out → (r : Standing) →
-          r ≡ cond (eqb (make_number (keypoint_in kw) (oriented_in ow) values m read_words) 0) (compared g.layout g.stated (standing_of a) (record_of (keypoint_in kw) (oriented_in ow) values m)) refused →
-          r ≡ direction_step g img kw (standing_of a) ow
+          r ≡ cond (eqb (make_number (keypoint_in kw) (oriented_in ow) values m read_words) 0) (compared g.layout g.stated st (record_of (keypoint_in kw) (oriented_in ow) values m)) refused →
+          r ≡ direction_step g img kw st ow
       unfolding direction_step served made_of
       step_made n m k values v r q =
           let b = described img (size_for g.shape) (spot_of i) out d room here m k in
           let w = v ∙ ap (λ (y : Size). described_out img y (spot_of i) out) sized in
-          q ∙ rw (← fit, eq-eqb i.number 0 n, b.0, b.1.0, ← b.1.1, ← w)
+          q ∙ rw (not-false st.good good, ← fit, eq-eqb i.number 0 n, b.0, b.1.0, ← b.1.1, ← w)

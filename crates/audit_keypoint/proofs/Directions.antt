@@ -1,16 +1,17 @@
 -- The loop over directions: none of them, and one more. Assumes nothing.
 use Prim.Native.Nat.{ℕ, ◌+◌, ◌-◌, ◌*◌, ◌<◌}
 use mathlib.Core.Path.{◌≡◌, sym, ◌∙◌}
+use mathlib.Core.Bool.{true, not}
 use mathlib.Core.List.{List}
 use native.Mathlib.Omega.{arith}
 use lib.ListN.{take, drop}
 use lib.Ieee.{Float}
 use Rattle.orient_words.specs.Oriented.{oriented_words}
 use Rattle.sheet.specs.Sheet.{parts}
-use Rattle.audit_compare.specs.Standing.{refused, Standing}
+use Rattle.audit_compare.specs.Standing.{Standing}
 use Rattle.audit_keypoint.specs.Steps.{Given, direction_step, direction_steps}
 use Rattle.audit_keypoint.proofs.Cut.{fold_none, fold_next, fold_settled}
-use Rattle.audit_keypoint.proofs.Direction.{step_still}
+use Rattle.audit_keypoint.proofs.Direction.{step_over}
 
 module _ (g : Given) (img : List Float) (kw ws : List ℕ) (st : Standing) where
   -- after the first j
@@ -30,9 +31,9 @@ module _ (g : Given) (img : List Float) (kw ws : List ℕ) (st : Standing) where
       q ∙ rw (m, e, fold_next (direction_step g img kw) st oriented_words j ws)
 
   -- where one refuses, so do all
-  pub steps_refused : (j n : ℕ) (now : Standing) → now ≡ steps_to j → j < n →
-      refused ≡ direction_step g img kw now (take (oriented_words * j + oriented_words - oriented_words * j) (drop (oriented_words * j) ws)) → refused ≡ steps_to n
+  pub steps_refused : (j n : ℕ) (now r : Standing) → not r.good ≡ true → now ≡ steps_to j → j < n →
+      r ≡ direction_step g img kw now (take (oriented_words * j + oriented_words - oriented_words * j) (drop (oriented_words * j) ws)) → r ≡ steps_to n
   unfolding direction_steps
-  steps_refused j n now e h q =
+  steps_refused j n now r bad e h q =
       let m : n ≡ j + 1 + (n - (j + 1)) = omega arith in
-      rw m (fold_settled (direction_step g img kw) st refused (λ w. step_still g img kw w) oriented_words (j + 1) (n - (j + 1)) ws (steps_next j now refused e q))
+      rw m (fold_settled (direction_step g img kw) st r (λ w. sym (step_over g img kw w r bad)) oriented_words (j + 1) (n - (j + 1)) ws (steps_next j now r e q))

@@ -1,12 +1,12 @@
 -- What an answer tells of the fault behind it: a number, that there is one; none, that there is none. Assumes nothing.
 use Prim.Native.Nat.{ℕ, zero, suc}
 use mathlib.Core.Path.{◌≡◌, refl, sym, ap, ◌∙◌}
-use mathlib.Core.Bool.{true, false, false≢true}
+use mathlib.Core.Bool.{true, false}
 use native.Mathlib.Nat.{suc-ne-zero}
 use native.Mathlib.Omega.{arith}
 use borrow.Author.Tests.{ne_eqb}
 use lib.Dec.{eqb}
-use Rattle.std.specs.Prelude.{Result, Ok, Err, IsErr}
+use Rattle.std.specs.Prelude.{Result, Ok, Err, IsErrAnd}
 use Rattle.params.specs.Answers.{on_fault, refusal_number}
 use Rattle.params.specs.declared.Refusal.{Refusal}
 use Rattle.params.specs.declared.Refusal.TheVariants.{Shape, Layers, Length, Settings, Fields, Samples, Room, Sheet}
@@ -26,9 +26,14 @@ number_some (Room n) z = omega arith
 number_some Sheet z = omega arith
 
 -- what a stage's refusal becomes
-pub stopped : (r : Result Agreement Stopped) → IsErr r → standing_told r ≡ refused
-stopped (Ok a) h = absurd (false≢true h)
-stopped (Err y) h = refl
+pub stopped : (r : Result Agreement Stopped) → IsErrAnd r (λ y. standing_told (Err y) ≡ refused) → standing_told r ≡ refused
+stopped (Ok a) h = absurd h
+stopped (Err y) h = h
+
+-- and one that is handed on
+pub handed_on : (r : Result Agreement Stopped) (x : Stopped) → IsErrAnd r (λ y. y ≡ x) → standing_told r ≡ standing_told (Err x)
+handed_on (Ok a) x h = absurd h
+handed_on (Err y) x h = ap (λ (k : Stopped). standing_told (Err k)) h
 
 module _ {A : Type 0} (number : A → ℕ) (done refusal a : A) where
   pub fault_there : (fault : ℕ) → number done ≡ 0 → a ≡ on_fault fault done refusal → (number a ≡ 0 → ⊥) → eqb fault 0 ≡ false

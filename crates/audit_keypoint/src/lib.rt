@@ -54,7 +54,7 @@ fn add_made(
 {
     let mut made = [0u32; READ_WORDS];
     record::make_record(keypoint, oriented, values, samples, &mut made)?;
-    Ok(audit_compare::compared(k.edition, body, k.count, a, &made))
+    audit_compare::compared(k.edition, body, k.count, Ok(a), &made)
 }
 
 // After the record of a direction, on a picture of the octave.
@@ -116,22 +116,23 @@ fn add_turned(
     add_directions(img, body, k, keypoint, &out, found.count, a)
 }
 
-// After those of a keypoint, by its words: its picture is the Gaussian plane of the layer where it settled, which may be another than the one searched.
+// After those of a keypoint, by its words, and nothing more after a refusal: its picture is the Gaussian plane of the layer where it settled, which may be another than the one searched.
 pub fn add_keypoint(
     gauss: &[f32],
     body: &[u8],
     k: Task,
     keypoint: &[u32],
-    a: Agreement,
+    st: Result<Agreement, Stopped>,
 ) -> Result<Agreement, Stopped>
     requires stated { Stated (length body.now) k }
     requires pictured { Pictured (length gauss.now) k }
-    ensures { standing_told result ≡ keypoint_step gauss.now (given_of body.now k) (standing_of a) keypoint.now }
+    ensures { standing_told result ≡ keypoint_step gauss.now (given_of body.now k) (standing_told st) keypoint.now }
 {
+    let a = st?;
     let layer = words::keypoint_in(keypoint).layer as usize;
     let t = k.shape;
     if layer > t.planes {
-        return Err(Stopped);
+        return Err(audit_compare::stopped());
     }
     let size = t.height * t.width;
     let from = layer * size;

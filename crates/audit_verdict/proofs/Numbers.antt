@@ -1,16 +1,14 @@
 -- What an agreement tells when all records are made, and the number of an answer. Assumes nothing.
-use mathlib.Core.Path.{◌≡◌, refl, sym, ap, subst}
+use mathlib.Core.Path.{◌≡◌, refl, ap, subst}
 use Prim.Native.Nat.{ℕ, ◌<◌, ◌≤◌}
-use native.Mathlib.Omega.{arith}
 use borrow.Author.Tests.{ne_eqb, lt-ltb, le-ltb}
-use Rattle.std.specs.Prelude.{Option, None, Some, Result, Ok, Err, IsErrAnd}
+use Rattle.std.specs.Prelude.{None, Some, Result, Ok, Err, IsErrAnd}
 use Rattle.params.specs.Answers.{fault_told, refusal_number}
 use Rattle.params.specs.declared.Refusal.{Refusal}
-use Rattle.audit_compare.specs.declared.agreement.Difference.{Difference}
 use Rattle.audit_compare.specs.declared.agreement.Difference.TheVariants.{Field, Missing}
 use Rattle.audit_compare.specs.declared.agreement.Agreement.{Agreement}
 use Rattle.audit_compare.specs.Numbered.{missing, Numbered}
-use Rattle.audit_compare.specs.Standing.{standing_of}
+use Rattle.audit_compare.specs.Standing.{standing_of, Standing}
 use Rattle.audit_verdict.specs.Told.{told_by}
 use Rattle.audit_verdict.specs.Verdict.{Checked, Refused, Accepted, Differs, LeftOver, number_of, verdict_told}
 use Rattle.audit_verdict.specs.Verdict as verdict
@@ -35,6 +33,11 @@ module _ (n : ℕ) (a : Agreement) where
   pub told_all : a.difference ≡ None → n ≤ a.place → Accepted ≡ told_by n (standing_of a)
   unfolding told_by
   told_all e h = rw (e, le-ltb a.place n h)
+
+-- whether a stage has refused is not asked
+pub told_alike : (n : ℕ) (x y : Standing) → x.place ≡ y.place → x.field ≡ y.field → told_by n x ≡ told_by n y
+unfolding told_by
+told_alike n x y p f = rw (p, f)
 
 -- the number of an answer is that of the result it is told from
 pub number_told : (r : Result Verdict Refusal) → number_of (verdict_told r) ≡ fault_told r

@@ -9,11 +9,11 @@ ghost use Rattle.sheet_edition.specs.Edition.{layout_for};
 ghost use Rattle.sheet_fields.specs.Fields.{header_list};
 ghost use Rattle.audit_compare.specs.Difference.{first_difference};
 ghost use Rattle.audit_compare.specs.Numbered.{IsField};
-ghost use Rattle.audit_compare.specs.Standing.{number_or_none, standing_of};
+ghost use Rattle.audit_compare.specs.Standing.{number_or_none, standing_told};
 ghost use Rattle.audit_verdict.specs.Verdict.{verdict_told, verdict_of, place_of, field_of};
 ghost use Rattle.audit_verdict.specs.Told.{told_by};
 
-use audit_compare::{Agreement, Difference};
+use audit_compare::{Agreement, Difference, Stopped};
 use params::Refusal;
 use picture::Size;
 use sheet_edition::Edition;
@@ -51,10 +51,11 @@ pub fn header_difference(e: Edition, h: Header, base: Size, layers: usize) -> Op
     None
 }
 
-// What the agreement tells when all records are made, of a sheet of n records.
-pub fn told(n: usize, a: Agreement) -> Verdict
-    ensures { verdict_told (Ok result) ≡ told_by n (standing_of a) }
+// What the agreement tells when all records are made, of a sheet of n records; whether a stage has refused is not asked here.
+pub fn told(n: usize, st: Result<Agreement, Stopped>) -> Verdict
+    ensures { verdict_told (Ok result) ≡ told_by n (standing_told st) }
 {
+    let a = audit_compare::agreement_of(st);
     match a.difference {
         Some(Difference::Field(field)) => Verdict::Differs(a.place, field),
         Some(Difference::Missing) => Verdict::Missing(a.place),

@@ -1,14 +1,16 @@
 -- Keypoints after one another: those of a list joined of two, of one part more of a range, and of a range up to a number and from it on. Assumes nothing.
 use Prim.Native.Nat.{ℕ, ◌+◌, ◌≤◌}
-use mathlib.Core.Path.{◌≡◌, refl, sym, ◌∙◌}
+use mathlib.Core.Path.{◌≡◌, refl, sym, ap, ◌∙◌}
+use mathlib.Core.Bool.{true, not}
 use mathlib.Core.List.{List, [], ◌∷◌, ◌++◌}
 use lib.Ieee.{Float}
 use Rattle.lists.specs.Ranges.{joined}
 use Rattle.lists.proofs.Ranges.{joined_none, joined_more, joined_split}
 use Rattle.detect_keypoint.specs.declared.RawKeypoint.{RawKeypoint}
 use Rattle.detect_extrema.specs.Scan.{words_of}
-use Rattle.audit_compare.specs.Standing.{refused, Standing}
+use Rattle.audit_compare.specs.Standing.{Standing}
 use Rattle.audit_keypoint.specs.Steps.{Given, keypoint_step}
+use Rattle.audit_keypoint.proofs.Keypoint.{keypoint_over}
 use Rattle.audit_walk.specs.Walk.{passed}
 
 module _ (gauss : List Float) (g : Given) where
@@ -18,10 +20,10 @@ module _ (gauss : List Float) (g : Given) where
   passed_append st (k ∷ a) b = passed_append (keypoint_step gauss g st (words_of k)) a b
 
   -- once a stage has refused, nothing more is made
-  passed_still : (ks : List RawKeypoint) → passed gauss g refused ks ≡ refused
-  unfolding passed keypoint_step
-  passed_still [] = refl
-  passed_still (k ∷ ks) = passed_still ks
+  passed_still : (r : Standing) → not r.good ≡ true → (ks : List RawKeypoint) → passed gauss g r ks ≡ r
+  unfolding passed
+  passed_still r bad [] = refl
+  passed_still r bad (k ∷ ks) = ap (λ (x : Standing). passed gauss g x ks) (sym (keypoint_over gauss g r (words_of k) bad)) ∙ passed_still r bad ks
 
   module _ (st : Standing) (lo : ℕ) (f : ℕ → List RawKeypoint) where
     pub passed_none : (hi : ℕ) → hi ≤ lo → st ≡ passed gauss g st (joined lo hi f)
@@ -35,5 +37,5 @@ module _ (gauss : List Float) (g : Given) where
       pub passed_parts : (hi : ℕ) → mid ≤ hi → y ≡ passed gauss g x (joined mid hi f) → y ≡ passed gauss g st (joined lo hi f)
       passed_parts hi l q = q ∙ rw (e, ← joined_split lo mid hi f h l) (passed_append st (joined lo mid f) (joined mid hi f))
 
-    pub passed_refused : (mid hi : ℕ) → lo ≤ mid → mid ≤ hi → refused ≡ passed gauss g st (joined lo mid f) → refused ≡ passed gauss g st (joined lo hi f)
-    passed_refused mid hi a b e = passed_parts mid refused refused a e hi b (sym (passed_still (joined mid hi f)))
+    pub passed_refused : (r : Standing) → not r.good ≡ true → (mid hi : ℕ) → lo ≤ mid → mid ≤ hi → r ≡ passed gauss g st (joined lo mid f) → r ≡ passed gauss g st (joined lo hi f)
+    passed_refused r bad mid hi a b e = passed_parts mid r r a e hi b (sym (passed_still r bad (joined mid hi f)))

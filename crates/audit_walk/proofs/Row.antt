@@ -2,6 +2,7 @@
 use Prim.Native.Nat.{ℕ, ◌+◌, ◌-◌, ◌≤◌, ◌<◌}
 use Rattle.std.proofs.Common.{◌/◌}
 use mathlib.Core.Path.{◌≡◌}
+use mathlib.Core.Bool.{true, not}
 use mathlib.Core.List.{List, foldl}
 use native.Mathlib.Omega.{arith}
 use lib.ListN.{length}
@@ -16,7 +17,7 @@ use Rattle.detect_extrema.specs.Neighbours.{tied}
 use Rattle.detect_extrema.specs.Scan.{found, cells_of, row_of}
 use Rattle.detect_words.specs.declared.Form.TheVariants.{KeypointWords}
 use Rattle.detect_rows.specs.Forms.{run_leaves}
-use Rattle.audit_compare.specs.Standing.{refused, Standing}
+use Rattle.audit_compare.specs.Standing.{Standing}
 use Rattle.audit_keypoint.specs.Steps.{Given, keypoint_step}
 use Rattle.audit_walk.specs.Walk.{passed}
 use Rattle.audit_walk.proofs.Blocks.{block_count, block_passed}
@@ -40,9 +41,9 @@ module _ (d : List Float) (t : Shape) (s : Search) (r : ℕ) (gauss : List Float
         let p = block_passed d t s r lo hi old new (omega (arith, room, ends)) left gauss g now y (n / 10) (omega (arith, m)) made in
         passed_parts gauss g st border (λ i. found tied d t s r i) lo now y above (rw e at up) hi (omega (arith, ends)) p
 
-  pub row_refused : (hi : ℕ) → border ≤ hi → hi ≤ t.width - border → UpTo hi refused → refused ≡ passed gauss g st (row_of tied d t s r)
+  pub row_refused : (x : Standing) → not x.good ≡ true → (hi : ℕ) → border ≤ hi → hi ≤ t.width - border → UpTo hi x → x ≡ passed gauss g st (row_of tied d t s r)
   unfolding row_of
-  row_refused hi a b u = passed_refused gauss g st border (λ i. found tied d t s r i) hi (t.width - border) a b u
+  row_refused x bad hi a b u = passed_refused gauss g st border (λ i. found tied d t s r i) x bad hi (t.width - border) a b u
 
   pub row_whole : (c : ℕ) (x : Standing) → c ≡ t.width - border → UpTo c x → x ≡ passed gauss g st (row_of tied d t s r)
   unfolding row_of

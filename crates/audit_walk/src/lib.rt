@@ -40,7 +40,7 @@ fn add_found(
     for i in 0..n {
         let from = KEYPOINT_WORDS * i;
         let to = from + KEYPOINT_WORDS;
-        now = audit_keypoint::add_keypoint(gauss, body, k, &found[from..to], now)?;
+        now = audit_keypoint::add_keypoint(gauss, body, k, &found[from..to], Ok(now))?;
     }
     Ok(now)
 }

@@ -1,6 +1,5 @@
 use mathlib.Core.Path.{refl, sym, ◌∙◌}
-use native.Mathlib.Omega.{arith}
-use Rattle.audit_compare.specs.Standing.{refused, standing_of}
+use Rattle.audit_compare.specs.Standing.{standing_of}
 use Rattle.audit_rule.proofs.Form.{stated_in_lem}
 use Rattle.audit_rule.proofs.Sheets.{long, header_right, records_in_lem, says_6, says_5, says_header, says_told}
 use Rattle.audit.proofs.of_sheet.Goals as goal
@@ -22,7 +21,7 @@ walk-requires-clause-stated c = stated_in_lem _ _ _ _ _ _ c.requires.fine c.edit
 
 pub returns-in_default : goal.returns-in_default
 returns-in_default c =
-    says_6 c.args.sheet.now c.requires.dog_value.1 c.edition_in-e.result c.edition_in-e.ensures c.header_in-h.result c.header_in-h.ensures.sheet_value c.args.dog.now c.args.gauss.now c.args.t c.args.octave c.args.s c.args.base c.requires.fine c.requires.dog_value.0 refused c.in_default.ensures refl
+    says_6 c.args.sheet.now c.requires.dog_value.1 c.edition_in-e.result c.edition_in-e.ensures c.header_in-h.result c.header_in-h.ensures.sheet_value c.args.dog.now c.args.gauss.now c.args.t c.args.octave c.args.s c.args.base c.requires.fine c.requires.dog_value.0 _ c.in_default.ensures refl
 
 pub octaves_right-requires : goal.octaves_right-requires
 octaves_right-requires c = records_in_lem c.args.sheet.now c.requires.dog_value.1 c.edition_in-e.result c.edition_in-e.ensures c.header_in-h.result c.header_in-h.ensures.sheet_value

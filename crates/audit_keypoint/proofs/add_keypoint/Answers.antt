@@ -1,14 +1,26 @@
 -- The picture of a keypoint's layer lies among the planes, and it is turned there: the cases of Keypoint. Assumes nothing.
+use mathlib.Core.Path.{refl, ◌∙◌}
 use native.Mathlib.Omega.{arith}
+use Rattle.std.specs.Prelude.{Err}
+use Rattle.audit_compare.specs.Standing.{standing_of, standing_told}
 use Rattle.audit_keypoint.specs.Pictures.{plane_size}
 use Rattle.audit_keypoint.specs.Steps.{given_of}
-use Rattle.audit_keypoint.proofs.Keypoint.{plane_inside, keypoint_above, keypoint_turned}
+use Rattle.audit_keypoint.proofs.Fault.{handed_on}
+use Rattle.audit_keypoint.proofs.Keypoint.{plane_inside, keypoint_over, keypoint_above, keypoint_turned}
 use Rattle.audit_keypoint.proofs.add_keypoint.Goals as goal
+
+pub returns-in_err-a : goal.returns-in_err-a
+returns-in_err-a c =
+    let a = c.args in
+    let x = c.in_err-a.field-0.0 in
+    handed_on c.from_residual.result x c.from_residual.ensures.1
+    ∙ rw c.in_err-a.was (keypoint_over a.gauss.now (given_of a.body.now a.k) (standing_told (Err x)) a.keypoint.now refl)
 
 pub returns-then-layer-t : goal.returns-then-layer-t
 returns-then-layer-t c =
     let a = c.args in
-    keypoint_above a.gauss.now (given_of a.body.now a.k) a.keypoint.now a.a _ c.keypoint_in-layer.ensures c.if-layer-t.true
+    c.stopped.ensures
+    ∙ rw c.in_ok-a.was (keypoint_above a.gauss.now (given_of a.body.now a.k) (standing_of c.in_ok-a.a) a.keypoint.now refl _ c.keypoint_in-layer.ensures c.if-layer-t.true)
 
 pub overflow_mul-from : goal.overflow_mul-from
 overflow_mul-from c = omega (arith, plane_inside _ _ (plane_size c.args.k.shape) _ c.if-layer-t.false c.requires.pictured.whole)
@@ -25,4 +37,4 @@ slice_bounds-add_turned-end c = omega (arith, plane_inside _ _ (plane_size c.arg
 pub returns : goal.returns
 returns c =
     let a = c.args in
-    keypoint_turned a.gauss.now (given_of a.body.now a.k) a.keypoint.now a.a _ c.keypoint_in-layer.ensures c.if-layer-t.false _ c.add_turned.ensures
+    rw c.in_ok-a.was (keypoint_turned a.gauss.now (given_of a.body.now a.k) (standing_of c.in_ok-a.a) a.keypoint.now refl _ c.keypoint_in-layer.ensures c.if-layer-t.false _ c.add_turned.ensures)

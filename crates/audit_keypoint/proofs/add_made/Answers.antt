@@ -13,7 +13,7 @@ pub returns-in_err-make_record : goal.returns-in_err-make_record
 returns-in_err-make_record c =
     let a = c.args in
     let g = given_of a.body.now a.k in
-    stopped c.from_residual.result c.from_residual.ensures.0
+    stopped c.from_residual.result c.from_residual.ensures.1
     ∙ made_refused (keypoint_in a.keypoint.now) (oriented_in a.oriented.now) a.values.now a.samples g.layout g.stated (standing_of a.a) _ c.in_err-make_record.ensures.value.0 (number_some _)
 
 pub returns : goal.returns

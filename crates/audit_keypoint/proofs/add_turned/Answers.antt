@@ -11,7 +11,7 @@ use Rattle.audit_keypoint.proofs.add_turned.Goals as goal
 pub returns-in_err-found : goal.returns-in_err-found
 returns-in_err-found c =
     let a = c.args in
-    stopped c.from_residual.result c.from_residual.ensures.0
+    stopped c.from_residual.result c.from_residual.ensures.1
     ∙ turn_refused (given_of a.body.now a.k) a.img.now a.keypoint.now _ c.keypoint_in-raw.ensures (replicate 108 0) refl _ _ c.size_of.ensures c.in_err-found.ensures.value (unturned _) (standing_of a.a)
 
 pub add_directions-requires-clause-n_in_bounds : goal.add_directions-requires-clause-n_in_bounds

@@ -1,10 +1,11 @@
-use mathlib.Core.Path.{◌≡◌, sym, ◌∙◌}
+use mathlib.Core.Path.{◌≡◌, refl, sym, ◌∙◌}
 use native.Mathlib.Omega.{arith}
+use Rattle.std.specs.Prelude.{Err}
 use Rattle.params.specs.Limits.{keypoint_words}
-use Rattle.audit_compare.specs.Standing.{standing_of}
+use Rattle.audit_compare.specs.Standing.{standing_of, standing_told}
 use Rattle.audit_keypoint.specs.Steps.{given_of, keypoint_step}
 use Rattle.audit_keypoint.proofs.Cut.{fold_none}
-use Rattle.audit_keypoint.proofs.Fault.{stopped}
+use Rattle.audit_keypoint.proofs.Fault.{handed_on}
 use Rattle.audit_walk.proofs.Parts.{part_next, part_refused}
 use Rattle.audit_walk.proofs.add_found.Goals as goal
 
@@ -15,8 +16,9 @@ pub returns-in_err-now : goal.returns-in_err-now
 returns-in_err-now c =
     let l = c.loop-i in
     let a = c.args in
-    stopped c.from_residual.result c.from_residual.ensures.0
-    ∙ part_refused a.gauss.now (given_of a.body.now a.k) a.found.now l.i a.n (standing_of a.a) (standing_of l.now) c.loop-i-test.true l.invariant.1 c.in_err-now.ensures
+    let x = c.in_err-now.field-0.0 in
+    handed_on c.from_residual.result x c.from_residual.ensures.1
+    ∙ part_refused a.gauss.now (given_of a.body.now a.k) a.found.now l.i a.n (standing_of a.a) (standing_of l.now) (standing_told (Err x)) refl c.loop-i-test.true l.invariant.1 c.in_err-now.ensures
 
 pub loop-i-preserved : goal.loop-i-preserved
 loop-i-preserved c =

@@ -1,13 +1,13 @@
 use Prim.Native.Nat.{◌+◌, ◌-◌}
-use mathlib.Core.Path.{◌≡◌, refl, sym, ap, ◌∙◌}
+use mathlib.Core.Path.{◌≡◌, refl, ap, ◌∙◌}
 use native.Mathlib.Omega.{arith}
 use lib.ListN.{length}
 use lib.Seq.{length-sets}
-use Rattle.std.specs.Prelude.{min}
+use Rattle.std.specs.Prelude.{Err, min}
 use Rattle.params.specs.Limits.{border}
-use Rattle.audit_compare.specs.Standing.{standing_of}
+use Rattle.audit_compare.specs.Standing.{standing_of, standing_told}
 use Rattle.audit_keypoint.specs.Steps.{given_of}
-use Rattle.audit_keypoint.proofs.Fault.{stopped}
+use Rattle.audit_keypoint.proofs.Fault.{handed_on}
 use Rattle.audit_walk.proofs.Passed.{passed_none}
 use Rattle.audit_walk.proofs.Blocks.{block_count}
 use Rattle.audit_walk.proofs.Row.{block_on, row_refused, row_whole}
@@ -31,8 +31,9 @@ returns-in_err-now c =
     let a = c.args in
     let g = given_of a.body.now a.k in
     let hi = c.run_end-hi.result in
-    stopped c.from_residual.result c.from_residual.ensures.0
-    ∙ row_refused a.dog.now a.k.shape a.s a.r a.gauss.now g (standing_of a.a) hi (omega arith) (omega arith) (block_on a.dog.now a.k.shape a.s a.r a.gauss.now g (standing_of a.a) l.lo (a.k.shape.width - border) hi (omega arith) (omega arith) (omega arith) (standing_of l.now) _ l.invariant.1 l.found _ _ l.invariant.0 c.block_words-n.ensures.value c.block_words-n.ensures.out_after c.in_err-now.ensures)
+    let x = c.in_err-now.field-0.0 in
+    handed_on c.from_residual.result x c.from_residual.ensures.1
+    ∙ row_refused a.dog.now a.k.shape a.s a.r a.gauss.now g (standing_of a.a) (standing_told (Err x)) refl hi (omega arith) (omega arith) (block_on a.dog.now a.k.shape a.s a.r a.gauss.now g (standing_of a.a) l.lo (a.k.shape.width - border) hi (omega arith) (omega arith) (omega arith) (standing_of l.now) _ l.invariant.1 l.found _ _ l.invariant.0 c.block_words-n.ensures.value c.block_words-n.ensures.out_after c.in_err-now.ensures)
 
 pub loop-lo-preserved : goal.loop-lo-preserved
 loop-lo-preserved c =

@@ -1,11 +1,12 @@
 use Prim.Native.Nat.{ℕ, ◌+◌}
 use mathlib.Core.List.{List}
-use mathlib.Core.Path.{◌≡◌, ◌∙◌}
+use mathlib.Core.Path.{◌≡◌, refl, ◌∙◌}
 use native.Mathlib.Omega.{arith}
+use Rattle.std.specs.Prelude.{Err}
 use Rattle.detect_keypoint.specs.declared.RawKeypoint.{RawKeypoint}
 use Rattle.detect.specs.Entry.{list_of}
-use Rattle.audit_compare.specs.Standing.{start, standing_of}
-use Rattle.audit_keypoint.proofs.Fault.{stopped}
+use Rattle.audit_compare.specs.Standing.{start, standing_of, standing_told}
+use Rattle.audit_keypoint.proofs.Fault.{handed_on}
 use Rattle.audit_keypoint.specs.Steps.{given_of}
 use Rattle.audit_walk.proofs.Passed.{passed_none, passed_more, passed_refused}
 use Rattle.audit_walk.proofs.Layers.{layer_searched, layer_passed}
@@ -31,8 +32,9 @@ returns-in_err-now c =
     let g = given_of a.body.now a.k in
     let f : ℕ → List RawKeypoint = λ j. list_of a.dog.now a.k.shape j a.k.octave a.s in
     let p = layer_passed a.gauss.now g a.dog.now a.k.shape l.layer a.k.octave a.s _ (standing_of l.now) _ c.search_of-search.ensures c.in_err-now.ensures in
-    stopped c.from_residual.result c.from_residual.ensures.0
-    ∙ passed_refused a.gauss.now g start 1 f (l.layer + 1) (a.s.layers + 1) (omega arith) (omega arith) (passed_more a.gauss.now g start 1 f l.layer (standing_of l.now) _ l.invariant.0 l.invariant.2 p)
+    let x = c.in_err-now.field-0.0 in
+    handed_on c.from_residual.result x c.from_residual.ensures.1
+    ∙ passed_refused a.gauss.now g start 1 f (standing_told (Err x)) refl (l.layer + 1) (a.s.layers + 1) (omega arith) (omega arith) (passed_more a.gauss.now g start 1 f l.layer (standing_of l.now) _ l.invariant.0 l.invariant.2 p)
 
 pub loop-layer-preserved : goal.loop-layer-preserved
 loop-layer-preserved c =

@@ -41,11 +41,11 @@ fn layers_right(e: Edition, layers: usize, words: &[u32]) -> bool
         .all(|record| layer_right(layers, record))
 }
 
-fn layer_right(layers: usize, record: &[u32]) -> bool
-    requires { 3 < length record.now }
-    ensures { result ≡ layer_right layers record.now }
+fn layer_right(layers: usize, words: &[u32]) -> bool
+    requires { 3 < length words.now }
+    ensures { result ≡ layer_right layers words.now }
 {
-    (1..=layers).contains(&(record[3] as usize))
+    (1..=layers).contains(&(words[3] as usize))
 }
 
 // Whether the whole records keep the rules.

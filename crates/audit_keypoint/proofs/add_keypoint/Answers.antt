@@ -11,10 +11,9 @@ use Rattle.audit_keypoint.proofs.add_keypoint.Goals as goal
 
 pub returns-in_err-a : goal.returns-in_err-a
 returns-in_err-a c =
-    let a = c.args in
     let x = c.in_err-a.field-0.0 in
-    handed_on c.from_residual.result x c.from_residual.ensures.1
-    ∙ rw c.in_err-a.was (keypoint_over a.gauss.now (given_of a.body.now a.k) (standing_told (Err x)) a.keypoint.now refl)
+    let over = keypoint_over c.args.gauss.now (given_of c.args.body.now c.args.k) (standing_told (Err x)) c.args.keypoint.now refl in
+    handed_on c.from_residual.result x c.from_residual.ensures.1 ∙ rw c.in_err-a.was over
 
 pub returns-then-layer-t : goal.returns-then-layer-t
 returns-then-layer-t c =

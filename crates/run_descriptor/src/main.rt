@@ -2,6 +2,8 @@
 // cases, descriptors and words were compared and how many differ.
 #![tactic(auto)]
 
+ghost use Rattle.std.proofs.Common.{lit≤};
+
 use picture::{Size, Spot};
 use run_replay::Replay;
 use std::io;
@@ -24,6 +26,10 @@ impl run_replay::Case for Case {
 
     // Twice 128, so that more than is wanted is tried too.
     const MOST_ROOM: usize = 256;
+
+    ghost MOST_ROOM = { 256 };
+
+    ghost is_held = { lit≤ tt };
 
     fn read<R: Read + Drop>(replay: &mut Replay<R>) -> io::Result<Case> {
         Ok(Case {

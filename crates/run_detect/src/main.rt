@@ -2,6 +2,9 @@
 // words were compared and how many differ.
 #![tactic(auto)]
 
+ghost use Rattle.std.proofs.Common.{lit≤};
+ghost use Rattle.run_replay.specs.Sizes.{most_room};
+
 use params::Settings;
 use picture::Shape;
 use run_replay::Replay;
@@ -30,6 +33,10 @@ impl run_replay::Case for Case {
     const MARK: u32 = 0x4243_4c31;
 
     const MOST_ROOM: usize = run_replay::MOST_ROOM;
+
+    ghost MOST_ROOM = { most_room };
+
+    ghost is_held = { lit≤ tt };
 
     fn read<R: Read + Drop>(replay: &mut Replay<R>) -> io::Result<Case> {
         let width = replay.next_size()?;

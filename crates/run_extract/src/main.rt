@@ -4,6 +4,10 @@
 // (data/README.md says how they were made). What is printed: a line for each record as the reader gives it, and the sheet's bytes, the header first and then a record a line.
 #![tactic(auto)]
 
+ghost use Rattle.std.specs.Prelude.{◌≡◌, ◌/◌, ◌%◌, ◌<◌, ◌≤◌, length, vec_len, Ok, IfOk, IfSome};
+ghost use Rattle.sheet.specs.Words.{read_words};
+ghost use Rattle.run_extract.specs.Sizes.{most_found, most_peaks, most_records, records_words, sheet_bytes, picture_samples, columns};
+
 use params::{Refusal, Settings};
 use picture::{Shape, Size, Spot};
 use run_replay::Replay;
@@ -69,7 +73,9 @@ const SETTINGS: Settings = Settings {
 };
 
 // The value of an answer; a refusal is told, and gives none.
-fn told<T>(rt: &impl Print, stage: &str, answer: Result<T, Refusal>) -> io::Result<Option<T>> {
+fn told<T>(rt: &impl Print, stage: &str, answer: Result<T, Refusal>) -> io::Result<Option<T>>
+    ensures { IfOk result (λ given. IfSome given (λ value. answer ≡ Ok value)) }
+{
     match answer {
         Ok(value) => return Ok(Some(value)),
         Err(Refusal::Room(_)) => println!(rt; "{stage} has too little room")?,
@@ -80,7 +86,7 @@ fn told<T>(rt: &impl Print, stage: &str, answer: Result<T, Refusal>) -> io::Resu
 
 // ---- records
 
-// What records are made of, and their words as far as they are made.
+// What records are made of, and their words as far as they are made: those of whole records, of no more than there is room for.
 #[derive(Drop)]
 struct Extract<'a, P> {
     rt: &'a P,
@@ -88,6 +94,9 @@ struct Extract<'a, P> {
     differences: &'a [f32],
     gaussians: &'a [f32],
     records: Vec<u32>,
+    ghost pictures: { length gaussians.now ≡ picture_samples },
+    ghost whole: { vec_len records % read_words ≡ 0 },
+    ghost within: { vec_len records ≤ records_words },
 }
 
 // The bits of the 128 values of an oriented keypoint of octave 0, and the samples that they were made of.
@@ -96,8 +105,37 @@ fn describe(picture: &[f32], oriented: &[u32], values: &mut [u32]) -> Result<usi
     descriptor::compute_descriptor(picture, SIZE, spot, values)
 }
 
+// Which of the three pictures is a layer's.
+fn picture_of(layer: u32) -> usize
+    ensures { result ≤ 2 }
+{
+    match layer {
+        1 => 0,
+        2 => 1,
+        _ => 2,
+    }
+}
+
 impl<P: Print> Extract<'_, P> {
-    // Adds the record of a keypoint's direction. What is refused is told, and adds none.
+    // Adds the record of a keypoint, its direction and its descriptor. What is refused is told, and adds none.
+    fn add_made(
+        &mut self,
+        keypoint: &[u32],
+        oriented: &[u32],
+        values: &[u32],
+        samples: usize,
+    ) -> io::Result<()>
+        requires { vec_len self.old.records / read_words < most_records }
+    {
+        let mut made = [0u32; RECORD];
+        let answer = record::make_record(keypoint, oriented, values, samples, &mut made);
+        if told(self.rt, "the maker of records", answer)?.is_some() {
+            self.records.extend_from_slice(&made)?;
+        }
+        Ok(())
+    }
+
+    // Adds the record of a keypoint's direction, if there is room for one more.
     fn add_direction(
         &mut self,
         picture: &[f32],
@@ -109,13 +147,24 @@ impl<P: Print> Extract<'_, P> {
         }
         let mut values = [0u32; 128];
         let described = describe(picture, oriented, &mut values);
-        let Some(samples) = told(self.rt, "the descriptor", described)? else {
-            return Ok(());
-        };
-        let mut made = [0u32; RECORD];
-        let answer = record::make_record(keypoint, oriented, &values, samples, &mut made);
-        if told(self.rt, "the maker of records", answer)?.is_some() {
-            self.records.extend_from_slice(&made)?;
+        match told(self.rt, "the descriptor", described)? {
+            Some(samples) => self.add_made(keypoint, oriented, &values, samples),
+            None => Ok(()),
+        }
+    }
+
+    // Adds the records of so many directions of a keypoint.
+    fn add_directions(
+        &mut self,
+        picture: &[f32],
+        keypoint: &[u32],
+        out: &[u32; TURNED],
+        count: usize,
+    ) -> io::Result<()>
+        requires { count ≤ most_peaks }
+    {
+        for direction in out[..ORIENTED * count].chunks_exact(ORIENTED) {
+            self.add_direction(picture, keypoint, direction)?;
         }
         Ok(())
     }
@@ -123,20 +172,22 @@ impl<P: Print> Extract<'_, P> {
     // Adds the records of a keypoint. Its picture is the plane of the layer where it settled, which may be another than the one searched.
     fn add_keypoint(&mut self, keypoint: &[u32]) -> io::Result<()> {
         let k = words::keypoint_in(keypoint);
-        let plane = match k.layer {
-            1 => 0,
-            2 => 1,
-            _ => 2,
-        };
-        let Some(picture) = self.gaussians.chunks_exact(PLANE).nth(plane) else {
-            return Ok(());
-        };
+        let from = PLANE * picture_of(k.layer);
+        let picture = &self.gaussians[from..from + PLANE];
         let mut out = [0u32; TURNED];
         let answer = orient::assign_orientations(picture, SIZE, k, &mut out);
         if let Some(oriented) = told(self.rt, "orientation", answer)? {
-            for direction in out.chunks_exact(ORIENTED).take(oriented.count) {
-                self.add_direction(picture, keypoint, direction)?;
-            }
+            self.add_directions(picture, keypoint, &out, oriented.count)?;
+        }
+        Ok(())
+    }
+
+    // Adds the records of so many keypoints.
+    fn add_found(&mut self, found: &[u32; FOUND], count: usize) -> io::Result<()>
+        requires { count ≤ most_found }
+    {
+        for keypoint in found[..KEYPOINT * count].chunks_exact(KEYPOINT) {
+            self.add_keypoint(keypoint)?;
         }
         Ok(())
     }
@@ -146,9 +197,7 @@ impl<P: Print> Extract<'_, P> {
         let mut found = [0u32; FOUND];
         let answer = detect::find_extrema(self.differences, SHAPE, layer, 0, SETTINGS, &mut found);
         if let Some(count) = told(self.rt, "detection", answer)? {
-            for keypoint in found.chunks_exact(KEYPOINT).take(count) {
-                self.add_keypoint(keypoint)?;
-            }
+            self.add_found(&found, count)?;
         }
         Ok(())
     }
@@ -181,7 +230,9 @@ struct Line<'a>(&'a [u32; RECORD]);
 impl fmt::Display for Line<'_> {
     fn fmt<W: fmt::Write>(&self, f: &mut fmt::Formatter<W>) -> fmt::Result {
         let row = self.0;
-        let hundredths = |column: usize| Hundredths(parts(row[column], 100.0));
+        let hundredths = |column: usize| -> Hundredths
+            requires { column < columns }
+        { Hundredths(parts(row[column], 100.0)) };
         let largest = row[10..138].iter().copied().max().unwrap_or(0);
         write!(
             f,
@@ -210,27 +261,61 @@ fn print_bytes(rt: &impl Print, bytes: &[u8]) -> io::Result<()> {
     println!(rt; "")
 }
 
-// Writes the sheet, reads it back and prints both.
-fn show(rt: &impl Print, alloc: Global, records: &[u32]) -> io::Result<()> {
-    let mut sheet = vec![in alloc; 0u8; SHEET]?;
-    let answer = sheet_write::write_sheet(EDITION, WIDTH, HEIGHT, LAYERS, records, &mut sheet);
-    let size = told(rt, "the writer", answer)?.unwrap_or(0);
-    let mut words = vec![in alloc; 0u32; RECORDS]?;
-    let bytes = sheet.get(..size).unwrap_or(&[]);
-    let heading = told(rt, "the reader", sheet_read::read_sheet(bytes, &mut words))?;
-    let count = heading.map_or(0, |h| h.count);
+fn print_table(rt: &impl Print, words: &[u32], count: usize) -> io::Result<()>
+    requires words { length words.now ≡ records_words }
+    requires count { count ≤ most_records }
+{
     println!(rt; "{COLUMNS}")?;
-    for row in words.chunks_exact(RECORD).take(count) {
-        if let Ok(row) = <&[u32; RECORD]>::try_from(row) {
-            println!(rt; "{}", Line(row))?;
-        }
+    let (rows, _) = words.as_chunks::<RECORD>();
+    for row in &rows[..count] {
+        println!(rt; "{}", Line(row))?;
     }
+    Ok(())
+}
+
+fn print_sheet(rt: &impl Print, sheet: &[u8], count: usize) -> io::Result<()>
+    requires sheet { length sheet.now ≡ sheet_bytes }
+    requires count { count ≤ most_records }
+{
     let (header, rest) = sheet.split_at(HEADER_BYTES);
     print_bytes(rt, header)?;
-    for record in rest.chunks_exact(RECORD_BYTES).take(count) {
+    for record in rest[..RECORD_BYTES * count].chunks_exact(RECORD_BYTES) {
         print_bytes(rt, record)?;
     }
     Ok(())
+}
+
+// The sheet of records, and how many bytes it has.
+fn write(rt: &impl Print, records: &[u32], sheet: &mut [u8]) -> io::Result<usize>
+    requires { length sheet.old ≡ sheet_bytes }
+    ensures { IfOk result (λ size. size ≤ sheet_bytes) }
+{
+    let answer = sheet_write::write_sheet(EDITION, WIDTH, HEIGHT, LAYERS, records, sheet);
+    match told(rt, "the writer", answer)? {
+        Some(size) => Ok(size),
+        None => Ok(0),
+    }
+}
+
+// The records of a sheet, and how many there are.
+fn read(rt: &impl Print, sheet: &[u8], words: &mut [u32]) -> io::Result<usize>
+    requires { length words.old ≡ records_words }
+    ensures { IfOk result (λ count. count ≤ most_records) }
+{
+    match told(rt, "the reader", sheet_read::read_sheet(sheet, words))? {
+        Some(heading) => Ok(heading.count),
+        None => Ok(0),
+    }
+}
+
+// Writes the sheet, reads it back and prints both.
+fn show(rt: &impl Print, alloc: Global, records: &[u32]) -> io::Result<()> {
+    let mut sheet = vec![in alloc; 0u8; SHEET]?;
+    let size = write(rt, records, &mut sheet)?;
+    let mut words = vec![in alloc; 0u32; RECORDS]?;
+    let count = read(rt, &sheet[..size], &mut words)?;
+    print_table(rt, &words, count)?;
+    print_sheet(rt, &sheet, count)
 }
 
 // The whole way: the records by the layer searched, in each as detection lists the keypoints and orientation their directions.

@@ -2,6 +2,9 @@
 // oriented keypoints and words were compared and how many differ.
 #![tactic(auto)]
 
+ghost use Rattle.std.proofs.Common.{lit≤};
+ghost use Rattle.run_replay.specs.Sizes.{most_room};
+
 use detect_keypoint::RawKeypoint;
 use picture::Size;
 use run_replay::Replay;
@@ -38,6 +41,10 @@ impl run_replay::Case for Case {
     const MARK: u32 = 0x4243_4c32;
 
     const MOST_ROOM: usize = run_replay::MOST_ROOM;
+
+    ghost MOST_ROOM = { most_room };
+
+    ghost is_held = { lit≤ tt };
 
     fn read<R: Read + Drop>(replay: &mut Replay<R>) -> io::Result<Case> {
         Ok(Case {

@@ -2,9 +2,12 @@
 // through an entry, what is counted, and the report. A file that is too short, too long, or asks for more than is held is told as such.
 #![tactic(auto)]
 
-ghost use Rattle.std.specs.Prelude.{◌≡◌, ◌+◌, ◌%◌, ◌^◌, ◌&&◌, cond, eqb, IfOk};
+ghost use Rattle.std.specs.Prelude.{◌≡◌, ℕ, ◌+◌, ◌%◌, ◌^◌, ◌≤◌, ◌&&◌, cond, eqb, length, IfOk, OnOk};
 ghost use Rattle.std.specs.Vec.{vec_len};
 ghost use Rattle.params.specs.Answers.{number_of, count_of, told};
+ghost use Rattle.ieee.specs.F32.{f32};
+ghost use Rattle.run_replay.specs.Asked.{Asked};
+ghost use Rattle.run_replay.specs.Sizes.{most_samples, most_room};
 
 use params::Refusal;
 use std::alloc::Global;
@@ -96,7 +99,9 @@ impl<R: Read + Drop> Replay<R> {
     }
 
     // The file's next word. One that is not there is counted, and is 0.
-    pub fn next(&mut self) -> io::Result<u32> {
+    pub fn next(&mut self) -> io::Result<u32>
+        ensures { IfOk result (λ word. Asked self.old.counts self.new.counts (R.remaining self.old.file) (R.remaining self.new.file) word) }
+    {
         let mut bytes = [0u8; 4];
         let got = run_io::read_full(&mut self.file, &mut bytes)?;
         if got < 4 {
@@ -106,11 +111,15 @@ impl<R: Read + Drop> Replay<R> {
         Ok(u32::from_le_bytes(bytes))
     }
 
-    pub fn next_size(&mut self) -> io::Result<usize> {
+    pub fn next_size(&mut self) -> io::Result<usize>
+        ensures { IfOk result (λ word. Asked self.old.counts self.new.counts (R.remaining self.old.file) (R.remaining self.new.file) word) }
+    {
         Ok(self.next()? as usize)
     }
 
-    pub fn next_float(&mut self) -> io::Result<f32> {
+    pub fn next_float(&mut self) -> io::Result<f32>
+        ensures { IfOk result (λ sample. (word : ℕ) × (sample ≡ f32 word) × Asked self.old.counts self.new.counts (R.remaining self.old.file) (R.remaining self.new.file) word) }
+    {
         Ok(ieee::of_bits(self.next()?))
     }
 
@@ -126,7 +135,9 @@ impl<R: Read + Drop> Replay<R> {
     }
 
     // Compares the lent words, as they stand after the call, with the file's.
-    pub fn compare_words(&mut self, out: &[u32]) -> io::Result<()> {
+    pub fn compare_words(&mut self, out: &[u32]) -> io::Result<()>
+        ensures { OnOk result (self.new.counts.words ≡ (self.old.counts.words + length out.now) % 2 ^ 64) }
+    {
         for word in out {
             if self.next()? != *word {
                 self.counts.words_differ = self.counts.words_differ.wrapping_add(1);
@@ -152,6 +163,8 @@ pub trait Case: Drop {
     // More words than these are lent in no case.
     const MOST_ROOM: usize;
 
+    ghost MOST_ROOM: { ℕ };
+
     fn read<R: Read + Drop>(replay: &mut Replay<R>) -> io::Result<Self>;
 
     fn samples(&self) -> usize;
@@ -164,6 +177,25 @@ pub trait Case: Drop {
         samples: &[f32],
         out: &mut [u32],
     ) -> io::Result<()>;
+
+    ghost is_held: { MOST_ROOM ≤ most_room };
+}
+
+// Replays a case of n samples, whose head is read, in so much room. It is the file that names both.
+fn replay_case<C: Case, R: Read + Drop>(
+    alloc: Global,
+    replay: &mut Replay<R>,
+    case: &C,
+    n: usize,
+    room: usize,
+) -> io::Result<()>
+    requires samples { n ≤ most_samples }
+    requires room { room ≤ most_room }
+{
+    let samples = replay.samples(alloc, n)?;
+    let mut out = vec![in alloc; PATTERN; room]?;
+    case.replay(replay, &samples, &mut out)?;
+    replay.compare_words(&out)
 }
 
 // Reads a case and replays it, if it asks for no more than is held.
@@ -175,15 +207,14 @@ fn step<C: Case, R: Read + Drop>(alloc: Global, replay: &mut Replay<R>) -> io::R
         replay.give_up();
         return Ok(());
     }
-    let samples = replay.samples(alloc, n)?;
-    let mut out = vec![in alloc; PATTERN; room]?;
-    case.replay(replay, &samples, &mut out)?;
-    replay.compare_words(&out)
+    replay_case(alloc, replay, &case, n, room)
 }
 
 // Replays the cases of a list, or fewer if the file can't be read on, and what is counted. Nothing may stand behind the last case: four bytes are tried for, and 4 left over may be
 // more.
-pub fn replay_list<C: Case>(alloc: Global, file: impl Read + Drop) -> io::Result<Counts> {
+pub fn replay_list<C: Case>(alloc: Global, file: impl Read + Drop) -> io::Result<Counts>
+    ensures { IfOk result (λ counts. counts.left_over ≤ 4) }
+{
     let mut replay = Replay::new(file);
     if replay.next()? != C::MARK {
         replay.give_up();
@@ -200,4 +231,91 @@ pub fn replay_list<C: Case>(alloc: Global, file: impl Read + Drop) -> io::Result
     replay.counts.in_the_file = u64::from(cases);
     replay.counts.left_over = rest as u64;
     Ok(replay.counts)
+}
+
+#[cfg(test)]
+mod tests {
+    ghost use Rattle.std.proofs.Common.{lit≤};
+
+    use super::*;
+    use std::test::Fail;
+
+    // A case of so many samples, whose words are the samples' bits, as far as there is room.
+    #[derive(Drop)]
+    struct Bits {
+        samples: usize,
+        room: usize,
+    }
+
+    impl Case for Bits {
+        const MARK: u32 = 0x0a0b_0c0d;
+
+        const MOST_ROOM: usize = 3;
+
+        ghost MOST_ROOM = { 3 };
+
+        ghost is_held = { lit≤ tt };
+
+        fn read<R: Read + Drop>(replay: &mut Replay<R>) -> io::Result<Bits> {
+            Ok(Bits {
+                samples: replay.next_size()?,
+                room: replay.next_size()?,
+            })
+        }
+
+        fn samples(&self) -> usize {
+            self.samples
+        }
+
+        fn room(&self) -> usize {
+            self.room
+        }
+
+        fn replay<R: Read + Drop>(
+            &self,
+            replay: &mut Replay<R>,
+            samples: &[f32],
+            out: &mut [u32],
+        ) -> io::Result<()> {
+            for (word, sample) in out.iter_mut().zip(samples) {
+                *word = ieee::bits_of(*sample);
+            }
+            replay.counts.compare_answer(Ok(samples.len()), 0, self.samples);
+            Ok(())
+        }
+    }
+
+    // 1.0 and -2.5 by their bits, the least significant byte first.
+    const SAMPLES: [u8; 8] = [0, 0, 0x80, 0x3f, 0, 0, 0x20, 0xc0];
+
+    #[test]
+    fn samples_are_read(rt: HostRuntime) -> Result<(), Fail> {
+        let mut replay = Replay::new(&SAMPLES[..]);
+        let samples = replay.samples(rt.alloc(), 2)?;
+        assert_eq!(rt; samples.as_slice(), [1.0, -2.5].as_slice());
+        assert!(rt; replay.counts.readable());
+        Ok(())
+    }
+
+    // The mark, one case of two samples and three words, the samples, of the words theirs and one that is not the pattern, and a byte.
+    const LIST: [u8; 37] = [
+        0x0d, 0x0c, 0x0b, 0x0a, 1, 0, 0, 0, 2, 0, 0, 0, 3, 0, 0, 0, 0, 0, 0x80, 0x3f, 0, 0, 0x20,
+        0xc0, 0, 0, 0x80, 0x3f, 0, 0, 0x20, 0xc0, 7, 0, 0, 0, 9,
+    ];
+
+    #[test]
+    fn list_is_replayed(rt: HostRuntime) -> Result<(), Fail> {
+        let counts = replay_list::<Bits>(rt.alloc(), &LIST[..])?;
+        let want = Counts {
+            in_the_file: 1,
+            cases: 1,
+            keypoints: 2,
+            words: 3,
+            words_differ: 1,
+            left_over: 1,
+            ..Counts::default()
+        };
+        assert_eq!(rt; counts, want);
+        Ok(())
+    }
 }

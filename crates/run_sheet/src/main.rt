@@ -195,7 +195,9 @@ fn maker_agrees(alloc: Global, c: Case, given: &[u8], want: &[u8]) -> Result<boo
 }
 
 // The file's next n bytes, if it has as many.
-fn load(alloc: Global, file: &mut impl Read, n: usize) -> io::Result<Option<Vec<u8>>> {
+fn load(alloc: Global, file: &mut impl Read, n: usize) -> io::Result<Option<Vec<u8>>>
+    requires { n ≤ 4096 }
+{
     let mut bytes = vec![in alloc; 0u8; n]?;
     let got = run_io::read_full(file, &mut bytes)?;
     Ok(if got == n { Some(bytes) } else { None })

@@ -235,8 +235,6 @@ pub fn replay_list<C: Case>(alloc: Global, file: impl Read + Drop) -> io::Result
 
 #[cfg(test)]
 mod tests {
-    ghost use Rattle.std.proofs.Common.{lit≤};
-
     use super::*;
     use std::test::Fail;
 
@@ -248,6 +246,8 @@ mod tests {
     }
 
     impl Case for Bits {
+        ghost use Rattle.std.proofs.Common.{lit≤};
+
         const MARK: u32 = 0x0a0b_0c0d;
 
         const MOST_ROOM: usize = 3;
@@ -280,7 +280,9 @@ mod tests {
             for (word, sample) in out.iter_mut().zip(samples) {
                 *word = ieee::bits_of(*sample);
             }
-            replay.counts.compare_answer(Ok(samples.len()), 0, self.samples);
+            replay
+                .counts
+                .compare_answer(Ok(samples.len()), 0, self.samples);
             Ok(())
         }
     }

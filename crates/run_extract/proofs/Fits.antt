@@ -1,7 +1,7 @@
 -- What an entry has given lies within what it was lent. Assumes nothing.
 use Rattle.std.specs.Prelude.{◌≡◌, ℕ, ◌*◌, ◌≤◌, List, Float, Result, Ok}
 use Rattle.std.proofs.Common.{sym, ◌∙◌, ap, refl, arith}
-use Rattle.params.specs.Answers.{Answer, Done, Short, Refused, answer_of, told}
+use Rattle.params.specs.Answers.{Answer, Done, Short, Refused, told}
 use Rattle.params.specs.declared.Refusal.{Refusal}
 use Rattle.params.specs.declared.Settings.{Settings}
 use Rattle.params.specs.Limits.{keypoint_words}

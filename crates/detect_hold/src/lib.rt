@@ -1,7 +1,7 @@
 // What is held of a layer's keypoints until it is known that all fit, and what is written from it.
 #![tactic(auto)]
 
-ghost use Rattle.std.specs.Prelude.{◌≡◌, true, false, ◌+◌, ◌-◌, ◌*◌, ◌^◌, ◌<◌, ◌≤◌, length, OnOk, IfOk, IfErr};
+ghost use Rattle.std.specs.Prelude.{◌≡◌, true, false, ◌+◌, ◌-◌, ◌*◌, ◌^◌, ◌<◌, ◌≤◌, length, OnOk, OnErr, IfOk, IfErr};
 ghost use Rattle.std.proofs.lemmas.List.Edits.{sets};
 ghost use Rattle.params.specs.Limits.{border};
 ghost use Rattle.params.specs.Table.{all_good};
@@ -16,7 +16,7 @@ use detect_keypoint::Search;
 use detect_look::Run;
 use detect_refine::BORDER;
 use detect_words::{Form, Place};
-use params::{KEYPOINT_WORDS, Refusal};
+use params::KEYPOINT_WORDS;
 use picture::Shape;
 
 // What the rows above `row` gave, as far as the cells of their keypoints could be held: so many.
@@ -74,15 +74,16 @@ pub fn rest_hints(dog: &[f32], t: Shape, s: Search, from: usize) -> usize
     n
 }
 
-// Searches rows, tests the samples of the row below each, and holds the cells of the keypoints, until all rows are searched, those of a row can't all be held, or a sample is bad.
+// Searches rows, tests the samples of the row below each, and holds the cells of the keypoints, until all rows are searched, those of a row can't all be held, or, as an error, a sample is bad.
 // Which row that is stays open: all that is asked of it is what is held, and which samples are known to be good.
-fn held_rows(dog: &[f32], t: Shape, s: Search, hold: &mut [u32]) -> Result<Front, Refusal>
+fn held_rows(dog: &[f32], t: Shape, s: Search, hold: &mut [u32]) -> Result<Front, Front>
     requires searched { Searched (length dog.now) t s }
     requires border_bound { (2 * border < t.width) × (2 * border < t.height) }
     requires hold_len_bound { length hold.old < 2 ^ 38 }
     ensures holds { IfOk result (λ f. Holds dog.now t s f.row f.count hold.new) }
     ensures tested { IfOk result (λ f. rows_good t (border + 1) (f.row + 1) dog.now ≡ true) }
-    ensures bad { IfErr result (λ e. (e ≡ Refusal.Samples) × (all_good dog.now ≡ false)) }
+    ensures holds_until_bad { IfErr result (λ f. Holds dog.now t s f.row f.count hold.new) }
+    ensures bad { OnErr result (all_good dog.now ≡ false) }
 {
     let mut n: usize = 0;
     for r in BORDER..t.height - BORDER {
@@ -98,7 +99,7 @@ fn held_rows(dog: &[f32], t: Shape, s: Search, hold: &mut [u32]) -> Result<Front
             hold,
         );
         if !w.good {
-            return Err(Refusal::Samples);
+            return Err(Front { row: r, count: n });
         }
         if w.words > hold.len() - n {
             return Ok(Front { row: r, count: n });
@@ -111,22 +112,25 @@ fn held_rows(dog: &[f32], t: Shape, s: Search, hold: &mut [u32]) -> Result<Front
     })
 }
 
-// The rows that are held, where all samples are good: below each row that is searched they are tested as it is searched, and the rest before and after.
-pub fn front_of(dog: &[f32], t: Shape, s: Search, hold: &mut [u32]) -> Result<Front, Refusal>
+// The rows that are held, as an error where a sample is bad: below each row that is searched they are tested as it is searched, and the rest before and after.
+pub fn front_of(dog: &[f32], t: Shape, s: Search, hold: &mut [u32]) -> Result<Front, Front>
     requires searched { Searched (length dog.now) t s }
     requires border_bound { (2 * border < t.width) × (2 * border < t.height) }
     requires hold_len_bound { length hold.old < 2 ^ 38 }
     ensures holds { IfOk result (λ f. Holds dog.now t s f.row f.count hold.new) }
     ensures good { OnOk result (all_good dog.now ≡ true) }
-    ensures bad { IfErr result (λ e. (e ≡ Refusal.Samples) × (all_good dog.now ≡ false)) }
-    ensures none { IfErr result (λ e. Holds dog.now t s border 0 hold.new) }
+    ensures holds_until_bad { IfErr result (λ f. Holds dog.now t s f.row f.count hold.new) }
+    ensures bad { OnErr result (all_good dog.now ≡ false) }
 {
     if !detect_samples::rows_good(dog, t, 0, BORDER + 1) {
-        return Err(Refusal::Samples);
+        return Err(Front {
+            row: BORDER,
+            count: 0,
+        });
     }
     let f = held_rows(dog, t, s, hold)?;
     if !detect_samples::rows_good(dog, t, f.row + 1, t.height) {
-        return Err(Refusal::Samples);
+        return Err(f);
     }
     Ok(f)
 }

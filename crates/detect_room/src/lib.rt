@@ -73,6 +73,8 @@ pub fn search(dog: &[f32], t: Shape, s: Search, out: &mut [u32]) -> Result<usize
         return Ok(detect_hold::rest_words(dog, t, s, BORDER, p, out) / KEYPOINT_WORDS);
     }
     let mut hold = [0; HELD];
-    let f = detect_hold::front_of(dog, t, s, &mut hold)?;
+    let Ok(f) = detect_hold::front_of(dog, t, s, &mut hold) else {
+        return Err(Refusal::Samples);
+    };
     land(dog, t, s, f, &hold, out)
 }

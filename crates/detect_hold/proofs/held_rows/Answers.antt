@@ -1,5 +1,5 @@
 use Prim.Native.Nat.{◌+◌}
-use mathlib.Core.Path.{refl, sym, ◌∙◌}
+use mathlib.Core.Path.{sym, ◌∙◌}
 use native.Mathlib.Omega.{arith}
 use borrow.Author.Tests.{not-true, not-false}
 use Rattle.params.specs.Limits.{border}
@@ -14,10 +14,13 @@ loop-r-init c =
     let a = c.args in
     (held_none _ _ _ _ (omega arith), rows_none a.dog.now a.t (border + 1))
 
+pub returns-then-not-w-clause-holds_until_bad : goal.returns-then-not-w-clause-holds_until_bad
+returns-then-not-w-clause-holds_until_bad c = held_kept _ _ _ _ _ 0 _ _ c.loop-r.invariant.0 c.row_words-w.ensures.out_after
+
 pub returns-then-not-w-clause-bad : goal.returns-then-not-w-clause-bad
 returns-then-not-w-clause-bad c =
     let a = c.args in
-    (refl, row_bad a.dog.now a.t c.requires.searched.whole (c.loop-r.r + 1) (omega arith) (sym c.row_words-w.ensures.good_value ∙ not-true _ c.if-not-w.true))
+    row_bad a.dog.now a.t c.requires.searched.whole (c.loop-r.r + 1) (omega arith) (sym c.row_words-w.ensures.good_value ∙ not-true _ c.if-not-w.true)
 
 pub returns-then-w-hold-clause-holds : goal.returns-then-w-hold-clause-holds
 returns-then-w-hold-clause-holds c = held_kept _ _ _ _ _ 0 _ _ c.loop-r.invariant.0 c.row_words-w.ensures.out_after

@@ -2,7 +2,6 @@ use Prim.Native.Nat.{◌*◌, ◌/◌, ◌≤◌}
 use mathlib.Core.Path.{◌≡◌, sym, ◌∙◌}
 use native.Mathlib.Omega.{arith}
 use lib.ListN.{length}
-use Rattle.std.proofs.lemmas.Result.{err_from_is_err_and}
 use Rattle.params.specs.Limits.{keypoint_words}
 use Rattle.detect_extrema.specs.Neighbours.{tied}
 use Rattle.detect_extrema.specs.Scan.{keypoints}
@@ -29,17 +28,15 @@ returns-then-t-out c =
     let g = good a.dog.now ks _ (sym c.all_good.ensures ∙ c.if-not-all_good.false) _ _ (gave ks _ _ _ k f w) in
     record { value = g.answer; out_after = g.left }
 
-pub returns-in_err-f : goal.returns-in_err-f
-returns-in_err-f c =
+pub returns-in_default : goal.returns-in_default
+returns-in_default c =
     let a = c.args in
-    let b = c.in_err-f.ensures.bad in
-    let g = bad a.dog.now (keypoints tied a.dog.now a.t a.s) a.out.now b.1 in
-    let p = err_from_is_err_and c.from_residual.result c.from_residual.ensures.1 in
-    record { value = rw (p.1, p.2, b.0) g.answer; out_after = g.left }
+    let g = bad a.dog.now (keypoints tied a.dog.now a.t a.s) a.out.now c.in_default.ensures.bad in
+    record { value = g.answer; out_after = g.left }
 
 pub returns : goal.returns
 returns c =
     let a = c.args in
     let l = c.land.ensures in
-    let g = good a.dog.now (keypoints tied a.dog.now a.t a.s) a.out.now c.in_ok-f.ensures.good _ _ (record { answer = l.value; left = l.out_after }) in
+    let g = good a.dog.now (keypoints tied a.dog.now a.t a.s) a.out.now c.in-Ok.ensures.good _ _ (record { answer = l.value; left = l.out_after }) in
     record { value = g.answer; out_after = g.left }

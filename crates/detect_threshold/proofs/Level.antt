@@ -1,14 +1,16 @@
 -- The bounds of the level and of the threshold, of a contrast and layers that the table accepts. Assumes nothing.
-use Rattle.std.proofs.Common.{◌≡◌, ℕ, ◌+◌, ◌-◌, ◌*◌, ◌≤◌, arith, true, false, pos, refl}
+use Rattle.std.proofs.Common.{◌≡◌, ◌∙◌, ap, sym, ℕ, ◌*◌, ◌≤◌, arith, true, false, pos, refl}
 use Rattle.std.specs.Float as Lib
 use Rattle.std.specs.Float.{round_with}
 use lib.Ieee.Fits.{down_pos}
-use lib.Ieee.{Float, Format, nan, inf, fin, binary32, binary64, up, down, of_bits, of_int, mul, div, le}
+use lib.Ieee.{Float, nan, inf, fin, binary32, binary64, up, of_bits, of_int, mul, div, le, round}
 use Rattle.ieee.specs.Fused.{convert}
 use Rattle.ieee.specs.Whole.{floor}
 use Rattle.ieee.specs.F32.{f32}
 use Rattle.ieee.specs.Numbers.{nought}
 use Rattle.ieee_laws.proofs.Monotone.{nil}
+use Rattle.ieee_laws.proofs.Order.{le_fin}
+use Rattle.ieee_laws.proofs.TurnedOps.{floor_size_zero}
 use Rattle.ieee_laws.proofs.Bounds.{Bounds, bounds_point, mul_bounds, mul_bounds_by, div_bounds, floor_bounds, convert_bounds, of_int_bounds}
 use Rattle.params.specs.Limits.{max_layers, contrast_low, contrast_high}
 use Rattle.params.specs.Table.{contrast_wrong}
@@ -36,13 +38,13 @@ module _ (contrast : Float) (right : contrast_wrong contrast ≡ false) (layers 
   unfolding threshold_of of_bits floor convert
   threshold_bounds = convert_bounds binary32 {a = nil} {b = of_bits binary64 0x405f_c000_0000_0000} refl refl (floor_bounds binary64 {a = nil} {b = most} refl refl level_bounds)
 
--- the library's floor is the rule's
-pub floor_is : (f : Format) (x : Float) → Lib.floor f x ≡ floor f x
-unfolding floor round_with
-floor_is f nan = refl
-floor_is f (inf s) = refl
-floor_is f (fin false m e) = refl
-floor_is f (fin true m e) =
-    let d = down_pos e in
-    let n : m * up e + down e - 1 ≡ m * up e + (down e - 1) = omega arith in
-    rw n refl
+-- what is cut off at the point is the floor, of what is not below zero
+pub trunc_is : (x : Float) → le nil x ≡ true → Lib.trunc binary64 x ≡ floor binary64 x
+unfolding floor round_with le
+trunc_is nan h = refl
+trunc_is (inf s) h = refl
+trunc_is (fin false m e) h = refl
+trunc_is (fin true m e) h =
+    let l = (le_fin false 0 (pos 0) true m e h).cross in
+    let y : m * up e ≡ 0 = omega arith in
+    ap (λ (k : ℕ). round binary64 true k 1) (floor_size_zero false _ _ (down_pos e) y ∙ sym (floor_size_zero true _ _ (down_pos e) y))

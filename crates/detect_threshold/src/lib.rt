@@ -21,7 +21,8 @@ pub fn threshold_of(contrast: f64, layers: usize) -> f32
     requires { (contrast_wrong contrast ≡ false) × (1 ≤ layers) × (layers ≤ max_layers) }
     ensures { result ≡ threshold_of contrast layers }
 {
-    ieee_fused::narrow(level_of(contrast, layers).floor())
+    // No level is below zero, so that this is its floor; the library's `floor` takes half as long again.
+    ieee_fused::narrow(level_of(contrast, layers).trunc())
 }
 
 // The entry: the threshold, or a refusal for the layers or the contrast.

@@ -1,7 +1,9 @@
 use Rattle.detect_threshold.specs.Threshold.{threshold_of}
-use Rattle.detect_threshold.proofs.Level.{floor_is}
+use Rattle.detect_threshold.proofs.Level.{level_bounds, trunc_is}
 use Rattle.detect_threshold.proofs.threshold_of.Goals as goal
 
 pub returns : goal.returns
 unfolding threshold_of
-returns c = rw (c.narrow.ensures.value, c.floor.ensures, floor_is, c.level_of.ensures)
+returns c =
+    let q = c.requires in
+    rw (c.narrow.ensures.value, c.trunc.ensures, c.level_of.ensures, trunc_is _ (level_bounds _ q.0 _ q.1 q.2).low)

@@ -1,8 +1,5 @@
-use mathlib.Core.Path.{◌≡◌, sym}
-use native.Mathlib.Omega.{arith}
-use lib.ListN.{length}
+use mathlib.Core.Path.{sym}
 use Rattle.std.proofs.lemmas.Result.{err_from_is_err_and}
-use Rattle.params.specs.Limits.{value_count}
 use Rattle.descriptor.proofs.Answers.{answer_refused, out_refused, room_refused, answer_short, out_short, answer_done, out_done}
 use Rattle.descriptor.proofs.compute_descriptor.Goals as goal
 
@@ -26,14 +23,12 @@ returns-in_err-fault-clause-out_after c =
 pub returns-then-out-ne-VALUES-clause-value : goal.returns-then-out-ne-VALUES-clause-value
 returns-then-out-ne-VALUES-clause-value c =
     let a = c.args in
-    let r : length a.out.now ≡ value_count → ⊥ = λ e. omega (arith, c.if-out-ne-VALUES.true) in
-    answer_short a.img.now a.s a.p (sym c.in_ok-fault.ensures.value) _ r
+    answer_short a.img.now a.s a.p (sym c.in_ok-fault.ensures.value) _ c.if-out-ne-VALUES.true
 
 pub returns-then-out-ne-VALUES-clause-out_after : goal.returns-then-out-ne-VALUES-clause-out_after
 returns-then-out-ne-VALUES-clause-out_after c =
     let a = c.args in
-    let r : length a.out.now ≡ value_count → ⊥ = λ e. omega (arith, c.if-out-ne-VALUES.true) in
-    out_short a.img.now a.s a.p (sym c.in_ok-fault.ensures.value) a.out.now r
+    out_short a.img.now a.s a.p (sym c.in_ok-fault.ensures.value) a.out.now c.if-out-ne-VALUES.true
 
 pub returns-clause-value : goal.returns-clause-value
 returns-clause-value c =

@@ -4,3 +4,4 @@ pub mod Stated
 pub mod Told
 pub mod Further
 pub mod Octaves
+pub mod Bare

@@ -52,7 +52,12 @@ moved i d = cond (eqb d 0) (record { place = i + 1; field = 0; good = true }) (r
 unfoldable pub compared : Layout → List (List ℕ) → Standing → List ℕ → Standing
 compared l stated st r = cond (eqb st.field 0) (moved st.place (difference_at l stated st.place r)) st
 
--- how far they agree, and whether a stage has refused
+-- how far they agree, and whether a stage has refused; beside a refusal, what agreed until then
+abbrev pub standing_in : Result Agreement Stopped → Standing
+standing_in (Ok a) = standing_of a
+standing_in (Err r) = record { place = r.agreement.place; field = field_of r.agreement.difference; good = false }
+
+-- how far they agree, or that a stage refused
 abbrev pub standing_told : Result Agreement Stopped → Standing
 standing_told (Ok a) = standing_of a
-standing_told (Err r) = record { place = r.agreement.place; field = field_of r.agreement.difference; good = false }
+standing_told (Err r) = refused

@@ -28,9 +28,9 @@ pub struct Stopped {
 
 impl From<Refusal> for Stopped {
     ghost use Rattle.std.specs.Prelude.{◌≡◌, Err};
-    ghost use Rattle.audit_compare.specs.Standing.{refused, standing_told};
+    ghost use Rattle.audit_compare.specs.Standing.{refused, standing_in};
 
-    ghost from_gives = { λ _ s. standing_told (Err s) ≡ refused };
+    ghost from_gives = { λ _ s. standing_in (Err s) ≡ refused };
 
     fn from(_refusal: Refusal) -> Stopped {
         crate::stopped()

@@ -9,7 +9,7 @@ ghost use Rattle.sheet_edition.specs.Edition.{layout_for};
 ghost use Rattle.sheet_fields.specs.Fields.{bytes_words};
 ghost use Rattle.audit_compare.specs.Difference.{first_difference, fields_of, of_octave};
 ghost use Rattle.audit_compare.specs.Numbered.{IsField, Numbered};
-ghost use Rattle.audit_compare.specs.Standing.{refused, stated_in, number_or_none, field_of, standing_told, difference_at, compared};
+ghost use Rattle.audit_compare.specs.Standing.{refused, stated_in, number_or_none, field_of, standing_in, difference_at, compared};
 
 mod agreement;
 
@@ -85,7 +85,7 @@ fn difference_at(e: Edition, body: &[u8], n: usize, i: usize, made: &[u32]) -> O
 
 // After a stage that refused: nothing is made.
 pub fn stopped() -> Stopped
-    ensures { standing_told (Err result) ≡ refused }
+    ensures { standing_in (Err result) ≡ refused }
 {
     let agreement = Agreement {
         place: 0,
@@ -96,8 +96,8 @@ pub fn stopped() -> Stopped
 
 // The agreement of a standing, whether a stage has refused or not.
 pub fn agreement_of(st: Result<Agreement, Stopped>) -> Agreement
-    ensures place { result.place ≡ (standing_told st).place }
-    ensures field { field_of result.difference ≡ (standing_told st).field }
+    ensures place { result.place ≡ (standing_in st).place }
+    ensures field { field_of result.difference ≡ (standing_in st).field }
 {
     match st {
         Ok(agreement) => agreement,
@@ -114,7 +114,7 @@ pub fn compared(
     made: &[u32],
 ) -> Result<Agreement, Stopped>
     requires { (record_size (layout_for e) * n ≤ length body.now) × (length made.now ≡ read_words) }
-    ensures { standing_told result ≡ compared (layout_for e) (stated_in (layout_for e) n body.now) (standing_told st) made.now }
+    ensures { standing_in result ≡ compared (layout_for e) (stated_in (layout_for e) n body.now) (standing_in st) made.now }
 {
     let a = agreement_of(st);
     if a.difference.is_some() {

@@ -5,3 +5,4 @@ mod Direction
 mod Directions
 mod Turned
 pub mod Keypoint
+pub mod Bare

@@ -1,7 +1,7 @@
 // The records of a keypoint, made and compared with a sheet's one after the other: none is held.
 #![tactic(auto)]
 
-ghost use Rattle.std.specs.Prelude.{◌≡◌, cond, ◌*◌, ◌≤◌, eqb, length};
+ghost use Rattle.std.specs.Prelude.{◌≡◌, cond, ◌*◌, ◌≤◌, IfOk, eqb, length};
 ghost use Rattle.orient_words.specs.Oriented.{oriented_words};
 ghost use Rattle.words.specs.Keypoint.{keypoint_in};
 ghost use Rattle.words.specs.Oriented.{oriented_in};
@@ -9,7 +9,7 @@ ghost use Rattle.record.specs.Record.{record_of};
 ghost use Rattle.record.specs.Make.{make_number};
 ghost use Rattle.sheet.specs.Sheet.{parts};
 ghost use Rattle.sheet.specs.Words.{read_words};
-ghost use Rattle.audit_compare.specs.Standing.{refused, standing_of, standing_told, compared};
+ghost use Rattle.audit_compare.specs.Standing.{refused, standing_of, standing_in, standing_told, compared};
 ghost use Rattle.audit_keypoint.specs.Steps.{size_for, given_of, direction_step, direction_steps, turn_step, keypoint_step};
 ghost use Rattle.audit_keypoint.specs.Ready.{Stated, Pictured};
 
@@ -48,7 +48,7 @@ fn add_made(
     a: Agreement,
 ) -> Result<Agreement, Stopped>
     requires { Stated (length body.now) k }
-    ensures { standing_told result ≡ cond (eqb (make_number (keypoint_in keypoint.now) (oriented_in oriented.now) values.now samples read_words) 0)
+    ensures { standing_in result ≡ cond (eqb (make_number (keypoint_in keypoint.now) (oriented_in oriented.now) values.now samples read_words) 0)
         (compared (given_of body.now k).layout (given_of body.now k).stated (standing_of a) (record_of (keypoint_in keypoint.now) (oriented_in oriented.now) values.now samples))
         refused }
 {
@@ -67,7 +67,7 @@ fn add_direction(
     a: Agreement,
 ) -> Result<Agreement, Stopped>
     requires { Stated (length body.now) k }
-    ensures { standing_told result ≡ direction_step (given_of body.now k) img.now keypoint.now (standing_of a) oriented.now }
+    ensures { standing_in result ≡ direction_step (given_of body.now k) img.now keypoint.now (standing_of a) oriented.now }
 {
     let spot = descriptor_inputs::descriptor_inputs(words::oriented_in(oriented), k.octave as i32)?;
     let mut values = [0u32; VALUES];
@@ -87,7 +87,7 @@ fn add_directions(
 ) -> Result<Agreement, Stopped>
     requires stated { Stated (length body.now) k }
     requires n_in_bounds { oriented_words * n ≤ length oriented.now }
-    ensures { standing_told result ≡ direction_steps (given_of body.now k) img.now keypoint.now (standing_of a) (parts oriented_words n oriented.now) }
+    ensures { standing_in result ≡ direction_steps (given_of body.now k) img.now keypoint.now (standing_of a) (parts oriented_words n oriented.now) }
 {
     let mut now = a;
     // A plain index: the contract counts `parts` of the words, of which j is the next, and says nothing of those behind the n.
@@ -108,7 +108,7 @@ fn add_turned(
     a: Agreement,
 ) -> Result<Agreement, Stopped>
     requires { Stated (length body.now) k }
-    ensures { standing_told result ≡ turn_step (given_of body.now k) img.now (standing_of a) keypoint.now }
+    ensures { standing_in result ≡ turn_step (given_of body.now k) img.now (standing_of a) keypoint.now }
 {
     let mut out = [0u32; 108];
     let raw = words::keypoint_in(keypoint);
@@ -126,7 +126,8 @@ pub fn add_keypoint(
 ) -> Result<Agreement, Stopped>
     requires stated { Stated (length body.now) k }
     requires pictured { Pictured (length gauss.now) k }
-    ensures { standing_told result ≡ keypoint_step gauss.now (given_of body.now k) (standing_told st) keypoint.now }
+    ensures value { standing_in result ≡ keypoint_step gauss.now (given_of body.now k) (standing_in st) keypoint.now }
+    ensures told { IfOk st (λ a. standing_told result ≡ keypoint_step gauss.now (given_of body.now k) (standing_of a) keypoint.now) }
 {
     let a = st?;
     let layer = words::keypoint_in(keypoint).layer as usize;
@@ -138,4 +139,54 @@ pub fn add_keypoint(
     let from = layer * size;
     let to = from + size;
     add_turned(&gauss[from..to], body, k, keypoint, a)
+}
+
+#[cfg(test)]
+mod tests {
+    use super::*;
+    use audit_compare::Difference;
+    use std::test::Fail;
+
+    // One difference plane of one sample, and two Gaussian planes of one each; a sheet of no records.
+    fn small() -> Task
+        ensures stated { Stated 0 result }
+        ensures pictured { Pictured 2 result }
+    {
+        Task {
+            shape: Shape {
+                width: 1,
+                height: 1,
+                planes: 1,
+            },
+            octave: 0,
+            edition: sheet_edition::edition_of(1),
+            count: 0,
+        }
+    }
+
+    // A keypoint of layer 2, which has no picture among the two.
+    const BEHIND_ALL: [u32; 10] = [0, 0, 0, 0, 0, 2, 0, 0, 0, 0];
+
+    // Seven records agree, and one differs.
+    fn seven() -> Agreement {
+        Agreement {
+            place: 7,
+            difference: Some(Difference::Field(3)),
+        }
+    }
+
+    #[test]
+    fn refusal_keeps_nothing(rt: HostRuntime) -> Result<(), Fail> {
+        let after = add_keypoint(&[0.0; 2], &[], small(), &BEHIND_ALL, Ok(seven()));
+        assert_eq!(rt; after, Err(audit_compare::stopped()));
+        Ok(())
+    }
+
+    #[test]
+    fn refused_standing_stays(rt: HostRuntime) -> Result<(), Fail> {
+        let refused = Err(Stopped { agreement: seven() });
+        let after = add_keypoint(&[0.0; 2], &[], small(), &BEHIND_ALL, refused);
+        assert_eq!(rt; after, refused);
+        Ok(())
+    }
 }

@@ -1,32 +1,18 @@
 -- Steps that each compare some records, or stop where a test fails: after all of them the records of all are compared, or it stopped. Assumes nothing.
-use Prim.Native.Nat.{ℕ, zero, suc, ◌+◌}
+use Prim.Native.Nat.{ℕ, zero, suc}
 use mathlib.Core.Path.{◌≡◌, refl, sym, ap, ◌∙◌}
 use mathlib.Core.Bool.{Bool, true, false, cond, ◌&&◌}
 use mathlib.Core.List.Memᴰ
 use mathlib.Core.List.{List, [], ◌∷◌, ◌++◌, map, flat_map, foldl, foldl-append, append_assoc}
-use lib.Dec.{eqb, leb}
+use lib.Dec.{leb}
 use Rattle.lists.specs.Ranges.{joined}
 use Rattle.sheet.specs.Layout.{Layout}
 use Rattle.road.specs.Road.{Among}
-use Rattle.audit_compare.specs.Standing.{refused, difference_at, moved, compared, Standing}
+use Rattle.audit_compare.specs.Standing.{refused, compared, Standing}
+use Rattle.audit_compare.proofs.Bare.{compared_good}
 use Rattle.audit_rule.specs.Entry.{all_of}
 
 -- a record that is compared refuses nothing
-moved_good : (i d : ℕ) → (moved i d).good ≡ true
-moved_good i d = either (eqb d 0)
-  where
-    either : (b : Bool) → (cond {A = Standing} b (record { place = i + 1; field = 0; good = true }) (record { place = i; field = d; good = true })).good ≡ true
-    either true = refl
-    either false = refl
-
-compared_good : (l : Layout) (stated : List (List ℕ)) (st : Standing) (r : List ℕ) → st.good ≡ true → (compared l stated st r).good ≡ true
-unfolding compared
-compared_good l stated st r g = either (eqb st.field 0)
-  where
-    either : (b : Bool) → (cond b (moved st.place (difference_at l stated st.place r)) st).good ≡ true
-    either true = moved_good st.place (difference_at l stated st.place r)
-    either false = g
-
 pub all_good_lem : (l : Layout) (stated : List (List ℕ)) (rs : List (List ℕ)) (st : Standing) → st.good ≡ true → (foldl (compared l stated) st rs).good ≡ true
 all_good_lem l stated [] st g = g
 all_good_lem l stated (r ∷ rs) st g = all_good_lem l stated rs (compared l stated st r) (compared_good l stated st r g)

@@ -9,7 +9,7 @@ ghost use Rattle.sheet_edition.specs.Edition.{layout_for};
 ghost use Rattle.sheet_fields.specs.Fields.{header_list};
 ghost use Rattle.audit_compare.specs.Difference.{first_difference};
 ghost use Rattle.audit_compare.specs.Numbered.{IsField};
-ghost use Rattle.audit_compare.specs.Standing.{number_or_none, standing_told};
+ghost use Rattle.audit_compare.specs.Standing.{number_or_none, standing_in};
 ghost use Rattle.audit_verdict.specs.Verdict.{verdict_told, verdict_of, place_of, field_of};
 ghost use Rattle.audit_verdict.specs.Told.{told_by};
 
@@ -53,7 +53,7 @@ pub fn header_difference(e: Edition, h: Header, base: Size, layers: usize) -> Op
 
 // What the agreement tells when all records are made, of a sheet of n records; whether a stage has refused is not asked here.
 pub fn told(n: usize, st: Result<Agreement, Stopped>) -> Verdict
-    ensures { verdict_told (Ok result) ≡ told_by n (standing_told st) }
+    ensures { verdict_told (Ok result) ≡ told_by n (standing_in st) }
 {
     let a = audit_compare::agreement_of(st);
     match a.difference {

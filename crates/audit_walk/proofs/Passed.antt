@@ -2,15 +2,17 @@
 use Prim.Native.Nat.{ℕ, ◌+◌, ◌≤◌}
 use mathlib.Core.Path.{◌≡◌, refl, sym, ap, ◌∙◌}
 use mathlib.Core.Bool.{true, not}
-use mathlib.Core.List.{List, [], ◌∷◌, ◌++◌}
+use mathlib.Core.List.{List, [], ◌∷◌, ◌++◌, map}
 use lib.Ieee.{Float}
 use Rattle.lists.specs.Ranges.{joined}
 use Rattle.lists.proofs.Ranges.{joined_none, joined_more, joined_split}
 use Rattle.detect_keypoint.specs.declared.RawKeypoint.{RawKeypoint}
 use Rattle.detect_extrema.specs.Scan.{words_of}
 use Rattle.audit_compare.specs.Standing.{Standing}
+use Rattle.audit_compare.proofs.Bare.{Bare}
 use Rattle.audit_keypoint.specs.Steps.{Given, keypoint_step}
 use Rattle.audit_keypoint.proofs.Keypoint.{keypoint_over}
+use Rattle.audit_keypoint.proofs.Bare.{fold_keeps, keypoint_bare}
 use Rattle.audit_walk.specs.Walk.{passed}
 
 module _ (gauss : List Float) (g : Given) where
@@ -24,6 +26,11 @@ module _ (gauss : List Float) (g : Given) where
   unfolding passed
   passed_still r bad [] = refl
   passed_still r bad (k ∷ ks) = ap (λ (x : Standing). passed gauss g x ks) (sym (keypoint_over gauss g r (words_of k) bad)) ∙ passed_still r bad ks
+
+  -- and nothing is kept of what agreed until then
+  pub passed_bare : (st : Standing) (ks : List RawKeypoint) → Bare st → Bare (passed gauss g st ks)
+  unfolding passed
+  passed_bare st ks b = fold_keeps Bare (keypoint_step gauss g) (keypoint_bare g gauss) st (map words_of ks) b
 
   module _ (st : Standing) (lo : ℕ) (f : ℕ → List RawKeypoint) where
     pub passed_none : (hi : ℕ) → hi ≤ lo → st ≡ passed gauss g st (joined lo hi f)

@@ -8,7 +8,7 @@ ghost use Rattle.sheet.specs.Sheet.{parts};
 ghost use Rattle.detect_refine.specs.Place.{Searched};
 ghost use Rattle.detect_extrema.specs.Neighbours.{tied};
 ghost use Rattle.detect_extrema.specs.Scan.{row_of, keypoints};
-ghost use Rattle.audit_compare.specs.Standing.{start, standing_of, standing_told};
+ghost use Rattle.audit_compare.specs.Standing.{start, standing_of, standing_in, standing_told};
 ghost use Rattle.audit_keypoint.specs.Steps.{given_of, keypoint_step};
 ghost use Rattle.audit_keypoint.specs.Ready.{Stated, Pictured};
 ghost use Rattle.audit_walk.specs.Walk.{passed, octave_found, Searchable};
@@ -33,7 +33,7 @@ fn add_found(
     requires stated { Stated (length body.now) k }
     requires pictured { Pictured (length gauss.now) k }
     requires n_in_bounds { keypoint_words * n ≤ length found.now }
-    ensures { standing_told result ≡ foldl (keypoint_step gauss.now (given_of body.now k)) (standing_of a) (parts keypoint_words n found.now) }
+    ensures { standing_in result ≡ foldl (keypoint_step gauss.now (given_of body.now k)) (standing_of a) (parts keypoint_words n found.now) }
 {
     let mut now = a;
     // A plain index: the contract counts `parts` of the words, of which i is the next, and says nothing of those behind the n.
@@ -59,7 +59,7 @@ fn add_row(
     requires border_bound { (2 * border < k.shape.width) × (border ≤ r) × (r < k.shape.height - border) }
     requires stated { Stated (length body.now) k }
     requires pictured { Pictured (length gauss.now) k }
-    ensures { standing_told result ≡ passed gauss.now (given_of body.now k) (standing_of a) (row_of tied dog.now k.shape s r) }
+    ensures { standing_in result ≡ passed gauss.now (given_of body.now k) (standing_of a) (row_of tied dog.now k.shape s r) }
 {
     let t = k.shape;
     let end = t.width - BORDER;
@@ -95,7 +95,7 @@ fn add_layer(
     requires searched { Searched (length dog.now) k.shape s }
     requires stated { Stated (length body.now) k }
     requires pictured { Pictured (length gauss.now) k }
-    ensures { standing_told result ≡ passed gauss.now (given_of body.now k) (standing_of a) (keypoints tied dog.now k.shape s) }
+    ensures { standing_in result ≡ passed gauss.now (given_of body.now k) (standing_of a) (keypoints tied dog.now k.shape s) }
 {
     let t = k.shape;
     if (t.width <= 2 * BORDER) | (t.height <= 2 * BORDER) {
@@ -129,7 +129,8 @@ pub fn walk(
     requires searchable { Searchable (length dog.now) k.shape k.octave s }
     requires stated { Stated (length body.now) k }
     requires pictured { Pictured (length gauss.now) k }
-    ensures { standing_told result ≡ passed gauss.now (given_of body.now k) start (octave_found dog.now k.shape k.octave s) }
+    ensures value { standing_in result ≡ passed gauss.now (given_of body.now k) start (octave_found dog.now k.shape k.octave s) }
+    ensures told { standing_told result ≡ passed gauss.now (given_of body.now k) start (octave_found dog.now k.shape k.octave s) }
 {
     let mut now = none_made();
     for layer in 1..s.layers + 1 {
@@ -137,4 +138,60 @@ pub fn walk(
         now = add_layer(dog, gauss, body, k, search, now)?;
     }
     Ok(now)
+}
+
+#[cfg(test)]
+mod tests {
+    use super::*;
+    use picture::Shape;
+    use std::test::Fail;
+
+    // Three difference planes of 11 rows of 11 samples, of which one cell is searched, and a sheet of no records.
+    const SIDE: usize = 11;
+
+    const PLANE: usize = SIDE * SIDE;
+
+    const SETTINGS: Settings = Settings {
+        contrast: 0.04,
+        edge: 10.0,
+        sigma: 1.6,
+        layers: 1,
+    };
+
+    fn small() -> Task
+        ensures searchable { Searchable 363 result.shape result.octave SETTINGS }
+        ensures stated { Stated 0 result }
+        ensures pictured { Pictured 484 result }
+    {
+        Task {
+            shape: Shape {
+                width: SIDE,
+                height: SIDE,
+                planes: 3,
+            },
+            octave: 0,
+            edition: sheet_edition::edition_of(1),
+            count: 0,
+        }
+    }
+
+    #[test]
+    fn level_stack_has_no_record(rt: HostRuntime) -> Result<(), Fail> {
+        let dog = [0.0; 3 * PLANE];
+        let gauss = [f32::NAN; 4 * PLANE];
+        let after = walk(&dog, &gauss, &[], small(), SETTINGS);
+        assert_eq!(rt; after, Ok(none_made()));
+        Ok(())
+    }
+
+    // The one cell is an extremum, and its picture has no good sample.
+    #[test]
+    fn refused_keypoint_ends_the_walk(rt: HostRuntime) -> Result<(), Fail> {
+        let mut dog = [0.0; 3 * PLANE];
+        dog[PLANE + PLANE / 2] = 100.0;
+        let gauss = [f32::NAN; 4 * PLANE];
+        let after = walk(&dog, &gauss, &[], small(), SETTINGS);
+        assert_eq!(rt; after, Err(audit_compare::stopped()));
+        Ok(())
+    }
 }

@@ -8,10 +8,10 @@ pub returns-in-Ok : goal.returns-in-Ok
 returns-in-Ok c =
     let a = c.args in
     let l = layout_for c.edition_of.result in
-    says_8 a.dog.now a.gauss.now a.t a.octave a.s a.base c.requires.fine c.requires.dog_value.0 a.sheet.now c.requires.dog_value.1 l (stated_in l 0 a.sheet.now) (standing_of c.in-Ok.field-0) c.in-Ok.ensures refl
+    says_8 a.dog.now a.gauss.now a.t a.octave a.s a.base c.requires.fine c.requires.dog_value.0 a.sheet.now c.requires.dog_value.1 l (stated_in l 0 a.sheet.now) (standing_of c.in-Ok.field-0) c.in-Ok.ensures.value refl
 
 pub returns-in-Err : goal.returns-in-Err
 returns-in-Err c =
     let a = c.args in
     let l = layout_for c.edition_of.result in
-    says_six a.dog.now a.gauss.now a.t a.octave a.s a.base c.requires.fine c.requires.dog_value.0 a.sheet.now c.requires.dog_value.1 l (stated_in l 0 a.sheet.now) _ c.in-Err.ensures refl
+    says_six a.dog.now a.gauss.now a.t a.octave a.s a.base c.requires.fine c.requires.dog_value.0 a.sheet.now c.requires.dog_value.1 l (stated_in l 0 a.sheet.now) _ c.in-Err.ensures.value refl

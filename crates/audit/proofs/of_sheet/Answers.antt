@@ -21,14 +21,14 @@ walk-requires-clause-stated c = stated_in_lem _ _ _ _ _ _ c.requires.fine c.edit
 
 pub returns-in_default : goal.returns-in_default
 returns-in_default c =
-    says_6 c.args.sheet.now c.requires.dog_value.1 c.edition_in-e.result c.edition_in-e.ensures c.header_in-h.result c.header_in-h.ensures.sheet_value c.args.dog.now c.args.gauss.now c.args.t c.args.octave c.args.s c.args.base c.requires.fine c.requires.dog_value.0 _ c.in_default.ensures refl
+    says_6 c.args.sheet.now c.requires.dog_value.1 c.edition_in-e.result c.edition_in-e.ensures c.header_in-h.result c.header_in-h.ensures.sheet_value c.args.dog.now c.args.gauss.now c.args.t c.args.octave c.args.s c.args.base c.requires.fine c.requires.dog_value.0 _ c.in_default.ensures.value refl
 
 pub octaves_right-requires : goal.octaves_right-requires
 octaves_right-requires c = records_in_lem c.args.sheet.now c.requires.dog_value.1 c.edition_in-e.result c.edition_in-e.ensures c.header_in-h.result c.header_in-h.ensures.sheet_value
 
 pub returns-then-not-octaves_right : goal.returns-then-not-octaves_right
 returns-then-not-octaves_right c =
-    says_5 c.args.sheet.now c.requires.dog_value.1 c.edition_in-e.result c.edition_in-e.ensures c.header_in-h.result c.header_in-h.ensures.sheet_value c.args.dog.now c.args.gauss.now c.args.t c.args.octave c.args.s c.args.base c.requires.fine c.requires.dog_value.0 (standing_of c.in-Ok.agreement) c.in-Ok.ensures refl (sym c.octaves_right.ensures ∙ c.if-not-octaves_right.true)
+    says_5 c.args.sheet.now c.requires.dog_value.1 c.edition_in-e.result c.edition_in-e.ensures c.header_in-h.result c.header_in-h.ensures.sheet_value c.args.dog.now c.args.gauss.now c.args.t c.args.octave c.args.s c.args.base c.requires.fine c.requires.dog_value.0 (standing_of c.in-Ok.agreement) c.in-Ok.ensures.value refl (sym c.octaves_right.ensures ∙ c.if-not-octaves_right.true)
 
 pub header_difference-requires-clause-known : goal.header_difference-requires-clause-known
 header_difference-requires-clause-known c = header_right c.args.sheet.now c.requires.dog_value.1 c.edition_in-e.result c.edition_in-e.ensures c.header_in-h.result c.header_in-h.ensures.sheet_value
@@ -36,9 +36,9 @@ header_difference-requires-clause-known c = header_right c.args.sheet.now c.requ
 pub returns-in-Some : goal.returns-in-Some
 returns-in-Some c =
     let d = c.in-Some in
-    says_header c.args.sheet.now c.requires.dog_value.1 c.edition_in-e.result c.edition_in-e.ensures c.header_in-h.result c.header_in-h.ensures.sheet_value c.args.dog.now c.args.gauss.now c.args.t c.args.octave c.args.s c.args.base c.requires.fine c.requires.dog_value.0 (standing_of c.in-Ok.agreement) c.in-Ok.ensures refl (sym c.octaves_right.ensures ∙ c.if-not-octaves_right.false) d.field d.ensures.value d.ensures.is_field.0
+    says_header c.args.sheet.now c.requires.dog_value.1 c.edition_in-e.result c.edition_in-e.ensures c.header_in-h.result c.header_in-h.ensures.sheet_value c.args.dog.now c.args.gauss.now c.args.t c.args.octave c.args.s c.args.base c.requires.fine c.requires.dog_value.0 (standing_of c.in-Ok.agreement) c.in-Ok.ensures.value refl (sym c.octaves_right.ensures ∙ c.if-not-octaves_right.false) d.field d.ensures.value d.ensures.is_field.0
 
 pub returns : goal.returns
 returns c =
     c.told.ensures
-    ∙ says_told c.args.sheet.now c.requires.dog_value.1 c.edition_in-e.result c.edition_in-e.ensures c.header_in-h.result c.header_in-h.ensures.sheet_value c.args.dog.now c.args.gauss.now c.args.t c.args.octave c.args.s c.args.base c.requires.fine c.requires.dog_value.0 (standing_of c.in-Ok.agreement) c.in-Ok.ensures refl (sym c.octaves_right.ensures ∙ c.if-not-octaves_right.false) 0 c.in_default-header_difference.ensures.value refl
+    ∙ says_told c.args.sheet.now c.requires.dog_value.1 c.edition_in-e.result c.edition_in-e.ensures c.header_in-h.result c.header_in-h.ensures.sheet_value c.args.dog.now c.args.gauss.now c.args.t c.args.octave c.args.s c.args.base c.requires.fine c.requires.dog_value.0 (standing_of c.in-Ok.agreement) c.in-Ok.ensures.value refl (sym c.octaves_right.ensures ∙ c.if-not-octaves_right.false) 0 c.in_default-header_difference.ensures.value refl

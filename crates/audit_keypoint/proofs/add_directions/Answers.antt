@@ -3,7 +3,7 @@ use mathlib.Core.Path.{◌≡◌, refl, ap, ◌∙◌}
 use native.Mathlib.Omega.{arith}
 use borrow.Author.Rules.{rules}
 use Rattle.std.specs.Prelude.{Err}
-use Rattle.audit_compare.specs.Standing.{standing_of, standing_told}
+use Rattle.audit_compare.specs.Standing.{standing_of, standing_in}
 use Rattle.audit_keypoint.specs.Steps.{given_of}
 use Rattle.audit_keypoint.proofs.Fault.{handed_on}
 use Rattle.audit_keypoint.proofs.Directions.{steps_to, steps_none, steps_next, steps_refused}
@@ -20,7 +20,7 @@ returns-in_err-now c =
     let t = c.loop-j in
     let x = c.in_err-now.field-0.0 in
     handed_on c.from_residual.result x c.from_residual.ensures.1
-    ∙ steps_refused (given_of a.body.now a.k) a.img.now a.keypoint.now a.oriented.now (standing_of a.a) t.j a.n (standing_of t.now) (standing_told (Err x)) refl t.invariant.1 c.loop-j-test.true c.in_err-now.ensures
+    ∙ steps_refused (given_of a.body.now a.k) a.img.now a.keypoint.now a.oriented.now (standing_of a.a) t.j a.n (standing_of t.now) (standing_in (Err x)) refl t.invariant.1 c.loop-j-test.true c.in_err-now.ensures
 
 pub loop-j-preserved : goal.loop-j-preserved
 loop-j-preserved c =

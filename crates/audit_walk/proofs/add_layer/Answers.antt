@@ -7,7 +7,7 @@ use Rattle.params.specs.Limits.{border}
 use Rattle.detect_keypoint.specs.declared.RawKeypoint.{RawKeypoint}
 use Rattle.detect_extrema.specs.Neighbours.{tied}
 use Rattle.detect_extrema.specs.Scan.{row_of, keypoints}
-use Rattle.audit_compare.specs.Standing.{standing_of, standing_told}
+use Rattle.audit_compare.specs.Standing.{standing_of, standing_in}
 use Rattle.audit_keypoint.proofs.Fault.{handed_on}
 use Rattle.audit_keypoint.specs.Steps.{given_of}
 use Rattle.audit_walk.specs.Walk.{passed}
@@ -40,7 +40,7 @@ returns-in_err-now c =
     let p = passed_more a.gauss.now g (standing_of a.a) border f l.r (standing_of l.now) _ l.invariant.0 l.invariant.2 c.in_err-now.ensures in
     let x = c.in_err-now.field-0.0 in
     handed_on c.from_residual.result x c.from_residual.ensures.1
-    ∙ passed_refused a.gauss.now g (standing_of a.a) border f (standing_told (Err x)) refl (l.r + 1) (a.k.shape.height - border) (omega arith) (omega arith) p
+    ∙ passed_refused a.gauss.now g (standing_of a.a) border f (standing_in (Err x)) refl (l.r + 1) (a.k.shape.height - border) (omega arith) (omega arith) p
 
 pub loop-r-preserved : goal.loop-r-preserved
 loop-r-preserved c =

@@ -5,7 +5,7 @@ use lib.ListN.{length}
 use lib.Seq.{length-sets}
 use Rattle.std.specs.Prelude.{Err, min}
 use Rattle.params.specs.Limits.{border}
-use Rattle.audit_compare.specs.Standing.{standing_of, standing_told}
+use Rattle.audit_compare.specs.Standing.{standing_of, standing_in}
 use Rattle.audit_keypoint.specs.Steps.{given_of}
 use Rattle.audit_keypoint.proofs.Fault.{handed_on}
 use Rattle.audit_walk.proofs.Passed.{passed_none}
@@ -33,7 +33,7 @@ returns-in_err-now c =
     let hi = c.run_end-hi.result in
     let x = c.in_err-now.field-0.0 in
     handed_on c.from_residual.result x c.from_residual.ensures.1
-    ∙ row_refused a.dog.now a.k.shape a.s a.r a.gauss.now g (standing_of a.a) (standing_told (Err x)) refl hi (omega arith) (omega arith) (block_on a.dog.now a.k.shape a.s a.r a.gauss.now g (standing_of a.a) l.lo (a.k.shape.width - border) hi (omega arith) (omega arith) (omega arith) (standing_of l.now) _ l.invariant.1 l.found _ _ l.invariant.0 c.block_words-n.ensures.value c.block_words-n.ensures.out_after c.in_err-now.ensures)
+    ∙ row_refused a.dog.now a.k.shape a.s a.r a.gauss.now g (standing_of a.a) (standing_in (Err x)) refl hi (omega arith) (omega arith) (block_on a.dog.now a.k.shape a.s a.r a.gauss.now g (standing_of a.a) l.lo (a.k.shape.width - border) hi (omega arith) (omega arith) (omega arith) (standing_of l.now) _ l.invariant.1 l.found _ _ l.invariant.0 c.block_words-n.ensures.value c.block_words-n.ensures.out_after c.in_err-now.ensures)
 
 pub loop-lo-preserved : goal.loop-lo-preserved
 loop-lo-preserved c =

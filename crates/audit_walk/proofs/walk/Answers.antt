@@ -2,13 +2,14 @@ use Prim.Native.Nat.{ℕ, ◌+◌}
 use mathlib.Core.List.{List}
 use mathlib.Core.Path.{◌≡◌, refl, ◌∙◌}
 use native.Mathlib.Omega.{arith}
-use Rattle.std.specs.Prelude.{Err}
+use Rattle.std.specs.Prelude.{Ok, Err}
 use Rattle.detect_keypoint.specs.declared.RawKeypoint.{RawKeypoint}
 use Rattle.detect.specs.Entry.{list_of}
-use Rattle.audit_compare.specs.Standing.{start, standing_of, standing_told}
+use Rattle.audit_compare.specs.Standing.{start, standing_of, standing_in}
+use Rattle.audit_compare.proofs.Bare.{bare_good, told_in}
 use Rattle.audit_keypoint.proofs.Fault.{handed_on}
 use Rattle.audit_keypoint.specs.Steps.{given_of}
-use Rattle.audit_walk.proofs.Passed.{passed_none, passed_more, passed_refused}
+use Rattle.audit_walk.proofs.Passed.{passed_none, passed_more, passed_refused, passed_bare}
 use Rattle.audit_walk.proofs.Layers.{layer_searched, layer_passed}
 use Rattle.audit_walk.proofs.walk.Goals as goal
 
@@ -33,8 +34,11 @@ returns-in_err-now c =
     let f : ℕ → List RawKeypoint = λ j. list_of a.dog.now a.k.shape j a.k.octave a.s in
     let p = layer_passed a.gauss.now g a.dog.now a.k.shape l.layer a.k.octave a.s _ (standing_of l.now) _ c.search_of-search.ensures c.in_err-now.ensures in
     let x = c.in_err-now.field-0.0 in
+    let v =
     handed_on c.from_residual.result x c.from_residual.ensures.1
-    ∙ passed_refused a.gauss.now g start 1 f (standing_told (Err x)) refl (l.layer + 1) (a.s.layers + 1) (omega arith) (omega arith) (passed_more a.gauss.now g start 1 f l.layer (standing_of l.now) _ l.invariant.0 l.invariant.2 p)
+    ∙ passed_refused a.gauss.now g start 1 f (standing_in (Err x)) refl (l.layer + 1) (a.s.layers + 1) (omega arith) (omega arith) (passed_more a.gauss.now g start 1 f l.layer (standing_of l.now) _ l.invariant.0 l.invariant.2 p)
+    in
+    record { value = v; told = told_in c.from_residual.result _ (passed_bare a.gauss.now g start _ (bare_good start refl)) v }
 
 pub loop-layer-preserved : goal.loop-layer-preserved
 loop-layer-preserved c =
@@ -49,4 +53,5 @@ returns c =
     let l = c.loop-layer in
     let a = c.args in
     let e : l.layer ≡ a.s.layers + 1 = omega arith in
-    rw e at l.invariant.2
+    let v = rw e at l.invariant.2 in
+    record { value = v; told = told_in (Ok l.now) _ (passed_bare a.gauss.now (given_of a.body.now a.k) start _ (bare_good start refl)) v }

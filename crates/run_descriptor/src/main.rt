@@ -20,7 +20,7 @@ struct Case {
     samples: usize,
 }
 
-impl run_replay::Case for Case {
+impl run_replay::HeldCase for Case {
     // "BCL3".
     const MARK: u32 = 0x4243_4c33;
 
@@ -84,7 +84,7 @@ impl run_replay::Case for Case {
 
 fn main(rt: HostRuntime) -> io::Result<()> {
     let file = run_io::open_file(&rt, "cases.bin")?;
-    let counts = run_replay::replay_list::<Case>(rt.alloc(), file)?;
+    let counts = run_replay::replay_held::<Case>(rt.alloc(), file)?;
     println!(rt; "{counts}")?;
     println!(rt; "numbers of samples that differ: {}", counts.cells_differ)
 }

@@ -29,7 +29,7 @@ fn next_double<R: Read + Drop>(replay: &mut Replay<R>) -> io::Result<f64> {
     Ok(ieee::of_bits64(u64::from(high) * 0x1_0000_0000 + u64::from(low)))
 }
 
-impl run_replay::Case for Case {
+impl run_replay::HeldCase for Case {
     const MARK: u32 = 0x4243_4c31;
 
     const MOST_ROOM: usize = run_replay::MOST_ROOM;
@@ -99,6 +99,6 @@ impl run_replay::Case for Case {
 
 fn main(rt: HostRuntime) -> io::Result<()> {
     let file = run_io::open_file(&rt, "cases.bin")?;
-    let counts = run_replay::replay_list::<Case>(rt.alloc(), file)?;
+    let counts = run_replay::replay_held::<Case>(rt.alloc(), file)?;
     println!(rt; "{counts}")
 }

@@ -37,7 +37,7 @@ fn next_keypoint<R: Read + Drop>(replay: &mut Replay<R>) -> io::Result<RawKeypoi
     })
 }
 
-impl run_replay::Case for Case {
+impl run_replay::HeldCase for Case {
     const MARK: u32 = 0x4243_4c32;
 
     const MOST_ROOM: usize = run_replay::MOST_ROOM;
@@ -94,7 +94,7 @@ impl run_replay::Case for Case {
 
 fn main(rt: HostRuntime) -> io::Result<()> {
     let file = run_io::open_file(&rt, "cases.bin")?;
-    let counts = run_replay::replay_list::<Case>(rt.alloc(), file)?;
+    let counts = run_replay::replay_held::<Case>(rt.alloc(), file)?;
     println!(rt; "{counts}")?;
     println!(rt;
         "numbers of cells read that differ: {}",

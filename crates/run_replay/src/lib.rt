@@ -9,12 +9,15 @@ ghost use Rattle.ieee.specs.F32.{f32};
 ghost use Rattle.run_replay.specs.Asked.{Asked};
 ghost use Rattle.run_replay.specs.Sizes.{most_samples, most_room};
 
+mod any;
+
+pub use any::{Case, replay_list};
 use params::Refusal;
 use std::alloc::Global;
 use std::io::Read;
 use std::{fmt, io};
 
-// The longest list of samples, and the most words that are lent.
+// The longest list of samples, and the most words that a `HeldCase` is lent.
 pub const MOST_SAMPLES: usize = 65536;
 
 pub const MOST_ROOM: usize = 4096;
@@ -156,7 +159,7 @@ impl<R: Read + Drop> Replay<R> {
 }
 
 // A case of a list: its head as it is read, the samples and the lent words that it asks for, and how it is replayed with these.
-pub trait Case: Drop {
+pub trait HeldCase: Drop {
     // How a list of such cases begins.
     const MARK: u32;
 
@@ -182,7 +185,7 @@ pub trait Case: Drop {
 }
 
 // Replays a case of n samples, whose head is read, in so much room. It is the file that names both.
-fn replay_case<C: Case, R: Read + Drop>(
+fn replay_case<C: HeldCase, R: Read + Drop>(
     alloc: Global,
     replay: &mut Replay<R>,
     case: &C,
@@ -199,7 +202,7 @@ fn replay_case<C: Case, R: Read + Drop>(
 }
 
 // Reads a case and replays it, if it asks for no more than is held.
-fn step<C: Case, R: Read + Drop>(alloc: Global, replay: &mut Replay<R>) -> io::Result<()> {
+fn step<C: HeldCase, R: Read + Drop>(alloc: Global, replay: &mut Replay<R>) -> io::Result<()> {
     let case = C::read(replay)?;
     let n = case.samples();
     let room = case.room();
@@ -212,7 +215,7 @@ fn step<C: Case, R: Read + Drop>(alloc: Global, replay: &mut Replay<R>) -> io::R
 
 // Replays the cases of a list, or fewer if the file can't be read on, and what is counted. Nothing may stand behind the last case: four bytes are tried for, and 4 left over may be
 // more.
-pub fn replay_list<C: Case>(alloc: Global, file: impl Read + Drop) -> io::Result<Counts>
+pub fn replay_held<C: HeldCase>(alloc: Global, file: impl Read + Drop) -> io::Result<Counts>
     ensures { IfOk result (λ counts. counts.left_over ≤ 4) }
 {
     let mut replay = Replay::new(file);
@@ -245,7 +248,7 @@ mod tests {
         room: usize,
     }
 
-    impl Case for Bits {
+    impl HeldCase for Bits {
         ghost use Rattle.std.proofs.Common.{lit≤};
 
         const MARK: u32 = 0x0a0b_0c0d;
@@ -307,7 +310,7 @@ mod tests {
 
     #[test]
     fn list_is_replayed(rt: HostRuntime) -> Result<(), Fail> {
-        let counts = replay_list::<Bits>(rt.alloc(), &LIST[..])?;
+        let counts = replay_held::<Bits>(rt.alloc(), &LIST[..])?;
         let want = Counts {
             in_the_file: 1,
             cases: 1,
@@ -315,6 +318,78 @@ mod tests {
             words: 3,
             words_differ: 1,
             left_over: 1,
+            ..Counts::default()
+        };
+        assert_eq!(rt; counts, want);
+        Ok(())
+    }
+
+    // The same case, which may be lent more.
+    #[derive(Drop)]
+    struct Wide {
+        bits: Bits,
+    }
+
+    impl Case for Wide {
+        const MARK: u32 = Bits::MARK;
+
+        const MOST_ROOM: usize = 5000;
+
+        fn read<R: Read + Drop>(replay: &mut Replay<R>) -> io::Result<Wide> {
+            Ok(Wide {
+                bits: Bits::read(replay)?,
+            })
+        }
+
+        fn samples(&self) -> usize {
+            self.bits.samples()
+        }
+
+        fn room(&self) -> usize {
+            self.bits.room()
+        }
+
+        fn replay<R: Read + Drop>(
+            &self,
+            replay: &mut Replay<R>,
+            samples: &[f32],
+            out: &mut [u32],
+        ) -> io::Result<()> {
+            self.bits.replay(replay, samples, out)
+        }
+    }
+
+    #[test]
+    fn list_of_any_case_is_replayed(rt: HostRuntime) -> Result<(), Fail> {
+        let counts = replay_list::<Wide>(rt.alloc(), &LIST[..])?;
+        assert_eq!(rt; counts, replay_held::<Bits>(rt.alloc(), &LIST[..])?);
+        Ok(())
+    }
+
+    // LIST, whose case asks for 4,097 words and then for 5,001. Of 4,097 the file has three, and of a fourth a byte.
+    #[test]
+    fn more_room_than_is_held(rt: HostRuntime) -> Result<(), Fail> {
+        let mut list = LIST;
+        list[12] = 0x01;
+        list[13] = 0x10;
+        let counts = replay_list::<Wide>(rt.alloc(), &list[..])?;
+        let want = Counts {
+            in_the_file: 1,
+            cases: 1,
+            keypoints: 2,
+            words: 4097,
+            words_differ: 4095,
+            missing: 4094,
+            ..Counts::default()
+        };
+        assert_eq!(rt; counts, want);
+        list[12] = 0x89;
+        list[13] = 0x13;
+        let counts = replay_list::<Wide>(rt.alloc(), &list[..])?;
+        let want = Counts {
+            in_the_file: 1,
+            unreadable: 1,
+            left_over: 4,
             ..Counts::default()
         };
         assert_eq!(rt; counts, want);

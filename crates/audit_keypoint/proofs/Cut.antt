@@ -1,4 +1,4 @@
--- A list of equal parts cut again: the parts of joined lists of one length, and a fold over one part more. Assumes nothing.
+-- A list of equal parts cut again: the parts of joined lists of one length, a fold over one part more, and what a fold keeps. Assumes nothing.
 use mathlib.Core.Path.{◌≡◌, refl, sym, ap, ◌∙◌}
 use mathlib.Core.List.{List, [], ◌∷◌, ◌++◌, map, flat_map, foldl, append_assoc}
 use Prim.Native.Nat.{ℕ, zero, suc, ◌+◌, ◌*◌}
@@ -43,3 +43,8 @@ fold_settled f st x still k i zero ws e = rw add-zero e
 fold_settled f st x still k i (suc d) ws e =
     let m : i + suc d ≡ i + d + 1 = omega arith in
     rw (m, fold_next f st k (i + d) ws, ← fold_settled f st x still k i d ws e) (sym (still (take k (drop (k * (i + d)) ws))))
+
+-- what each step keeps, a fold keeps
+pub fold_keeps {ℓ} : {S : Type 0} {A : Type ℓ} (P : S → Type 0) (f : S → A → S) → ((s : S) (x : A) → P s → P (f s x)) → (s : S) (xs : List A) → P s → P (foldl f s xs)
+fold_keeps P f keeps s [] p = p
+fold_keeps P f keeps s (x ∷ xs) p = fold_keeps P f keeps (f s x) xs (keeps s x p)

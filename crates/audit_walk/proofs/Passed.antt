@@ -12,7 +12,8 @@ use Rattle.audit_compare.specs.Standing.{Standing}
 use Rattle.audit_compare.proofs.Bare.{Bare}
 use Rattle.audit_keypoint.specs.Steps.{Given, keypoint_step}
 use Rattle.audit_keypoint.proofs.Keypoint.{keypoint_over}
-use Rattle.audit_keypoint.proofs.Bare.{fold_keeps, keypoint_bare}
+use Rattle.audit_keypoint.proofs.Cut.{fold_keeps}
+use Rattle.audit_keypoint.proofs.Bare.{keypoint_bare}
 use Rattle.audit_walk.specs.Walk.{passed}
 
 module _ (gauss : List Float) (g : Given) where
